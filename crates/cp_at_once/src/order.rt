@@ -38,6 +38,8 @@ fn place_of_name(name: ErrorName) -> u8 {
         ErrorName::QueueInUse => 4,
         ErrorName::NotInit => 5,
         ErrorName::InitTwice => 6,
+        ErrorName::Assertion => 7,
+        ErrorName::Invariant => 8,
     }
 }
 

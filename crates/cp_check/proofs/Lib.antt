@@ -1,6 +1,8 @@
 pub mod Arms
+pub mod Asserted
 pub mod Branches
 pub mod Expressions
+mod Few
 pub mod Fields
 pub mod Folded
 pub mod Fronts

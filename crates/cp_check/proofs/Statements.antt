@@ -2,9 +2,9 @@
 use Rattle.std.proofs.Common.{◌≡◌, List, [], ◌∷◌, length, refl, arith}
 use Rattle.cp_check.proofs.Words.{CheckFault, Use, Scopes, Judged, both, ◌>>=◌, Refuses, Context}
 use Rattle.cp_tree.specs.declared.expression.Expression as tree_expression
-use Rattle.cp_tree.specs.Syntax.{Start, Statements, no_statements, more_statements}
+use Rattle.cp_tree.specs.Syntax.{Expression, Start, Statements, no_statements, more_statements}
 use Rattle.cp_tree.specs.View.{expressions_view, expressions_of}
-use Rattle.cp_check.specs.Statements.{statement, statements, start, starts, together, number_of}
+use Rattle.cp_check.specs.Statements.{assertion, assertions, statement, statements, start, starts, together, number_of}
 use Rattle.cp_check.proofs.Judging.{refuses_both}
 
 pub number_is : (xs : List tree_expression.Expression) → number_of (expressions_of (expressions_view xs)) ≡ length xs
@@ -17,6 +17,13 @@ pub statements_refuse : (s : Scopes) (w : Context) (e : CheckFault) (j : Judged 
 unfolding statements
 statements_refuse s w e j no_statements h = h
 statements_refuse s w e j (more_statements t ts) h = statements_refuse s w e (both j (statement s w t) >>= together) ts (refuses_both e j _ together h)
+
+-- ---- what is said before a statement
+
+pub assertions_refuse : (s : Scopes) (w : Context) (e : CheckFault) (j : Judged Use) (es : List Expression) → Refuses e j → Refuses e (assertions s w j es)
+unfolding assertions
+assertions_refuse s w e j [] h = h
+assertions_refuse s w e j (x ∷ es) h = assertions_refuse s w e (both j (assertion s w x) >>= together) es (refuses_both e j _ together h)
 
 -- ---- starts
 

@@ -3,7 +3,7 @@ use Rattle.std.specs.Prelude.{ℕ, nat_eq, Bool, true, false, not, ◌&&◌, if�
 use Rattle.cp_tree.specs.declared.declaration.SystemKind.{SystemKind}
 use Rattle.cp_tree.specs.declared.declaration.SystemKind.TheVariants.{Monitor}
 use Rattle.cp_scope.specs.declared.fault.Rule.{Rule}
-use Rattle.cp_scope.specs.declared.fault.Rule.TheVariants.{C5, C6, C7, C9, C10, C12}
+use Rattle.cp_scope.specs.declared.fault.Rule.TheVariants.{C5, C6, C7, C9, C10, C12, C22}
 use Rattle.cp_scope.specs.declared.fault.CheckFault.{CheckFault}
 use Rattle.cp_scope.specs.declared.fault.CheckFault.TheVariants as check_fault
 use Rattle.cp_scope.specs.declared.types.ValueType.{ValueType}
@@ -87,17 +87,24 @@ is_initial_of_monitor w = is_initial w.owner w.routine
 abbrev pub delay_faults : ℕ → Context → Bool → Use → List CheckFault
 delay_faults at w is_local u = if is_initial_of_monitor w && (is_local && u.delays) then fault at C12 else []
 
+-- in an annotation, where this is the place of the fault among those of the call
+abbrev pub quiet_faults : ℕ → Context → Bool → List CheckFault
+quiet_faults at w is_here = if is_here && w.is_quiet then fault at C22 else []
+
 abbrev pub unless : {A : Type 0} → List CheckFault → A → Judged A
 unless [] x = Ok x
 unless (f ∷ fs) x = Err (f ∷ fs)
 
+-- A local call has its name at its first token, so that its faults there come by their rules; an entry's name stands behind it.
 abbrev pub call_faults : Scopes → Context → ℕ → ℕ → Bool → ℕ → List Operand → List CheckFault
 call_faults s w at name_at is_local n os =
     fit_faults at (heading_at n s).parameters os
+    ++ (quiet_faults at w (not is_local)
     ++ (entry_faults name_at is_local (heading_at n s).is_entry
     ++ (own_faults name_at w n
     ++ (delay_faults name_at w is_local (body_at n s)
-    ++ assignable_faults (heading_at n s).parameters os)))
+    ++ (quiet_faults at w is_local
+    ++ assignable_faults (heading_at n s).parameters os)))))
 
 abbrev pub call_use : Bool → Use → Use
 call_use is_local u = record { calls = 0; need = u.need; delays = is_local && u.delays }

@@ -1,5 +1,5 @@
 -- The faults of a program, in reading order.
-use Rattle.std.specs.Prelude.{ℕ, nat_lt, Bool, ◌||◌, if◌then◌else◌, List, [], ◌∷◌, None, Ok, Err}
+use Rattle.std.specs.Prelude.{false, ℕ, nat_lt, Bool, ◌||◌, if◌then◌else◌, List, [], ◌∷◌, None, Ok, Err}
 use Rattle.cp_tree.specs.Syntax.{Program, Tree}
 use Rattle.cp_scope.specs.declared.fault.CheckFault.{CheckFault}
 use Rattle.cp_scope.specs.declared.fault.CheckFault.TheVariants as check_fault
@@ -20,7 +20,7 @@ unfoldable pub declarations : Scopes → Program → Step
 declarations s p = then_step (program_part_steps s p.parts) (λ a. routine_steps None a p.routines)
 
 abbrev pub program_context : Context
-program_context = record { owner = None; routine = None }
+program_context = record { owner = None; routine = None; is_quiet = false }
 
 abbrev pub opened_step : Program → Step → Opened
 opened_step p d = record { uses = after_faults d.faults (statements d.scopes program_context (Ok no_use) p.body.statements); scopes = d.scopes }

@@ -3,7 +3,7 @@ use Rattle.std.specs.Prelude.{ℕ, ◌-◌, Bool, true, false, ◌&&◌, not, if
 use Rattle.cp_tree.specs.declared.constant.Identifier.{Identifier}
 use Rattle.cp_tree.specs.declared.declaration.SystemKind.{SystemKind}
 use Rattle.cp_tree.specs.declared.declaration.SystemKind.TheVariants.{Class, Monitor, Process}
-use Rattle.cp_tree.specs.Syntax.{Group, ParameterGroup, RoutineKind, procedure, function, Routine}
+use Rattle.cp_tree.specs.Syntax.{Group, ParameterGroup, RoutineKind, procedure, function, invariants, Routine}
 use Rattle.cp_scope.specs.declared.fault.CheckFault.{CheckFault}
 use Rattle.cp_scope.specs.declared.fault.Rule.TheVariants.{C5, C9, C11, C13, C15}
 use Rattle.cp_scope.specs.declared.types.ValueType.{ValueType}
@@ -92,6 +92,7 @@ no_result s = Ok None
 unfoldable pub written : Scopes → RoutineKind → Headed
 written s (procedure gs) = behind (parameter_steps s gs) no_result
 written s (function gs i) = behind (group_steps s gs) (λ after. result_type after i)
+written s invariants = behind (parameter_steps s []) no_result
 
 abbrev pub result_faults : ℕ → Option ValueType → List CheckFault
 result_faults at None = []

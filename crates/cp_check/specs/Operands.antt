@@ -5,6 +5,7 @@ use Rattle.cp_scope.specs.declared.types.ValueType.TheVariants.{Queue}
 use Rattle.cp_scope.specs.declared.types.Base.{Base}
 use Rattle.cp_scope.specs.declared.count.Use.{Use}
 use Rattle.cp_scope.specs.Types.{values_of}
+use Rattle.cp_check.specs.declared.operand.Context.{Context}
 use Rattle.cp_check.specs.declared.operand.OperandUse.{OperandUse}
 use Rattle.cp_check.specs.declared.operand.OperandUse.TheVariants.{Value, Fixed, Assignable, Function}
 use Rattle.cp_check.specs.declared.operand.Operand.{Operand}
@@ -14,6 +15,10 @@ of_base b = values_of b
 
 abbrev pub value : ℕ → ValueType → Use → Operand
 value at t u = record { at = at; value_type = t; place = Value; uses = u }
+
+-- the same place in an annotation, which calls no routine
+abbrev pub quiet : Context → Context
+quiet w = record w { is_quiet = true }
 
 abbrev pub is_assignable : OperandUse → Bool
 is_assignable Assignable = true

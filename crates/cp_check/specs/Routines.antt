@@ -1,5 +1,5 @@
 -- The rules of routines.
-use Rattle.std.specs.Prelude.{ℕ, List, [], ◌∷◌, ◌++◌, Option, Some, None, Ok, Err}
+use Rattle.std.specs.Prelude.{false, ℕ, List, [], ◌∷◌, ◌++◌, Option, Some, None, Ok, Err}
 use Rattle.cp_tree.specs.declared.declaration.SystemKind.{SystemKind}
 use Rattle.cp_tree.specs.Syntax.{Routine}
 use Rattle.cp_scope.specs.declared.types.ValueType.{ValueType}
@@ -32,7 +32,7 @@ abbrev pub routine_use : ℕ → Option ValueType → Use → Use
 routine_use cells t u = record { calls = 0; need = plus (plus cells (result_cells t)) (need_of u); delays = u.delays }
 
 abbrev pub routine_context : Option SystemKind → Routine → Context
-routine_context owner r = record { owner = owner; routine = Some r.name.at }
+routine_context owner r = record { owner = owner; routine = Some r.name.at; is_quiet = false }
 
 -- the local declarations and the body
 abbrev pub opened_step : Option SystemKind → Routine → Step → Opened

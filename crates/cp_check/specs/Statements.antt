@@ -2,7 +2,7 @@
 use Rattle.std.specs.Prelude.{ℕ, ◌+◌, nat_eq, Bool, true, false, ◌&&◌, not, if◌then◌else◌, List, [], ◌∷◌, ◌++◌, length, Option, Some, None, is_some, Ok, Err}
 use Rattle.cp_tree.specs.declared.declaration.SystemKind.{SystemKind}
 use Rattle.cp_tree.specs.declared.declaration.SystemKind.TheVariants.{Monitor, Process}
-use Rattle.cp_tree.specs.Syntax.{Expression, Expressions, no_expressions, more_expressions, Designator, designator as name_with, Start, Statement, empty, assign, invoke, block, if_then, if_else, case_of, while_do, repeat_until, for_do, cycle, init, Statements, no_statements, more_statements, Arms, no_arms, more_arms, Arm, arm}
+use Rattle.cp_tree.specs.Syntax.{Expression, Expressions, no_expressions, more_expressions, Designator, designator as name_with, Start, Statement, empty, assign, invoke, block, if_then, if_else, case_of, while_do, repeat_until, for_do, cycle, init, asserted, Statements, no_statements, more_statements, Arms, no_arms, more_arms, Arm, arm}
 use Rattle.cp_scope.specs.declared.fault.Rule.TheVariants.{C5, C6, C7, C12, C16, C17, C21}
 use Rattle.cp_scope.specs.declared.fault.CheckFault.{CheckFault}
 use Rattle.cp_scope.specs.declared.types.Base.TheVariants.{Boolean}
@@ -24,7 +24,8 @@ use Rattle.cp_check.specs.declared.operand.DesignatedName.{DesignatedName}
 use Rattle.cp_check.specs.declared.case.Label.{Label}
 use Rattle.cp_check.specs.declared.statement.Target.{Target}
 use Rattle.cp_check.specs.declared.statement.Target.TheVariants as target
-use Rattle.cp_check.specs.Operands.{is_queue, is_assignable}
+use Rattle.cp_tree.specs.View.{expression_at}
+use Rattle.cp_check.specs.Operands.{quiet, is_queue, is_assignable}
 use Rattle.cp_check.specs.Operations.{is_function}
 use Rattle.cp_check.specs.Names.{begun}
 use Rattle.cp_check.specs.Calls.{called, fit_faults, fault, unless, is_own, place_of, total_use}
@@ -175,6 +176,16 @@ count_over s w at n p = counted at n (target_of s w p.0.0.0.named) p.0.0.1 p.0.1
 abbrev pub together : Use × Use → Judged Use
 together p = Ok (both_uses p.0 p.1)
 
+-- ---- annotations
+
+-- what is said is a truth value: else C5 at its first token
+unfoldable pub assertion : Scopes → Context → Expression → Judged Use
+assertion s w e = expression s (quiet w) false e >>= λ o. tested (expression_at e) o o.uses
+
+unfoldable pub assertions : Scopes → Context → Judged Use → List Expression → Judged Use
+assertions s w j [] = j
+assertions s w j (e ∷ es) = assertions s w (both j (assertion s w e) >>= together) es
+
 -- ---- starts
 
 abbrev pub start_need : SystemKind → ℕ → ℕ
@@ -221,6 +232,7 @@ unfoldable mutual
   statement s w (for_do at i a d b t) = both (both (both (begun s i) (expression s w false a)) (expression s w false b)) (statement s w t) >>= count_over s w at i.at
   statement s w (init at is) = starts s w (Ok no_use) is >>= initial at w
   statement s w (case_of at e as' b) = both (expression s w false e) (arms s w (Ok ([], no_use)) as') >>= chosen at
+  statement s w (asserted at k e t) = both (assertion s w e) (statement s w t) >>= together
 
   -- the labels of the arms, and what the arms take
   pub arms : Scopes → Context → Judged (List Label × Use) → Arms → Judged (List Label × Use)

@@ -64,7 +64,7 @@ inside s y =
     routine_steps (Some y.kind) b y.routines))
 
 abbrev pub initial_context : SystemKind → Context
-initial_context k = record { owner = Some k; routine = None }
+initial_context k = record { owner = Some k; routine = None; is_quiet = false }
 
 abbrev pub opened_step : System → Step → Opened
 opened_step y d = record { uses = after_faults d.faults (statements d.scopes (initial_context y.kind) (Ok no_use) y.body.statements); scopes = d.scopes }

@@ -127,6 +127,17 @@ fn is_initial_of_monitor(context: Context) -> bool
     }
 }
 
+/// An annotation calls no routine.
+fn check_quiet(at: usize, context: Context, is_here: bool) -> Result<(), CheckFault>
+    ensures { Finds (spec.quiet_faults at context is_here) result }
+{
+    if is_here && context.is_quiet {
+        broken_rule(at, Rule::C22)
+    } else {
+        Ok(())
+    }
+}
+
 /// A monitor's initial statement does not delay.
 fn check_delay(at: usize, context: Context, is_local: bool, body: Use) -> Result<(), CheckFault>
     ensures { Finds (spec.delay_faults at context is_local body) result }
@@ -138,7 +149,7 @@ fn check_delay(at: usize, context: Context, is_local: bool, body: Use) -> Result
     }
 }
 
-/// The rules of a call itself; what it takes.
+/// The rules of a call itself; what it takes. A local call has its name at its first token, so that faults come by their rules there.
 #[tactic(auto, unfolding(crate::specs::Calls::called), using(crate::proofs::Judging::first_append))]
 pub fn check_routine_call(
     table: &ScopeTable,
@@ -156,9 +167,11 @@ pub fn check_routine_call(
     let parameters = shapes.parameters(routine);
     let body = shapes.body(routine);
     check_arguments(at, parameters, operands)?;
+    check_quiet(at, context, !is_local)?;
     check_entry(name_at, is_local, shapes.is_entry(routine))?;
     check_recursion(name_at, context, routine)?;
     check_delay(name_at, context, is_local, body)?;
+    check_quiet(at, context, is_local)?;
     check_variables(parameters, operands)?;
     Ok(total_use(uses, operands).and(Use {
         calls: 0,

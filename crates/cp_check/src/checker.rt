@@ -57,6 +57,7 @@ fn declarations_and_body(
     let context = Context {
         owner: None,
         routine: None,
+        is_quiet: false,
     };
     statements(alloc, table, context, &node.body.statements)
 }

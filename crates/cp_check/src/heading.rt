@@ -118,7 +118,7 @@ fn result_type(table: &ScopeTable, name: &Identifier) -> Result<Option<ValueType
 }
 
 /// The parameters, and the type of a function's result.
-#[tactic(auto, unfolding(crate::specs::Headings::written), using(crate::proofs::Judging::first_append))]
+#[tactic(auto, unfolding(crate::specs::Headings::written, crate::specs::Headings::parameter_steps), using(crate::proofs::Judging::first_append))]
 fn parameters_and_result(
     alloc: Global,
     table: &mut ScopeTable,
@@ -136,6 +136,7 @@ fn parameters_and_result(
             groups(alloc, table, nodes)?;
             result_type(table, name)
         }
+        RoutineKind::Invariants => Ok(None),
     }
 }
 

@@ -11,6 +11,20 @@ use cp_tree::SystemKind;
 pub struct Context {
     pub owner: Option<SystemKind>,
     pub routine: Option<usize>,
+    /// Whether it is in an annotation, which calls no routine.
+    pub is_quiet: bool,
+}
+
+impl Context {
+    /// The same in an annotation.
+    pub fn quiet(self) -> Context
+        ensures { result ≡ spec.quiet self }
+    {
+        Context {
+            is_quiet: true,
+            ..self
+        }
+    }
 }
 
 /// How an operand may be used.

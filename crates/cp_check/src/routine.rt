@@ -53,6 +53,7 @@ fn enter_routine(
     let context = Context {
         owner,
         routine: Some(node.name.at),
+        is_quiet: false,
     };
     statements(alloc, table, context, &node.body.statements)
 }

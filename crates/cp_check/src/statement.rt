@@ -354,6 +354,37 @@ fn check_test(at: usize, test: Operand, uses: Use) -> Result<Use, CheckFault>
     }
 }
 
+/// What an annotation says is a truth value.
+#[tactic(auto, unfolding(crate::specs::Statements::assertion))]
+fn assertion(
+    alloc: Global,
+    table: &ScopeTable,
+    context: Context,
+    node: &Expression,
+) -> Result<Use, CheckFault>
+    ensures { Judges (λ u. u) (spec.assertion (scopes_of table.now) context (expression_view node.now)) result }
+{
+    let test = expression(alloc, table, context.quiet(), false, node)?;
+    check_test(node.at, test, test.uses)
+}
+
+/// What is said before a statement, in its order.
+#[tactic(auto, using(crate::proofs::Left::left_total, crate::proofs::Statements::assertions_refuse), unfolding(crate::specs::Statements::assertions))]
+fn assertions(
+    alloc: Global,
+    table: &ScopeTable,
+    context: Context,
+    nodes: &[Expression],
+) -> Result<Use, CheckFault>
+    ensures { Judges (λ u. u) (spec.assertions (scopes_of table.now) context (Ok no_use) (expressions_view nodes.now)) result }
+{
+    let mut total = Use::nothing();
+    for node in nodes {
+        total = total.and(assertion(alloc, table, context, node)?);
+    }
+    Ok(total)
+}
+
 /// Whether the variable and the bounds of a `for` agree.
 fn counts(first: ValueType, from: Operand, to: Operand) -> bool
     ensures { result ≡ spec.counts first from to }
@@ -522,6 +553,10 @@ fn statement(
             let selector = expression(alloc, table, context, false, selector)?;
             let (labels, uses) = arms(alloc, table, context, nodes)?;
             check_case(alloc, at, selector, &labels, uses)
+        }
+        StatementKind::Asserted(_, tests, inner) => {
+            let uses = assertions(alloc, table, context, tests)?;
+            Ok(uses.and(statement(alloc, table, context, inner)?))
         }
     }
 }

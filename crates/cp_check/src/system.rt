@@ -113,6 +113,7 @@ fn enter_system(alloc: Global, table: &mut ScopeTable, node: &System) -> Result<
     let context = Context {
         owner: Some(node.kind),
         routine: None,
+        is_quiet: false,
     };
     statements(alloc, table, context, &node.body.statements)
 }

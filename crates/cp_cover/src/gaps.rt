@@ -2,7 +2,7 @@
 
 use crate::entries::Entries;
 pub use crate::lines::UnreachedLine;
-use crate::lines::unreached_lines;
+use crate::lines::{CoverKind, unreached_lines};
 use crate::mark::CoverMark;
 use crate::marks::Marks;
 use crate::search::Coverage;
@@ -14,7 +14,14 @@ use std::alloc::{AllocError, Global};
 /// What no schedule comes to.
 #[derive(Drop)]
 pub struct Gaps {
+    /// The lines of statements that are not reached.
     pub lines: Vec<UnreachedLine>,
+    /// Those of assertions, and whether there are assertions at all.
+    pub assertions: Vec<UnreachedLine>,
+    pub has_assertions: bool,
+    /// Those of invariants that are never looked at, and whether there are invariants at all.
+    pub invariants: Vec<UnreachedLine>,
+    pub has_invariants: bool,
     /// The queues in which nobody ever waits.
     pub queues: Vec<String>,
     /// Whether there are queues at all.
@@ -38,8 +45,13 @@ pub fn gaps_of(
     coverage: &Coverage,
 ) -> Result<Gaps, AllocError> {
     let statements = statements(alloc, program)?;
+    let marks = &coverage.marks;
     let mut whole = Gaps {
-        lines: unreached_lines(alloc, &statements, &coverage.marks)?,
+        lines: unreached_lines(alloc, &statements, CoverKind::Statement, marks)?,
+        assertions: unreached_lines(alloc, &statements, CoverKind::Assertion, marks)?,
+        has_assertions: CoverKind::Assertion.is_among(&statements),
+        invariants: unreached_lines(alloc, &statements, CoverKind::Invariant, marks)?,
+        has_invariants: CoverKind::Invariant.is_among(&statements),
         queues: Vec::new(alloc),
         has_queues: false,
         gates: Vec::new(alloc),
@@ -48,8 +60,8 @@ pub fn gaps_of(
         is_whole: coverage.is_whole,
     };
     for component in &legend.components {
-        whole.add_queues(alloc, legend, component, &coverage.marks)?;
-        whole.add_gates(alloc, program, legend, entries, component, &coverage.marks)?;
+        whole.add_queues(alloc, legend, component, marks)?;
+        whole.add_gates(alloc, program, legend, entries, component, marks)?;
     }
     Ok(whole)
 }

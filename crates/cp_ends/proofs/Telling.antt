@@ -4,7 +4,7 @@ use Rattle.cp_ends.proofs.Vocabulary.{◌&&◌, Decides, Shown, OutcomeKind, end
 use Rattle.std.proofs.lemmas.Bool.Decides.{Decides-eqb, Decides-int_eq}
 use Rattle.cp_store.specs.contracts.error.ErrorNamePartialEq.TheImpl as name_eq
 use Rattle.cp_store.specs.declared.error.ErrorName.{ErrorName}
-use Rattle.cp_store.specs.declared.error.ErrorName.TheVariants.{Overflow, ZeroDivisor, Range, NoCase, QueueInUse, NotInit, InitTwice}
+use Rattle.cp_store.specs.declared.error.ErrorName.TheVariants.{Overflow, ZeroDivisor, Range, NoCase, QueueInUse, NotInit, InitTwice, Assertion, Invariant}
 use Rattle.cp_machine.specs.declared.shown.Shown.TheVariants.{Integer, Char, Truth, Constant}
 use Rattle.cp_run.specs.contracts.outcome.OutcomeKindPartialEq.TheImpl as kind_eq
 use Rattle.cp_run.specs.declared.outcome.OutcomeKind.TheVariants.{Finished, AllWaiting, RunError, ChoiceLimit, StepLimit, OutputLimit}
@@ -19,6 +19,8 @@ names_told NoCase NoCase = (λ h. refl, λ e. refl)
 names_told QueueInUse QueueInUse = (λ h. refl, λ e. refl)
 names_told NotInit NotInit = (λ h. refl, λ e. refl)
 names_told InitTwice InitTwice = (λ h. refl, λ e. refl)
+names_told Assertion Assertion = (λ h. refl, λ e. refl)
+names_told Invariant Invariant = (λ h. refl, λ e. refl)
 names_told x y = (λ h. absurd (cc), λ e. absurd (cc))
 
 all_three : (a b c : Bool) → a ≡ true → b ≡ true → c ≡ true → (a && (b && c)) ≡ true

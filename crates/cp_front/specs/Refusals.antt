@@ -57,6 +57,7 @@ rule_reason rule.C18 = codes "check C18"
 rule_reason rule.C19 = codes "check C19"
 rule_reason rule.C20 = codes "check C20"
 rule_reason rule.C21 = codes "check C21"
+rule_reason rule.C22 = codes "check C22"
 
 abbrev pub check_reason : CheckFault → Option (ℕ × List ℕ)
 check_reason (check_fault.Rule at r) = Some (at, rule_reason r)

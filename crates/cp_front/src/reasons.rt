@@ -78,5 +78,6 @@ fn rule_reason(rule: Rule) -> &'static str
         Rule::C19 => "check C19",
         Rule::C20 => "check C20",
         Rule::C21 => "check C21",
+        Rule::C22 => "check C22",
     }
 }

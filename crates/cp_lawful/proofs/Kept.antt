@@ -1,7 +1,7 @@
 -- What declarations leave as it was: the scopes around, and the names before them.
 use Rattle.std.proofs.Common.{◌≡◌, ℕ, ◌+◌, ◌∙◌, Bool, true, false, if◌then◌else◌, List, [], ◌∷◌, ◌++◌, Option, Some, None, Ok, Err, is_some, pos, ap, refl}
 use Rattle.cp_lawful.proofs.Words.{bytes_eq, Identifier, SystemKind, C2, Meaning, ValueType, Use, Judged, Spot, ArrayShape}
-use Rattle.cp_tree.specs.Syntax.{Simple, enumeration, TypeTerm, simple, array_of, set_type, record_of, FieldGroups, no_fields, more_fields, FieldGroup, fields, ConstantDefinition, TypeDefinition, VariableGroup, Part, constants, types, variables, Group, ParameterGroup, RoutineKind, procedure, function, Routine, System, Definition, type_definition, system_definition, SystemDefinition, ProgramPart, program_constants, program_types, program_variables}
+use Rattle.cp_tree.specs.Syntax.{Simple, enumeration, TypeTerm, simple, array_of, set_type, record_of, FieldGroups, no_fields, more_fields, FieldGroup, fields, ConstantDefinition, TypeDefinition, VariableGroup, Part, constants, types, variables, Group, ParameterGroup, RoutineKind, procedure, function, invariants, Routine, System, Definition, type_definition, system_definition, SystemDefinition, ProgramPart, program_constants, program_types, program_variables}
 use Rattle.cp_scope.specs.declared.fault.CheckFault.TheVariants as check_fault
 use Rattle.cp_scope.specs.declared.types.Meaning.TheVariants as meaning
 use Rattle.cp_scope.specs.declared.types.Base.{Base}
@@ -202,6 +202,7 @@ pub written_kept : (s : Scopes) (k : RoutineKind) → Keeps s (headings.written 
 unfolding headings.written
 written_kept s (procedure gs) = parameters_kept s gs
 written_kept s (function gs i) = routine_groups_kept s gs
+written_kept s invariants = parameters_kept s []
 
 pub system_group_kept : (k : SystemKind) (s : Scopes) (g : Group) → Keeps s (systems.group_step k s g).scopes
 unfolding systems.group_step

@@ -6,7 +6,8 @@ use Rattle.cp_tree.specs.declared.constant.Constant.{Constant}
 use Rattle.cp_tree.specs.declared.constant.ConstantKind.{ConstantKind}
 use Rattle.cp_tree.specs.declared.constant.ConstantKind.TheVariants as kinds
 use Rattle.cp_tree.specs.declared.expression.Relation.{Relation}
-use Rattle.cp_tree.specs.Syntax.{Expression, alone, related, Sum, sum, Terms, no_terms, more_terms as terms_more, Term, term, Factors, no_factors, more_factors as factors_more, Factor, named, group, negated, set_of, Expressions, no_expressions, more_expressions, Designator, designator as name_with, Selectors, no_selectors, more_selectors, Selector, field, index, Start, Statement, empty, assign, invoke, block, if_then, if_else, case_of, while_do, repeat_until, for_do, cycle, init, Statements, no_statements, more_statements, Arms, no_arms, more_arms, Arm, arm}
+use Rattle.cp_tree.specs.Syntax.{Expression, alone, related, Sum, sum, Terms, no_terms, more_terms as terms_more, Term, term, Factors, no_factors, more_factors as factors_more, Factor, named, group, negated, set_of, Expressions, no_expressions, more_expressions, Designator, designator as name_with, Selectors, no_selectors, more_selectors, Selector, field, index, Start, Statement, empty, assign, invoke, block, if_then, if_else, case_of, while_do, repeat_until, for_do, cycle, init, asserted, Statements, no_statements, more_statements, Arms, no_arms, more_arms, Arm, arm}
+use Rattle.cp_tree.specs.View.{expression_at}
 use Rattle.cp_scope.specs.declared.types.ValueType.TheVariants as value_type
 use Rattle.cp_scope.specs.declared.types.Meaning.TheVariants as meaning
 use Rattle.cp_scope.specs.declared.types.Parameter.{Parameter}
@@ -22,6 +23,7 @@ use Rattle.cp_check.specs.declared.operand.Named.{Named}
 use Rattle.cp_check.specs.declared.operand.Named.TheVariants as name
 use Rattle.cp_check.specs.declared.statement.Target.{Target}
 use Rattle.cp_check.specs.declared.statement.Target.TheVariants as target
+use Rattle.cp_check.specs.Operands.{quiet}
 use Rattle.cp_check.specs.Names as names
 use Rattle.cp_check.specs.Constants as constants
 use Rattle.cp_check.specs.Operations as operations
@@ -287,6 +289,10 @@ call_loud s w at d es h = loud_then _ _ (loud_both _ _ (designator_loud s w h d)
 tested_loud : (at : ℕ) (o : Operand) (u : Use) → Loud (statements.tested at o u)
 tested_loud at o u = search loud_if
 
+assertion_loud : (s : Scopes) (w : Context) (e : Expression) → Heard s → Loud (statements.assertion s w e)
+unfolding statements.assertion
+assertion_loud s w e h = loud_then _ _ (expression_loud s (quiet w) h false e) (λ o. tested_loud (expression_at e) o o.uses)
+
 test_then_loud : (at : ℕ) (p : Operand × Use) → Loud (statements.test_then at p)
 test_then_loud at p = tested_loud at p.0 (both_uses p.0.uses p.1)
 
@@ -337,6 +343,7 @@ mutual
   statement_loud s w h (for_do at i a d b t) = loud_then _ _ (loud_both _ _ (loud_both _ _ (loud_both _ _ (begun_loud s i h) (expression_loud s w h false a)) (expression_loud s w h false b)) (statement_loud s w h t)) (count_over_loud s w at i.at)
   statement_loud s w h (init at is) = loud_then _ _ (starts_loud s w is _ h tt) (λ u. initial_loud at w.routine u)
   statement_loud s w h (case_of at e as' b) = loud_then _ _ (loud_both _ _ (expression_loud s w h false e) (arms_loud s w h as' _ tt)) (chosen_loud at)
+  statement_loud s w h (asserted at k e t) = loud_then _ _ (loud_both _ _ (assertion_loud s w e h) (statement_loud s w h t)) (λ p. tt)
 
   pub arms_loud : (s : Scopes) (w : Context) → Heard s → (as' : Arms) (j : Judged (List Label × Use)) → Loud j → Loud (statements.arms s w j as')
   arms_loud s w h no_arms j g = g

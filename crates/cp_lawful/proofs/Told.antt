@@ -2,7 +2,7 @@
 use Rattle.std.proofs.Common.{◌≡◌, ℕ, ◌+◌, ◌∙◌, Bool, true, false, if◌then◌else◌, List, [], ◌∷◌, ◌++◌, Option, Some, None, Ok, Err, is_some, pos, ap, sym, refl, subst}
 use Rattle.cp_lawful.proofs.Words.{bytes_eq, Identifier, SystemKind, CheckFault, C2, Meaning, ValueType, Use, Spot, ArrayShape, ConstantNumber, statements, after_faults}
 use Rattle.cp_tree.specs.declared.declaration.SystemKind.TheVariants as system_kind
-use Rattle.cp_tree.specs.Syntax.{Simple, type_name, enumeration, subrange, TypeTerm, simple, array_of, set_type, record_of, FieldGroups, no_fields, more_fields, FieldGroup, fields, ConstantDefinition, TypeDefinition, VariableGroup, Part, constants, types, variables, Group, ParameterGroup, RoutineKind, procedure, function, Routine, System, Definition, type_definition, system_definition, SystemDefinition, ProgramPart, program_constants, program_types, program_variables}
+use Rattle.cp_tree.specs.Syntax.{Simple, type_name, enumeration, subrange, TypeTerm, simple, array_of, set_type, record_of, FieldGroups, no_fields, more_fields, FieldGroup, fields, ConstantDefinition, TypeDefinition, VariableGroup, Part, constants, types, variables, Group, ParameterGroup, RoutineKind, procedure, function, invariants, Routine, System, Definition, type_definition, system_definition, SystemDefinition, ProgramPart, program_constants, program_types, program_variables}
 use Rattle.cp_scope.specs.declared.fault.CheckFault.TheVariants as check_fault
 use Rattle.cp_scope.specs.declared.types.Meaning.TheVariants as meaning
 use Rattle.cp_scope.specs.declared.types.Base.{Base}
@@ -369,11 +369,13 @@ written_loud : (s : Scopes) (k : RoutineKind) → Told s → Loud (headings.writ
 unfolding headings.written
 written_loud s (procedure gs) h = after_loud (headings.parameter_steps s gs).faults (Ok None) (λ e. tt)
 written_loud s (function gs i) h = after_loud (headings.group_steps s gs).faults (headings.result_type (headings.group_steps s gs).scopes i) (λ e. result_loud (headings.group_steps s gs).scopes i (routine_groups_told s gs e h))
+written_loud s invariants h = after_loud (headings.parameter_steps s []).faults (Ok None) (λ e. tt)
 
 pub written_told : (s : Scopes) (k : RoutineKind) → faults (headings.written s k).result ≡ [] → Told s → Told (headings.written s k).scopes
 unfolding headings.written
 written_told s (procedure gs) e h = parameters_told s gs (none_before {A = Option ValueType} (headings.parameter_steps s gs).faults (Ok None) e) h
 written_told s (function gs i) e h = routine_groups_told s gs (none_before (headings.group_steps s gs).faults (headings.result_type (headings.group_steps s gs).scopes i) e) h
+written_told s invariants e h = parameters_told s [] (none_before {A = Option ValueType} (headings.parameter_steps s []).faults (Ok None) e) h
 
 -- ---- in and out of scopes
 

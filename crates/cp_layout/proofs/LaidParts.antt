@@ -1,5 +1,5 @@
 -- Loops over types and declarations: what is left leads where all lead.
-use Rattle.std.proofs.Common.{◌≡◌, ℕ, suc, ◌+◌, ◌<◌, ◌≤◌, List, length, get_or, drop, map, refl, ap, add-one}
+use Rattle.std.proofs.Common.{◌≡◌, ◌∙◌, ℕ, suc, ◌+◌, ◌<◌, ◌≤◌, List, [], length, get_or, drop, map, refl, ap, add-one}
 use Rattle.cp_layout.proofs.Words.{drop-cons, drop_all, Layer}
 use Rattle.cp_tree.specs.declared.constant.Identifier.{Identifier}
 use Rattle.cp_tree.specs.declared.types.FieldGroup as tree_field_group
@@ -12,6 +12,7 @@ use Rattle.cp_tree.specs.declared.declaration.ParameterGroup as tree_parameter_g
 use Rattle.cp_tree.specs.declared.declaration.Routine as tree_routine
 use Rattle.cp_tree.specs.declared.declaration.SystemDefinition as tree_system_definition
 use Rattle.cp_tree.specs.declared.declaration.ProgramPart as tree_program_part
+use Rattle.cp_tree.specs.Syntax.{Program}
 use Rattle.cp_tree.specs.View.{field_group_view, field_groups_view, field_groups_of, constant_definition_view, type_definition_view, variable_group_view, part_view, group_view, parameter_group_view, routine_view, system_definition_view, program_part_view}
 use Rattle.cp_symbols.specs.declared.kinds.CellBase.{CellBase}
 use Rattle.cp_symbols.specs.declared.kinds.CellType.{CellType}
@@ -20,7 +21,7 @@ use Rattle.cp_layout.specs.Kinds.{Fields, with_field}
 use Rattle.cp_layout.specs.LaidExpressions.{as_integer}
 use Rattle.cp_layout.specs.LaidTypes.{with_constant, enumerated, fields_of_type, field_group, field_groups}
 use Rattle.cp_layout.specs.LaidDeclarations as spec
-use Rattle.cp_layout.specs.LaidDeclarations.{Parameters, constants, type_definitions, variables_of, variables, locals_of, local_variables, permanent_parts, local_parts, constant_parameters_of, constant_groups, var_parameters_of, parameter_groups, routines, system_parameters_of, system_groups, system_definitions, program_parts}
+use Rattle.cp_layout.specs.LaidDeclarations.{Parameters, constants, type_definitions, variables_of, variables, locals_of, local_variables, permanent_parts, local_parts, constant_parameters_of, constant_groups, var_parameters_of, parameter_groups, routines, system_parameters_of, system_groups, system_definitions, program_parts, initial_statement, program}
 
 -- ---- types
 
@@ -210,3 +211,9 @@ module _ (l : Layer) (xs : List tree_program_part.ProgramPart) (i : ℕ) where
   pub program_parts_none : length xs ≤ i → program_parts l (map program_part_view (drop i xs)) ≡ l
   unfolding program_parts
   program_parts_none h = rw (drop_all i xs h) refl
+
+-- ---- the program
+
+pub program_laid : (l m n : Layer) (p : Program) → program_parts l p.parts ≡ m → routines m p.routines ≡ n → program l p ≡ initial_statement n [] p.body
+unfolding program
+program_laid l m n p a b = ap (λ (k : Layer). initial_statement k [] p.body) (ap (λ (k : Layer). routines k p.routines) a ∙ b)

@@ -1,5 +1,5 @@
 -- What is laid out of declarations: parts, headings, routines, system types and the program. In the shape of the code, as `Laid` says.
-use Rattle.std.specs.Prelude.{true, false, ℕ, ◌-◌, ℤ, if◌then◌else◌, List, [], ◌∷◌, ◌++◌, length, drop, Option, Some, None}
+use Rattle.std.specs.Prelude.{Bool, true, false, ℕ, ◌-◌, ℤ, if◌then◌else◌, List, [], ◌∷◌, ◌++◌, length, drop, Option, Some, None}
 use Rattle.cp_tree.specs.declared.constant.Identifier.{Identifier}
 use Rattle.cp_tree.specs.declared.declaration.SystemKind.{SystemKind}
 use Rattle.cp_tree.specs.Syntax as syntax
@@ -20,10 +20,10 @@ use Rattle.cp_symbols.specs.declared.symbols.FunctionResult.{FunctionResult}
 use Rattle.cp_layout.specs.declared.declaration.Outer as code_outer
 use Rattle.cp_symbols.specs.Kinds.{Compounds, cells_of, count_of, plus, times}
 use Rattle.cp_layout.specs.Kinds.{array_of, least}
-use Rattle.cp_layout.specs.Layers.{Names, names_seen, owned_seen, seen_inside, Layer, Heading, Owned, System, with_name, with_routine, no_frame, no_owned}
+use Rattle.cp_layout.specs.Layers.{Names, names_seen, owned_seen, seen_inside, Layer, Heading, Owned, System, with_name, with_routine, settled, no_frame, no_owned}
 use Rattle.cp_layout.specs.LaidExpressions.{component_count}
 use Rattle.cp_layout.specs.LaidTypes.{constant_of, named_type, written_type}
-use Rattle.cp_layout.specs.LaidStatements.{statements}
+use Rattle.cp_layout.specs.LaidStatements.{checked, statements}
 
 -- ---- constants and types
 
@@ -232,12 +232,18 @@ heading l x (syntax.procedure gs) = procedure_heading x (parameter_groups l [] g
 heading l x (syntax.function gs i) =
     let p = constant_groups l [] gs in
     function_heading x p (named_type p.1 i.name)
+heading l x syntax.invariants = procedure_heading x ([], l)
 
 -- ---- routines
 
-abbrev pub body : Layer → Body → Layer
-body l b =
-    let x = statements l b.statements in
+-- the items at the end of a body, where the invariants are looked at or not
+abbrev pub end_of_body : Layer → Bool → Option ℕ × Layer
+end_of_body l checks = settled (if checks then checked l 0 else l) None
+
+abbrev pub body : Layer → Body → Bool → Layer
+body l b checks =
+    let end = end_of_body l checks in
+    let x = statements end.1 b.statements end.0 in
     with_routine x.1 x.0
 
 abbrev pub with_new_frame : Layer → Layer
@@ -260,7 +266,7 @@ closed l count = record l { names = drop (length l.names - count) l.names }
 abbrev pub routine_inside : Layer → Routine → Layer
 routine_inside l r =
     let h = heading l r.name.name r.kind in
-    body (local_parts (with_heading h.1 h.0) r.parts) r.body
+    body (local_parts (with_heading h.1 h.0) r.parts) r.body r.is_entry
 
 abbrev pub routine : Layer → Routine → Layer
 routine l r =
@@ -273,7 +279,7 @@ routines l (r ∷ rs) = routines (routine l r) rs
 
 -- an initial statement, whose name is empty
 abbrev pub initial_statement : Layer → Parameters → Body → Layer
-initial_statement l ps b = body (with_heading (with_new_frame l) (heading_with [] ps None)) b
+initial_statement l ps b = body (with_heading (with_new_frame l) (heading_with [] ps None)) b true
 
 -- ---- system types
 

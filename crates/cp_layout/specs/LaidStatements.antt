@@ -1,9 +1,13 @@
 -- What is laid out of statements: their items, last to first, each list after those inside it. In the shape of the code, as `Laid` says.
-use Rattle.std.specs.Prelude.{ℕ, max, ℤ, pos, negsuc, Bool, true, false, List, [], ◌∷◌, Option, Some, None, slice_get}
+use Rattle.std.specs.Prelude.{ℕ, max, ℤ, pos, negsuc, Bool, true, false, if◌then◌else◌, List, [], ◌∷◌, Option, Some, None, slice_get}
+use Rattle.cp_tree.specs.declared.statement.AssertionKind.{AssertionKind}
+use Rattle.cp_tree.specs.declared.statement.AssertionKind.TheVariants as kinds
 use Rattle.cp_tree.specs.declared.statement.Direction.{Direction}
 use Rattle.cp_tree.specs.declared.statement.Direction.TheVariants as direction
 use Rattle.cp_tree.specs.Syntax as syntax
 use Rattle.cp_tree.specs.Syntax.{Expressions, Designator, Statement, Statements, Arms, Start}
+use Rattle.cp_slots.specs.declared.item.Said.{Said}
+use Rattle.cp_slots.specs.declared.item.Said.TheVariants as said
 use Rattle.cp_slots.specs.declared.item.ShownKind.{ShownKind}
 use Rattle.cp_slots.specs.declared.item.ShownKind.TheVariants as shown
 use Rattle.cp_slots.specs.declared.place.PlaceOrigin.{PlaceOrigin}
@@ -11,6 +15,8 @@ use Rattle.cp_slots.specs.declared.place.PlaceOrigin.TheVariants as origin
 use Rattle.cp_symbols.specs.declared.kinds.CellBase.TheVariants as base
 use Rattle.cp_symbols.specs.declared.kinds.CellType.{CellType}
 use Rattle.cp_symbols.specs.declared.kinds.CellType.TheVariants as types
+use Rattle.cp_symbols.specs.declared.names.LayoutMeaning.{LayoutMeaning}
+use Rattle.cp_symbols.specs.declared.names.LayoutMeaning.TheVariants as meaning
 use Rattle.cp_symbols.specs.declared.names.PredeclaredRoutine.{PredeclaredRoutine}
 use Rattle.cp_symbols.specs.declared.names.PredeclaredRoutine.TheVariants as predeclared
 use Rattle.cp_symbols.specs.declared.symbols.FunctionResult.{FunctionResult}
@@ -22,7 +28,7 @@ use Rattle.cp_symbols.specs.Kinds.{cells_of, values_of}
 use Rattle.cp_slots.specs.Code as code
 use Rattle.cp_slots.specs.Code.{Place, place_seen, ComponentPlace, component_seen, Arm, Action}
 use Rattle.cp_layout.specs.Values.{Value, ordinal_value, Designated, a_variable, a_component, a_routine, an_entry, a_standard, place_at, place_of, ordinal_of, set_of}
-use Rattle.cp_layout.specs.Layers.{Layer, System, is_own, need_inside, with_room, call_need, pending_need, again, added, settled, result_of}
+use Rattle.cp_layout.specs.Layers.{Layer, System, find, is_own, need_inside, with_room, call_need, pending_need, again, added, settled, result_of}
 use Rattle.cp_layout.specs.LaidTypes.{labels_of}
 use Rattle.cp_layout.specs.LaidExpressions.{begun, byte_or, name_at, expression, first_value, arguments, designator}
 
@@ -86,10 +92,28 @@ procedure l at c is_entry r es =
     let x = arguments l r es in
     added (with_room x.1 r) at (code.call r c is_entry x.0 None) (call_need x.1 r)
 
+-- ---- checks: calls of the invariants of the block, where it has some
+
+abbrev pub checked_by : Layer → ℕ → Option LayoutMeaning → Layer
+checked_by l at (Some (meaning.Routine r)) = procedure l at code.own false r syntax.no_expressions
+checked_by l at m = l
+
+unfoldable pub checked : Layer → ℕ → Layer
+checked l at = checked_by l at (find syntax.nameless l.names)
+
+-- whether the invariants are looked at before it
+abbrev pub waits : PredeclaredRoutine → Bool
+waits predeclared.Delay = true
+waits predeclared.Continue = true
+waits r = false
+
+abbrev pub checked_before : Layer → ℕ → PredeclaredRoutine → Layer
+checked_before l at r = if waits r then checked l at else l
+
 unfoldable pub standard : Layer → ℕ → PredeclaredRoutine → Expressions → Layer
 standard l at r es =
     let x = first_value l es in
-    added x.1 at (performed r x.0) 0
+    added (checked_before x.1 at r) at (performed r x.0) 0
 
 -- what a call statement calls
 pub data Callee : Type 0 where
@@ -225,14 +249,33 @@ starts l (t ∷ ts) next =
     let rest = starts l ts next in
     settled (started rest.1 t) rest.0
 
+-- ---- annotations
+
+-- what an annotation speaks of
+abbrev pub said_of : AssertionKind → Said
+said_of kinds.Assertion = said.Assertion
+said_of kinds.Invariant = said.Invariant
+
+unfoldable pub assertion : Layer → ℕ → AssertionKind → syntax.Expression → Layer
+assertion l at k e =
+    let x = expression l e in
+    added x.1 at (code.assert_that (ordinal_of x.0) (said_of k)) 0
+
+-- what is said before items that begin at `next`
+unfoldable pub assertions : Layer → AssertionKind → List syntax.Expression → Option ℕ → Option ℕ × Layer
+assertions l k [] next = (next, l)
+assertions l k (e ∷ es) next =
+    let rest = assertions l k es next in
+    settled (assertion rest.1 (token_of e) k e) rest.0
+
 -- ---- lists
 
 unfoldable mutual
-  -- the items of a list, and the first of them
-  pub statements : Layer → Statements → Option ℕ × Layer
-  statements l syntax.no_statements = (None, l)
-  statements l (syntax.more_statements s ss) =
-      let rest = statements l ss in
+  -- the items of a list, before those that begin at `after`, and the first of them
+  pub statements : Layer → Statements → Option ℕ → Option ℕ × Layer
+  statements l syntax.no_statements after = (after, l)
+  statements l (syntax.more_statements s ss) after =
+      let rest = statements l ss after in
       statement rest.1 s rest.0
 
   -- the items of a statement, before those that begin at `next`
@@ -241,7 +284,7 @@ unfoldable mutual
   statement l (syntax.assign at d e) next = settled (assigned l at d e) next
   statement l (syntax.invoke at d es) next = settled (invoked l at d es) next
   statement l (syntax.block at ss) next =
-      let x = statements l ss in
+      let x = statements l ss None in
       settled (blocked x.1 at x.0) next
   statement l (syntax.if_then at e s) next =
       let x = statement l s None in
@@ -257,15 +300,18 @@ unfoldable mutual
       let x = statement l s None in
       settled (while_item x.1 at e x.0) next
   statement l (syntax.repeat_until at ss e) next =
-      let x = statements l ss in
+      let x = statements l ss None in
       repeated x.1 at x.0 e next
   statement l (syntax.for_do at i e d f s) next =
       let x = statement l s None in
       settled (for_item x.1 at i.name e d f x.0) next
   statement l (syntax.cycle at ss) next =
-      let x = statements l ss in
+      let x = statements l ss None in
       settled (cycled x.1 at x.0) next
   statement l (syntax.init at ts) next = starts l ts next
+  statement l (syntax.asserted at k e s) next =
+      let x = statement l s next in
+      settled (assertion x.1 at k e) x.0
 
   pub arms : Layer → Arms → List Arm × Layer
   arms l syntax.no_arms = ([], l)

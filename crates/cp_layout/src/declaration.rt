@@ -183,7 +183,7 @@ impl<'a> Layouter<'a> {
         let heading = self.heading(alloc, node.name.name.as_str(), &node.kind)?;
         self.add_heading(heading)?;
         self.local_parts(alloc, &node.parts)?;
-        self.body(alloc, &node.body)
+        self.body(alloc, &node.body, node.is_entry)
     }
 
     // Only the first names remain.
@@ -202,11 +202,23 @@ impl<'a> Layouter<'a> {
         Ok(())
     }
 
-    fn body(&mut self, alloc: Global, node: &'a Body) -> Result<(), AllocError>
-        ensures { Leads (spec.body (layer_seen self.old) (body_view node.now)) (layer_seen self.new) result }
+    // A body, at whose end the invariants are looked at or not.
+    fn body(&mut self, alloc: Global, node: &'a Body, checks: bool) -> Result<(), AllocError>
+        ensures { Leads (spec.body (layer_seen self.old) (body_view node.now) checks) (layer_seen self.new) result }
     {
-        let list = self.list(alloc, &node.statements)?;
+        let end = self.end_of_body(alloc, checks)?;
+        let list = self.list(alloc, &node.statements, end)?;
         self.add_routine(alloc, list)
+    }
+
+    // The items at the end of a body.
+    fn end_of_body(&mut self, alloc: Global, checks: bool) -> Result<Option<usize>, AllocError>
+        ensures { Lays (λ o. o) (spec.end_of_body (layer_seen self.old) checks) (layer_seen self.new) result }
+    {
+        if checks {
+            self.check(alloc, 0)?;
+        }
+        self.settle(alloc, None)
     }
 
     // The initial statement of a system type or of the program, whose name is empty.
@@ -224,7 +236,7 @@ impl<'a> Layouter<'a> {
             parameters,
             result: None,
         })?;
-        self.body(alloc, node)
+        self.body(alloc, node, true)
     }
 
     #[tactic(auto, unfolding(crate::specs::Layers::layer_seen))]

@@ -41,6 +41,11 @@ impl<'a> Layouter<'a> {
                     result: Some(FunctionResult { slot, value_type }),
                 })
             }
+            RoutineKind::Invariants => Ok(HeadingLayout {
+                name,
+                parameters: Vec::new(alloc),
+                result: None,
+            }),
         }
     }
 

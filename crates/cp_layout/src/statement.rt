@@ -12,11 +12,11 @@ use crate::expression::byte_or;
 use crate::layer::Layouter;
 use crate::surroundings::Surroundings;
 use crate::value::{Designated, Value, ordinal, place_at, place_of, set_expression};
-use cp_slots::{Action, ComponentPlace, Place, PlaceOrigin, ResolvedArm, ShownKind};
-use cp_symbols::{CellBase, CellType, PredeclaredRoutine, values_of};
+use cp_slots::{Action, ComponentPlace, Place, PlaceOrigin, ResolvedArm, Said, ShownKind};
+use cp_symbols::{CellBase, CellType, LayoutMeaning, PredeclaredRoutine, values_of};
 use cp_tree::{
-    Arm as WrittenArm, Designator, Direction, Expression as Written, Identifier, Start, Statement,
-    StatementKind,
+    Arm as WrittenArm, AssertionKind, Designator, Direction, Expression as Written, Identifier,
+    NAMELESS, Start, Statement, StatementKind,
 };
 use std::alloc::{AllocError, Global};
 
@@ -58,13 +58,18 @@ fn component_place_of(named: Designated) -> Option<(ComponentPlace, usize)>
 }
 
 impl<'a> Layouter<'a> {
-    /// The items of a list, and the first of them.
+    /// The items of a list, before those that begin at `after`, and the first of them.
     #[cycle(statement)]
     #[tactic(auto, using(crate::proofs::LaidLists::statements_step, crate::proofs::LaidLists::statements_none))]
-    pub fn list(&mut self, alloc: Global, nodes: &[Statement]) -> Result<Option<usize>, AllocError>
-        ensures { Lays (λ o. o) (spec.statements (layer_seen self.old) (statements_of (statements_view nodes.now))) (layer_seen self.new) result }
+    pub fn list(
+        &mut self,
+        alloc: Global,
+        nodes: &[Statement],
+        after: Option<usize>,
+    ) -> Result<Option<usize>, AllocError>
+        ensures { Lays (λ o. o) (spec.statements (layer_seen self.old) (statements_of (statements_view nodes.now)) after) (layer_seen self.new) result }
     {
-        let mut next = None;
+        let mut next = after;
         let mut left = nodes.len();
         while 0 < left {
             left -= 1;
@@ -75,7 +80,7 @@ impl<'a> Layouter<'a> {
 
     // The items of a statement, before those that begin at `next`.
     #[cycle(statement)]
-    #[tactic(auto, unfolding(crate::specs::LaidStatements::statement))]
+    #[tactic(auto, using(crate::proofs::LaidLists::asserted_laid), unfolding(crate::specs::LaidStatements::statement))]
     fn statement(
         &mut self,
         alloc: Global,
@@ -90,7 +95,7 @@ impl<'a> Layouter<'a> {
             StatementKind::Assign(target, value) => self.assign(alloc, at, target, value, next),
             StatementKind::Call(name, arguments) => self.call(alloc, at, name, arguments, next),
             StatementKind::Block(list) => {
-                let list = self.list(alloc, list)?;
+                let list = self.list(alloc, list, None)?;
                 self.block(alloc, at, list, next)
             }
             StatementKind::If(test, then, None) => {
@@ -111,7 +116,7 @@ impl<'a> Layouter<'a> {
                 self.while_item(alloc, at, test, body, next)
             }
             StatementKind::Repeat(list, test) => {
-                let body = self.list(alloc, list)?;
+                let body = self.list(alloc, list, None)?;
                 self.repeat(alloc, at, body, test, next)
             }
             StatementKind::For(name, from, direction, to, body) => {
@@ -119,11 +124,51 @@ impl<'a> Layouter<'a> {
                 self.for_item(alloc, at, name, from, *direction, to, body, next)
             }
             StatementKind::Cycle(list) => {
-                let list = self.list(alloc, list)?;
+                let list = self.list(alloc, list, None)?;
                 self.cycle_item(alloc, at, list, next)
             }
             StatementKind::Init(starts) => self.starts(alloc, starts, next),
+            StatementKind::Asserted(kind, tests, inner) => {
+                let first = self.statement(alloc, inner, next)?;
+                self.assertions(alloc, *kind, tests, first)
+            }
         }
+    }
+
+    // What is said before a statement, whose items begin at `next`.
+    #[tactic(auto, using(crate::proofs::LaidLists::assertions_step, crate::proofs::LaidLists::assertions_none))]
+    fn assertions(
+        &mut self,
+        alloc: Global,
+        kind: AssertionKind,
+        nodes: &[Written],
+        next: Option<usize>,
+    ) -> Result<Option<usize>, AllocError>
+        ensures { Lays (λ o. o) (spec.assertions (layer_seen self.old) kind (expressions_view nodes.now) next) (layer_seen self.new) result }
+    {
+        let mut first = next;
+        let mut left = nodes.len();
+        while 0 < left {
+            left -= 1;
+            first = self.assertion(alloc, kind, &nodes[left], first)?;
+        }
+        Ok(first)
+    }
+
+    #[tactic(auto, unfolding(crate::specs::LaidStatements::assertion))]
+    fn assertion(
+        &mut self,
+        alloc: Global,
+        kind: AssertionKind,
+        node: &Written,
+        next: Option<usize>,
+    ) -> Result<Option<usize>, AllocError>
+        ensures { Lays (λ o. o) (settled (spec.assertion (layer_seen self.old) (token_of (expression_view node.now)) kind (expression_view node.now)) next) (layer_seen self.new) result }
+    {
+        let at = node.at;
+        let test = ordinal(self.expression(alloc, node)?);
+        let said = said_of(kind);
+        self.finish(alloc, at, Action::Assert { test, said }, 0, next)
     }
 
     #[cycle(statement)]
@@ -268,7 +313,23 @@ impl<'a> Layouter<'a> {
         ensures { Leads (spec.standard (layer_seen self.old) at routine (expressions_of (expressions_view nodes.now))) (layer_seen self.new) result }
     {
         let value = self.first_value(alloc, nodes)?;
+        if waits(routine) {
+            self.check(alloc, at)?;
+        }
         self.add(at, standard_action(alloc, routine, value), 0)
+    }
+
+    /// A call of the invariants of the block, where it has some.
+    #[tactic(auto, unfolding(crate::specs::LaidStatements::checked, crate::specs::Layers::layer_seen))]
+    pub fn check(&mut self, alloc: Global, at: usize) -> Result<(), AllocError>
+        ensures { Leads (spec.checked (layer_seen self.old) at) (layer_seen self.new) result }
+    {
+        match self.around.names.look(NAMELESS) {
+            Some(LayoutMeaning::Routine(routine)) => {
+                self.invoke(alloc, at, ComponentPlace::Own, false, routine, &[])
+            }
+            _ => Ok(()),
+        }
     }
 
     #[tactic(auto, unfolding(crate::specs::Layers::layer_seen))]
@@ -551,6 +612,26 @@ fn bounds_of(value_type: CellType) -> (i16, i16)
         CellType::Ordinal(range) => (range.low, range.high),
         _ => (i16::MIN, i16::MAX),
     }
+}
+
+// What an annotation speaks of.
+fn said_of(kind: AssertionKind) -> Said
+    ensures { result ≡ spec.said_of kind }
+{
+    match kind {
+        AssertionKind::Assertion => Said::Assertion,
+        AssertionKind::Invariant => Said::Invariant,
+    }
+}
+
+// Whether the invariants are looked at before it.
+fn waits(routine: PredeclaredRoutine) -> bool
+    ensures { result ≡ spec.waits routine }
+{
+    matches!(
+        routine,
+        PredeclaredRoutine::Delay | PredeclaredRoutine::Continue
+    )
 }
 
 fn is_down(direction: Direction) -> bool

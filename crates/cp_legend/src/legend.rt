@@ -1,6 +1,8 @@
 //! The legend of a program: what its numbers are called in the source.
 
 ghost use Rattle.std.specs.Prelude.{◌≡◌, map, option_map, slice_get, IfOk};
+ghost use Rattle.std.specs.Str.{bytes_eq};
+ghost use Rattle.cp_tree.specs.Syntax.{nameless};
 ghost use Rattle.cp_legend.specs.Names as spec;
 ghost use Rattle.cp_legend.specs.Names.{IsLegendOf, component_seen, routine_names_seen, source_seen, system_seen};
 
@@ -9,7 +11,7 @@ use crate::sorting::{all_permanents, all_routines, all_systems};
 use crate::types::LegendTypes;
 use cp_slots::{ComponentKind, Resolved};
 use cp_symbols::{CellType, Symbols};
-use cp_tree::SystemKind;
+use cp_tree::{NAMELESS, SystemKind};
 use std::alloc::{AllocError, Global};
 
 /// A variable, by its first cell.
@@ -170,6 +172,13 @@ impl Legend {
         self.routines
             .get(routine)
             .map_or("", |routine| routine.name.as_str())
+    }
+
+    /// Whether a routine has no name, since it says the invariants of a block.
+    pub fn is_nameless(&self, routine: usize) -> bool
+        ensures { result ≡ bytes_eq (spec.name_of_routine (slice_get (map routine_names_seen self.now.routines.items) routine)) nameless }
+    {
+        self.routine_name(routine) == NAMELESS
     }
 
     fn type_name(&self, system: usize) -> &str

@@ -25,7 +25,7 @@ use Rattle.cp_resolved.specs.Fit.{nothing_declared}
 use Rattle.cp_resolved.specs.Openings.{Opening, definition_openings, definitions_openings, initial_opening, openings_of, part_openings, parts_openings, parts_scope, routine_openings, with_routine}
 use Rattle.cp_resolved.proofs.laid.Declaring.{TypeSteps, SystemSteps, plain_types, type_leads, constants_lead, permanent_parts_lead, system_groups_lead, variables_lead}
 use Rattle.cp_resolved.proofs.laid.Extends.{Extends, Longer, body_extends, initial_extends, longer_trans, program_parts_extend, routine_names, routines_extend, system_definitions_extend, system_names}
-use Rattle.cp_resolved.proofs.laid.Grown.{statements_grew}
+use Rattle.cp_resolved.proofs.laid.Grown.{body_grew}
 use Rattle.cp_resolved.proofs.names.EntriesKnown.{begun_headings, heading_of}
 use Rattle.cp_resolved.proofs.names.PermanentNames.{found_cases}
 use Rattle.cp_resolved.proofs.names.StepsOfRoutines.{body_count, routine_count}
@@ -206,7 +206,7 @@ spans_systems = record { still = λ l m t h i. tt; permanent = λ l x t o i n. p
 
 -- its name, and what it notes after it
 routine_notes : (l : Layer) (r : syntax.Routine) → (routine l r).noted ≡ (l.noted ++ note l r.name.name (meaning.Routine (length l.routines)) ∷ []) ++ (routine_inner l r).names
-routine_notes l r = ap (λ (j : Layer). j.noted) (statements_grew (routine_begun l r) r.body.statements).1 ∙ (routine_inner l r).noted
+routine_notes l r = ap (λ (j : Layer). j.noted) (body_grew (routine_begun l r) r.body.statements r.is_entry).1 ∙ (routine_inner l r).noted
 
 routine_spans : (l : Layer) (r : syntax.Routine) → Spans l (routine l r)
 routine_spans l r =
@@ -231,18 +231,18 @@ routines_span l [] = spans_same l l refl refl refl
 routines_span l (r ∷ rs) = spans_trans l (routine l r) (routines (routine l r) rs) (routine_spans l r) (routines_span (routine l r) rs)
 
 initial_notes : (l : Layer) (ps : Parameters) (b : syntax.Body) → (initial_statement l ps b).noted ≡ l.noted
-initial_notes l ps b = ap (λ (j : Layer). j.noted) (statements_grew (initial_begun l ps) b.statements).1
+initial_notes l ps b = ap (λ (j : Layer). j.noted) (body_grew (initial_begun l ps) b.statements true).1
 
 initial_spans : (l : Layer) (ps : Parameters) (b : syntax.Body) → Spans l (initial_statement l ps b)
 initial_spans l ps b =
     let m : Layer = initial_statement l ps b in
-    let count : length m.routines ≡ suc (length l.routines) = body_count (initial_begun l ps) b in
+    let count : length m.routines ≡ suc (length l.routines) = body_count (initial_begun l ps) b true in
     record {
       names = [];
       noted = initial_notes l ps b ∙ sym (append-nil l.noted);
       count = omega (arith, count);
       within = tt;
-      clear = λ h. subst AreNone (sym (ap (λ (j : Layer). j.names) (statements_grew (initial_begun l ps) b.statements).1)) h;
+      clear = λ h. subst AreNone (sym (ap (λ (j : Layer). j.names) (body_grew (initial_begun l ps) b.statements true).1)) h;
     }
 
 -- ---- system types, and the program
@@ -367,7 +367,7 @@ module _ (end : Layer) where
       picked_both n ((l.noted ++ d ∷ []) ++ i.names) a.spans.names (held i.names) [] (picked_both n (l.noted ++ d ∷ []) i.names [] (held i.names) (picked_both n l.noted (d ∷ []) [] [] old (one_quiet n d refl)) mine) new in
       let same : held i.names ++ [] ≡ x.first ++ x.second = append-nil (held i.names) ∙ x.are in
       let number : n ≡ length k.routines = sym (ap (λ rs. length rs) i.routines) in
-      let e : Extends k (body k r.body) = body_extends k r.body in
+      let e : Extends k (body k r.body r.is_entry) = body_extends k r.body r.is_entry in
       record {
         first = x.first;
         second = x.second;
@@ -401,11 +401,11 @@ module _ (end : Layer) where
       let k : Layer = initial_begun l ps in
       let z : Layer = initial_statement l ps body_of in
       let n : ℕ = length l.routines in
-      let count : length z.routines ≡ suc n = body_count k body_of in
+      let count : length z.routines ≡ suc n = body_count k body_of true in
       let all : end.noted ≡ l.noted ++ a.spans.names = a.spans.noted ∙ ap (λ (ds : List Noted). ds ++ a.spans.names) (initial_notes l ps body_of) in
       let old : Picked n l.noted [] = picked_none n l.noted (each_map (IsWithin 0 n) (IsOther n) l.noted (earlier n) b.notes) in
       let new : Picked n a.spans.names [] = picked_none n a.spans.names (each_map (IsWithin (length z.routines) (length end.routines)) (IsOther n) a.spans.names (λ e f. later n (length z.routines) (length end.routines) e (omega (arith, count)) f) a.spans.within) in
-      let e : Extends k z = body_extends k body_of in
+      let e : Extends k z = body_extends k body_of true in
       record {
         first = [];
         second = [];

@@ -316,6 +316,7 @@ heading_takes l s x (syntax.function gs i) =
     let long = a.takes.1 in
     let all : Lists l h.1 a.parameters = subst (λ (qs : List Parameter). Lists l h.1 qs) (append-nil a.parameters) (lists_trans l p.1 h.1 a.parameters [] a.takes.0 (quiet_same p.1 h.1 refl)) in
     subst (λ (qs : List Parameter). Lists l h.1 qs × (length p.0 ≡ length qs)) (sym a.is) (all, omega (arith, long))
+heading_takes l s x syntax.invariants = ((takes_none l []).0, refl)
 
 -- ---- a function has no `var` parameters
 
@@ -339,6 +340,7 @@ groups_valued j (g ∷ gs) h =
 kind_valued : (s : Scope) (r : syntax.RoutineKind) → AreValuesIf (meant.result_of (meant.heading_of s r).scope r) (meant.heading_of s r).parameters
 kind_valued s (syntax.procedure gs) = tt
 kind_valued s (syntax.function gs i) = groups_valued (record { parameters = []; scope = s }) gs tt
+kind_valued s syntax.invariants = tt
 
 -- ---- a routine
 

@@ -229,7 +229,7 @@ module _ (k : Numbering) where
   routines_gain l rs = gains_nothing l (routines l rs) (routines_note l rs) (ap (λ o. o.contained) (routines_owned l rs))
 
   pub initial_gains : (l : Layer) (ps : Parameters) (b : syntax.Body) → Gains l (initial_statement l ps b) []
-  initial_gains l ps b = gains_nothing l (initial_statement l ps b) (initial_notes l ps b) (ap (λ o. o.contained) (body_owned (with_heading (with_new_frame l) (heading_with [] ps None)) b))
+  initial_gains l ps b = gains_nothing l (initial_statement l ps b) (initial_notes l ps b) (ap (λ o. o.contained) (body_owned (with_heading (with_new_frame l) (heading_with [] ps None)) b true))
 
   -- from its parameters to its initial statement
   pub system_gains : (l : Layer) (s : Scope) (d : syntax.System) → Each IsSmallPart d.parts → AreParameters (record { parameters = []; scope = scopes.seen_inside s }) d.parameters → AreOuter s → AreNumbered k.firsts (length l.constants) (each_in in_part d.parts) → InStep k l.types l.names s →

@@ -1,5 +1,5 @@
 -- The headings that are laid out of a tree have the names of its routines, in the order in which the tables number them.
-use Rattle.std.proofs.Common.{◌≡◌, ℕ, zero, suc, ◌+◌, ◌<◌, List, [], ◌∷◌, ◌++◌, length, map, Option, Some, None, slice_get, refl, sym, ap, ◌∙◌, append_assoc, append-nil, arith}
+use Rattle.std.proofs.Common.{true, ◌≡◌, ℕ, zero, suc, ◌+◌, ◌<◌, List, [], ◌∷◌, ◌++◌, length, map, Option, Some, None, slice_get, refl, sym, ap, ◌∙◌, append_assoc, append-nil, arith}
 use Rattle.std.specs.Prelude.{slice_index_or}
 use Rattle.cp_legend_laws.proofs.Words.{map-append, Tree, Layer, nothing_laid, Numbering}
 use Rattle.cp_tree.specs.Syntax as syntax
@@ -22,7 +22,7 @@ use Rattle.cp_resolved.proofs.Resolving.{resolving_law}
 use Rattle.cp_resolved.proofs.counts.RoutinesCounted.{all_many}
 use Rattle.cp_resolved.proofs.declarations.Plain.{plain_law}
 use Rattle.cp_resolved.proofs.laid.Declares.{type_declares, constants_declare, variables_declare, permanent_parts_declare, system_groups_declare}
-use Rattle.cp_resolved.proofs.laid.Grown.{statements_grew}
+use Rattle.cp_resolved.proofs.laid.Grown.{body_grew}
 use Rattle.cp_resolved.proofs.names.EntriesKnown.{heading_of, routine_headings, headings_named}
 use Rattle.cp_resolved.proofs.names.Opened.{opened_all}
 use Rattle.cp_legend_laws.specs.Statements.{RoutinesLaw, routine_text}
@@ -64,7 +64,7 @@ routines_add l owner s (r ∷ rs) =
 initial_adds : (l : Layer) (ps : Parameters) (b : syntax.Body) (owner : ℕ) (m : SystemMeaning) → Adds l (initial_statement l ps b) (initial_opening owner m ∷ [])
 initial_adds l ps b owner m =
     let k : Layer = with_heading (with_new_frame l) (heading_with [] ps None) in
-    ap (λ (j : Layer). names_of j) (statements_grew k b.statements).1 ∙ map-append (λ (h : Heading). h.name) l.headings (heading_with [] ps None ∷ [])
+    ap (λ (j : Layer). names_of j) (body_grew k b.statements true).1 ∙ map-append (λ (h : Heading). h.name) l.headings (heading_with [] ps None ∷ [])
 
 -- ---- system types
 

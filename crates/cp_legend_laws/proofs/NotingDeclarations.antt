@@ -162,6 +162,7 @@ heading_notes l x (syntax.procedure gs) = parameter_groups_note l [] gs
 heading_notes l x (syntax.function gs i) =
     let p : Parameters × Layer = constant_groups l [] gs in
     noting_trans l p.1 (heading l x (syntax.function gs i)).1 (constant_groups_note l [] gs) (noting_same p.1 (heading l x (syntax.function gs i)).1 refl refl refl refl refl)
+heading_notes l x syntax.invariants = noting_none l
 
 -- ---- parameters of a system type
 

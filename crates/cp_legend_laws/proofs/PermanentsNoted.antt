@@ -232,7 +232,7 @@ module _ (k : Numbering) where
   routines_gain l rs = gains_nothing l (routines l rs) (routines_note l rs) (routines_quiet l rs) (ap (λ o. o.cells) (routines_owned l rs))
 
   pub initial_gains : (l : Layer) (ps : Parameters) (b : syntax.Body) → Gains l (initial_statement l ps b) []
-  initial_gains l ps b = gains_nothing l (initial_statement l ps b) (initial_notes l ps b) (initial_quiet l ps b) (ap (λ o. o.cells) (body_owned (with_heading (with_new_frame l) (heading_with [] ps None)) b))
+  initial_gains l ps b = gains_nothing l (initial_statement l ps b) (initial_notes l ps b) (initial_quiet l ps b) (ap (λ o. o.cells) (body_owned (with_heading (with_new_frame l) (heading_with [] ps None)) b true))
 
   -- ---- parameters of a system type
 

@@ -1,5 +1,5 @@
 -- What declarations of constants and types, routines and initial statements note is no permanent variable.
-use Rattle.std.proofs.Common.{◌≡◌, ℕ, List, [], ◌∷◌, ◌++◌, length, None, refl, sym, ap, ◌∙◌, append_assoc, append-nil}
+use Rattle.std.proofs.Common.{Bool, true, ◌≡◌, ℕ, List, [], ◌∷◌, ◌++◌, length, None, refl, sym, ap, ◌∙◌, append_assoc, append-nil}
 use Rattle.cp_legend_laws.proofs.Words.{LayoutMeaning, Noted, Layer}
 use Rattle.cp_tree.specs.Syntax as syntax
 use Rattle.cp_slots.specs.declared.place.PlaceOrigin.TheVariants as origin
@@ -9,7 +9,7 @@ use Rattle.cp_layout.specs.LaidTypes.{with_constant, written_type}
 use Rattle.cp_layout.specs.LaidDeclarations.{Parameters, body, constants, heading, heading_with, initial_statement, local, local_parts, opened, routine, routines, type_definitions, var_parameter, with_heading, with_local, with_new_frame}
 use Rattle.cp_legend.specs.Names.{Variable, permanent_meant}
 use Rattle.cp_resolved.proofs.laid.Declaring.{TypeSteps, FrameSteps, plain_types, type_leads, constants_lead, definitions_lead, local_parts_lead, heading_leads}
-use Rattle.cp_resolved.proofs.laid.Grown.{statements_grew}
+use Rattle.cp_resolved.proofs.laid.Grown.{body_grew}
 use Rattle.cp_legend_laws.proofs.Noting.{note}
 
 -- ---- the permanent variables among names
@@ -67,13 +67,13 @@ definitions_quiet l ds = definitions_lead quiet_types l ds tt
 
 -- ---- routines and initial statements
 
-body_quiet : (l : Layer) (b : syntax.Body) → Quiet l (body l b)
-body_quiet l b = quiet_same l (body l b) (ap (λ (j : Layer). j.noted) (statements_grew l b.statements).1)
+body_quiet : (l : Layer) (b : syntax.Body) (checks : Bool) → Quiet l (body l b checks)
+body_quiet l b checks = quiet_same l (body l b checks) (ap (λ (j : Layer). j.noted) (body_grew l b.statements checks).1)
 
 pub initial_quiet : (l : Layer) (ps : Parameters) (b : syntax.Body) → Quiet l (initial_statement l ps b)
 initial_quiet l ps b =
     let k : Layer = with_heading (with_new_frame l) (heading_with [] ps None) in
-    quiet_trans l k (initial_statement l ps b) (quiet_same l k refl) (body_quiet k b)
+    quiet_trans l k (initial_statement l ps b) (quiet_same l k refl) (body_quiet k b true)
 
 routine_quiet : (l : Layer) (r : syntax.Routine) → Quiet l (routine l r)
 routine_quiet l r =
@@ -81,10 +81,10 @@ routine_quiet l r =
     let h : Heading × Layer = heading x r.name.name r.kind in
     let k : Layer = with_heading h.1 h.0 in
     let p : Layer = local_parts k r.parts in
-    let b : Layer = body p r.body in
+    let b : Layer = body p r.body r.is_entry in
     let a : Quiet l h.1 = quiet_trans l x h.1 (quiet_note l x r.name.name (meaning.Routine (length l.routines)) refl refl) (heading_leads quiet_types quiet_frames x r.name.name r.kind tt) in
     let c : Quiet h.1 p = quiet_trans h.1 k p (quiet_same h.1 k refl) (local_parts_lead quiet_types quiet_frames k r.parts tt) in
-    quiet_trans l b (routine l r) (quiet_trans l p b (quiet_trans l h.1 p a c) (body_quiet p r.body)) (quiet_same b (routine l r) refl)
+    quiet_trans l b (routine l r) (quiet_trans l p b (quiet_trans l h.1 p a c) (body_quiet p r.body r.is_entry)) (quiet_same b (routine l r) refl)
 
 pub routines_quiet : (l : Layer) (rs : List syntax.Routine) → Quiet l (routines l rs)
 unfolding routines

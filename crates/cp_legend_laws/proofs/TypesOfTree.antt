@@ -1,13 +1,13 @@
 -- In a program that was read, each record type has a field, and the constants of the enumerations in all types are known.
-use Rattle.std.proofs.Common.{◌≡◌, ℕ, List, [], ◌∷◌, length, sym, subst, ◌∙◌}
+use Rattle.std.proofs.Common.{Bool, true, false, ◌≡◌, ℕ, List, [], ◌∷◌, length, sym, subst, ◌∙◌}
 use Rattle.cp_legend_laws.proofs.Words.{Name, Tree, names_of, Each}
 use Rattle.cp_text.specs.declared.token.Kind.{Kind}
 use Rattle.cp_text.specs.declared.token.Kind.TheVariants as kind
 use Rattle.cp_text.specs.declared.token.Mark.TheVariants as mark
 use Rattle.cp_tree.specs.Read.{IsRead}
 use Rattle.cp_tree.specs.Syntax as syntax
-use Rattle.cp_tree.specs.Spelling.{put_optional, put_all, put_type, put_more_field_groups, put_type_definition, put_variable_group, put_part, put_body, put_routine, put_system_definition, put_program_part, spell}
-use Rattle.cp_tree.specs.SpellingIndexed.{AreAllIndexed, AreSomeIndexed, IsIndexedSimple, IsIndexedType, AreIndexedFieldGroups, AreIndexedMoreFieldGroups, IsIndexedFieldGroup, IsIndexedTypeDefinition, IsIndexedVariableGroup, IsIndexedPart, IsIndexedRoutine, IsIndexedSystem, IsIndexedDefinition, IsIndexedSystemDefinition, IsIndexedProgramPart, IsIndexedProgram}
+use Rattle.cp_tree.specs.Spelling.{is_nameless, put_optional, put_all, put_type, put_more_field_groups, put_type_definition, put_variable_group, put_part, put_body, put_routine, put_system_definition, put_program_part, spell}
+use Rattle.cp_tree.specs.SpellingIndexed.{IsIndexedRoutineBy, AreAllIndexed, AreSomeIndexed, IsIndexedSimple, IsIndexedType, AreIndexedFieldGroups, AreIndexedMoreFieldGroups, IsIndexedFieldGroup, IsIndexedTypeDefinition, IsIndexedVariableGroup, IsIndexedPart, IsIndexedRoutine, IsIndexedSystem, IsIndexedDefinition, IsIndexedSystemDefinition, IsIndexedProgramPart, IsIndexedProgram}
 use Rattle.cp_symbols.specs.declared.symbols.Symbols as code_symbols
 use Rattle.cp_layout.specs.Laid.{laid, whole, tables_laid}
 use Rattle.cp_layout.specs.Symbols.{AreSymbolsOf}
@@ -132,8 +132,12 @@ module _ (cs : List Name) (firsts : ℕ → ℕ) where
     part_fits (syntax.types at ds) rest h e = some_fit put_type_definition (IsIndexedTypeDefinition total) (λ (d : syntax.TypeDefinition). in_type d.value) (λ (d : syntax.TypeDefinition). TypeFits Fit d.value) definition_fits ds rest h.1 e
     part_fits (syntax.variables at gs) rest h e = some_fit put_variable_group (IsIndexedVariableGroup total) (λ (g : syntax.VariableGroup). in_type g.variable_type) (λ (g : syntax.VariableGroup). TypeFits Fit g.variable_type) variables_fit gs rest h.1 e
 
+    routine_fits_by : (b : Bool) (r : syntax.Routine) (rest : List Kind) → IsIndexedRoutineBy total b r rest → Each Named (in_routine r) → RoutineFits Fit r
+    routine_fits_by true r rest h e = subst (λ (ps : List syntax.Part). Each (PartFits Fit) ps) (sym h.no_parts) tt
+    routine_fits_by false r rest h e = all_fit put_part (IsIndexedPart total) in_part (PartFits Fit) part_fits r.parts (put_body r.body (kind.Mark mark.Semicolon ∷ rest)) h.3 e
+
     routine_fits : Fits (IsIndexedRoutine total) in_routine (RoutineFits Fit)
-    routine_fits r rest h e = all_fit put_part (IsIndexedPart total) in_part (PartFits Fit) part_fits r.parts (put_body r.body (kind.Mark mark.Semicolon ∷ rest)) h.3 e
+    routine_fits r rest h e = routine_fits_by (is_nameless r.kind) r rest h e
 
     system_fits : Fits (IsIndexedSystem total) in_system (SystemFits Fit)
     system_fits s rest h e = (

@@ -267,10 +267,12 @@ module _ (B : Base → Type 0) (T : Ty → Type 0) (rules : TypeRules B T) where
   heading_has : (s : Scope) (k : syntax.RoutineKind) → ScopeHas s → HeadingHas (heading_of s k)
   heading_has s (syntax.procedure gs) h = with_parameters_have (record { parameters = []; scope = s }) gs (tt, h)
   heading_has s (syntax.function gs i) h = with_groups_have local_variable (λ t. tt) (record { parameters = []; scope = s }) gs (tt, h)
+  heading_has s syntax.invariants h = (tt, h)
 
   result_has : (s : Scope) (k : syntax.RoutineKind) → ScopeHas s → ResultHas T (result_of s k)
   result_has s (syntax.procedure gs) h = tt
   result_has s (syntax.function gs i) h = named_has i.name s h
+  result_has s syntax.invariants h = tt
 
   routine_has : (s : Scope) (r : syntax.Routine) → RoutineFits B r → ScopeHas s → RoutineHas T (routine_in s r)
   routine_has s r e h =

@@ -11,7 +11,8 @@ use Rattle.cp_machine.specs.declared.event.Kernel.TheVariants.{Delay}
 use Rattle.cp_machine.specs.contracts.state.Phase.{the_type as phase_type}
 use Rattle.cp_machine.specs.Calls.{call, called, called_by, called_in, continue, continue_at, delay, delay_at, delayed_in, opened, start, start_inside, started}
 use Rattle.cp_machine.specs.Machine.{Machine, Thread, is_initialised, is_uninitialised, machine_of, monitor_of, phase_at, thread_at, thread_of, with_phase, with_stack}
-use Rattle.cp_machine.specs.Statements.{Stepped, arm_for, branch, case_of, fault, local, until, while_do, with_value}
+use Rattle.cp_slots.specs.declared.item.Said.{Said}
+use Rattle.cp_machine.specs.Statements.{Stepped, arm_for, assert_that, branch, broken, case_of, fault, local, until, while_do, with_value}
 
 -- ---- a value, or its run error
 
@@ -68,6 +69,13 @@ module _ (m : Machine) (pid line : ℕ) (test : OrdinalExpression) (list other :
 
   pub branch_goes : (v : ℤ) (b : Bool) → value_of m pid test ≡ Ok v → is_true v ≡ b → branch m pid line test list other rest ≡ local (with_stack m pid (rest_of (if b then list else other) rest))
   branch_goes v b e is = value_goes (fault m pid line) (λ v. local (with_stack m pid (rest_of (if is_true v then list else other) rest))) e ∙ ap (λ b. local (with_stack m pid (rest_of (if b then list else other) rest))) is
+
+module _ (m : Machine) (pid line : ℕ) (test : OrdinalExpression) (said : Said) (rest : List Entry) where
+  pub assert_fails : (x : ErrorName) → value_of m pid test ≡ Err x → assert_that m pid line test said rest ≡ fault m pid line x
+  assert_fails x e = value_fails (fault m pid line) (λ v. if is_true v then local (with_stack m pid rest) else fault m pid line (broken said)) e
+
+  pub assert_goes : (v : ℤ) (b : Bool) → value_of m pid test ≡ Ok v → is_true v ≡ b → assert_that m pid line test said rest ≡ (if b then local (with_stack m pid rest) else fault m pid line (broken said))
+  assert_goes v b e is = value_goes (fault m pid line) (λ v. if is_true v then local (with_stack m pid rest) else fault m pid line (broken said)) e ∙ ap (λ b. if b then local (with_stack m pid rest) else fault m pid line (broken said)) is
 
 module _ (m : Machine) (pid line : ℕ) (test : OrdinalExpression) (list : Option ℕ) (again : ℕ) (next : Option ℕ) (es : List Entry) where
   pub while_fails : (x : ErrorName) → value_of m pid test ≡ Err x → while_do m pid line test list again next es ≡ fault m pid line x

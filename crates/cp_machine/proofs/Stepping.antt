@@ -4,7 +4,7 @@ use Rattle.std.proofs.Common.{◌≡◌, ℕ, List, [], ◌∷◌, ◌++◌, len
 use Rattle.cp_machine.proofs.Words.{ℤ, pos, slice_index_or, ◌==◌, int_eq, Tables, item_at, component_at, Action, Item, Argument, ComponentKind, Bound, ErrorName, Address}
 use Rattle.cp_machine.proofs.Words.{Frame, is_true, ranged, Event, Kernel, Entry, Rest, Successor, Return, InitEnd, Ready, Ended, Phase, Initialised, MOST_SHOWN, rest_of}
 use Rattle.cp_machine.proofs.Words.{from_end, Stepped, local, fault, with_value, arm_for, is_beyond, next_value, succeeded, act, take_top, step_at, Assign, AssignSet}
-use Rattle.cp_machine.proofs.Words.{Copy, If, Case, While, Until, For, Call, Start, Delay, Continue, Display, Shown, let_in, entered, delayed, continued, Machine, Thread}
+use Rattle.cp_machine.proofs.Words.{Copy, If, Case, Assert, While, Until, For, Call, Start, Delay, Continue, Display, Shown, let_in, entered, delayed, continued, Machine, Thread}
 use Rattle.cp_machine.proofs.Words.{thread_at, phase_at, is_initialised, is_uninitialised, is_unstarted, with_thread, with_stack, with_status, with_permanents}
 use Rattle.cp_machine.proofs.Words.{with_phase, with_output, value_of, set_of, address_of, component_of, arguments_of, parameters_bound}
 use Rattle.cp_slots.specs.declared.tables.ComponentKind.TheVariants as kind
@@ -147,6 +147,7 @@ module _ (r : Tables) (m : Machine) (pid : ℕ) (o : List Shown) (S : Stepped �
     act_both at item (Case selector arms) es =
         evaluated item.line (value_of m pid selector) (λ v.
         evaluated item.line (arm_for v arms.items) (λ list. going _))
+    act_both at item (Assert test said) es = evaluated item.line (value_of m pid test) (λ v. either_both (is_true v) (λ is. going _) (w.fails _))
     act_both at item (While test list again) es = evaluated item.line (value_of m pid test) (λ v. going _)
     act_both at item (Until test list again) es = evaluated item.line (value_of m pid test) (λ v. going _)
     act_both at item (For variable low high first last down list) es =

@@ -12,7 +12,7 @@ pub use Rattle.cp_slots.specs.Inside.{SET_CELLS, action_inside, arguments_inside
 pub use Rattle.cp_slots.specs.Systems.{ActionNames, Hands, HandsOne, IsItself, IsOf, IsTyped, Names, own_of, parameter_count}
 pub use Rattle.cp_slots.specs.Tables.{RoutineView, Tables, component_at, item_at, no_process, parameter_at, process_at, routine_at, system_at}
 pub use Rattle.cp_slots.specs.declared.item.Action.{Action}
-pub use Rattle.cp_slots.specs.declared.item.Action.TheVariants.{Assign, AssignSet, Block, Call, Case, Continue, Copy, Cycle, Delay, Display, Empty, For, If, Start, Until}
+pub use Rattle.cp_slots.specs.declared.item.Action.TheVariants.{Assert, Assign, AssignSet, Block, Call, Case, Continue, Copy, Cycle, Delay, Display, Empty, For, If, Start, Until}
 pub use Rattle.cp_slots.specs.declared.item.Action.TheVariants.{While}
 pub use Rattle.cp_slots.specs.declared.item.Item.{Item}
 pub use Rattle.cp_slots.specs.declared.item.ResolvedArm.{ResolvedArm}

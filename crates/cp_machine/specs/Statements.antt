@@ -6,6 +6,8 @@ use Rattle.cp_slots.specs.declared.item.Action.{Action}
 use Rattle.cp_slots.specs.declared.item.Action.TheVariants.{For}
 use Rattle.cp_slots.specs.declared.item.ResolvedArm.{ResolvedArm}
 use Rattle.cp_slots.specs.declared.item.Item.{Item}
+use Rattle.cp_slots.specs.declared.item.Said.{Said}
+use Rattle.cp_slots.specs.declared.item.Said.TheVariants as said
 use Rattle.cp_slots.specs.declared.item.ShownKind.{ShownKind}
 use Rattle.cp_slots.specs.declared.item.ShownKind.TheVariants as kind
 use Rattle.cp_slots.specs.declared.place.OrdinalExpression.{OrdinalExpression}
@@ -13,7 +15,7 @@ use Rattle.cp_slots.specs.declared.place.PlaceOrigin.{PlaceOrigin}
 use Rattle.cp_slots.specs.declared.place.Place.{Place}
 use Rattle.cp_slots.specs.declared.place.SetExpression.{SetExpression}
 use Rattle.cp_store.specs.declared.error.ErrorName.{ErrorName}
-use Rattle.cp_store.specs.declared.error.ErrorName.TheVariants.{NoCase}
+use Rattle.cp_store.specs.declared.error.ErrorName.TheVariants.{NoCase, Assertion, Invariant}
 use Rattle.cp_store.specs.declared.memory.Address.{Address}
 use Rattle.cp_store.specs.declared.set.SetValue.{SetValue}
 use Rattle.cp_store.specs.Sets as sets
@@ -82,6 +84,20 @@ abbrev pub branch : Machine → (pid line : ℕ) → OrdinalExpression → (list
 branch m pid line test list other rest =
     with_value (value_of m pid test) (fault m pid line)
     (λ v. local (with_stack m pid (rest_of (if is_true v then list else other) rest)))
+
+-- ---- annotations
+
+-- the run error of what is false
+abbrev pub broken : Said → ErrorName
+broken said.Assertion = Assertion
+broken said.Invariant = Invariant
+
+abbrev pub assert_that : Machine → (pid line : ℕ) → OrdinalExpression → Said → List Entry → Stepped
+assert_that m pid line test said rest =
+    with_value (value_of m pid test) (fault m pid line)
+    (λ v. if is_true v then local (with_stack m pid rest) else fault m pid line (broken said))
+
+-- ---- arms
 
 abbrev pub has_label : ℤ → List ℤ → Bool
 has_label z labels = list_any (λ label. int_eq label z) labels

@@ -2,7 +2,7 @@
 use Rattle.std.specs.Prelude.{ℕ, ◌∷◌, [], List, Bool, true, false}
 use Rattle.cp_slots.specs.Tables.{Tables, item_at}
 use Rattle.cp_slots.specs.declared.item.Action.{Action}
-use Rattle.cp_slots.specs.declared.item.Action.TheVariants.{Empty, Assign, AssignSet, Copy, Block, If, Case, While, Until, For, Cycle, Call, Start, Delay, Continue, Display}
+use Rattle.cp_slots.specs.declared.item.Action.TheVariants.{Empty, Assign, AssignSet, Copy, Block, If, Case, Assert, While, Until, For, Cycle, Call, Start, Delay, Continue, Display}
 use Rattle.cp_slots.specs.declared.item.Item.{Item}
 use Rattle.cp_machine.specs.declared.event.Event.{Event}
 use Rattle.cp_machine.specs.declared.event.Event.TheVariants.{Local, Ended as Over, Fault, OutputFull}
@@ -12,7 +12,7 @@ use Rattle.cp_machine.specs.declared.process.Status.TheVariants.{Ended}
 use Rattle.cp_machine.specs.Calls.{call, start, delay, continue, returned, init_ended}
 use Rattle.cp_machine.specs.Machine.{Machine, thread_at, with_stack, with_status}
 use Rattle.cp_machine.specs.Stack.{rest_of}
-use Rattle.cp_machine.specs.Statements.{Stepped, local, assign, assign_set, copy, branch, case_of, while_do, until, for_do, succeeded, display}
+use Rattle.cp_machine.specs.Statements.{Stepped, local, assign, assign_set, copy, branch, case_of, assert_that, while_do, until, for_do, succeeded, display}
 
 -- an item is taken: `at` is its number, and `es` stands below it
 abbrev pub act : Tables → Machine → (pid at : ℕ) → Item → Action → List Entry → Stepped
@@ -28,6 +28,8 @@ act r m pid at item (Block list) es = local (with_stack m pid (rest_of list (res
 act r m pid at item (If test list other) es = branch m pid item.line test list other (rest_of item.next es)
 -- `case`: becomes the chosen arm; no label fits: run error no-case
 act r m pid at item (Case selector arms) es = case_of m pid item.line selector arms.items (rest_of item.next es)
+-- what is said: true: removed; false: a run error
+act r m pid at item (Assert test said) es = assert_that m pid item.line test said (rest_of item.next es)
 -- `while`: true: becomes the statement and itself; false: removed
 act r m pid at item (While test list again) es = while_do m pid item.line test list again item.next es
 -- until: true: removed; false: becomes the statements and itself

@@ -15,7 +15,7 @@ use crate::queue::{continue_with, delay};
 use crate::stack::{repeat, replace};
 use crate::start_component::start;
 use crate::state::State;
-use crate::statement::{assign, assign_set, branch, case_of, copy, display};
+use crate::statement::{assert_that, assign, assign_set, branch, case_of, copy, display};
 use cp_slots::{Action, Item, Resolved};
 
 /// Does what an item says, which is the topmost entry.
@@ -50,6 +50,7 @@ pub fn perform(
         Action::AssignSet { .. } | Action::Copy { .. } => perform_assignment(state, pid, item),
         Action::If { .. } => perform_choice(state, pid, item),
         Action::Case { .. } => perform_choice(state, pid, item),
+        Action::Assert { test, said } => assert_that(state, pid, item, test, *said),
         Action::While { test, body, again } => while_do(state, pid, item, test, *body, *again),
         Action::Until { test, body, again } => until(state, pid, item, test, *body, *again),
         Action::For { .. } => perform_for(state, pid, at, item),

@@ -14,7 +14,7 @@ use crate::memory::{address_of, put_cells, put_number, put_set, set_of, value_he
 use crate::shown::Shown;
 use crate::stack::replace;
 use crate::state::{MOST_SHOWN, State};
-use cp_slots::{Item, OrdinalExpression, Place, ResolvedArm, SetExpression, ShownKind};
+use cp_slots::{Item, OrdinalExpression, Place, ResolvedArm, Said, SetExpression, ShownKind};
 use cp_store::arithmetic::{check_range, is_true};
 use cp_store::set;
 
@@ -118,6 +118,39 @@ pub fn branch(
     } else {
         replace(state, pid, other, item.next);
     }
+    Ok(Event::Local)
+}
+
+// The run error of what is said and is false.
+fn broken(said: Said) -> ErrorName
+    ensures { result ≡ spec.broken said }
+{
+    match said {
+        Said::Assertion => ErrorName::Assertion,
+        Said::Invariant => ErrorName::Invariant,
+    }
+}
+
+/// What an annotation says: true: removed; false: a run error.
+#[inline(always)]
+pub fn assert_that(
+    state: &mut State,
+    pid: u8,
+    item: &Item,
+    test: &OrdinalExpression,
+    said: Said,
+) -> Result<Event, ErrorName>
+    requires pid { pid < length state.old.processes.items }
+    requires busy { IsBusy state.old pid }
+    requires reads { CanRead (machine_of state.old) pid test.now }
+    ensures after { spec.assert_that (machine_of state.old) pid item.now.line test.now said (rest_of item.now.next (under (machine_of state.old) pid)) ≡ spec.outcome result (machine_of state.new) pid item.now.line }
+    ensures reserved { (r : Tables) → IsReserved r state.old → IsReserved r state.new }
+{
+    let value = value_of(state, pid, test)?;
+    if !is_true(value) {
+        return Err(broken(said));
+    }
+    replace(state, pid, None, item.next);
     Ok(Event::Local)
 }
 

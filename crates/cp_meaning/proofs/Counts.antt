@@ -1,7 +1,7 @@
 -- How many steps small programs make, by computing.
 use Rattle.std.specs.Prelude.{◌≡◌, ℕ, List, [], ◌∷◌, refl}
 use Rattle.cp_meaning.proofs.Words.{Program, book_discipline, State, Event, local_event, display_event, ended_event, opening, step_of}
-use Rattle.cp_meaning.proofs.CountedPrograms.{nothing_done, one_shown, two_rounds, one_call}
+use Rattle.cp_meaning.proofs.worked.CountedPrograms.{nothing_done, one_shown, two_rounds, one_call}
 
 -- the events of steps by these processes, in order
 abbrev pub events : Program → State → List ℕ → List Event

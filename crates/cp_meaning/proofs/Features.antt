@@ -2,7 +2,7 @@
 use Rattle.std.specs.Prelude.{◌≡◌, [], ◌∷◌, refl, pos, negsuc}
 use Rattle.cp_meaning.proofs.Words.{out_of_range, no_case, ended_event, fault_event}
 use Rattle.cp_meaning.proofs.Following.{ending}
-use Rattle.cp_meaning.proofs.FeaturePrograms.{own_name_in_for, own_name_in_heading, whole_subrange, type_named_again, constant_hides, reference_passed_on, sets_in_records, classes_in_monitor, array_of_chars, call_at_each_test, call_at_each_until, truth_values, arithmetic, cycle_until_no_case, empty_queue}
+use Rattle.cp_meaning.proofs.worked.FeaturePrograms.{own_name_in_for, own_name_in_heading, whole_subrange, type_named_again, constant_hides, reference_passed_on, sets_in_records, classes_in_monitor, array_of_chars, call_at_each_test, call_at_each_until, truth_values, arithmetic, cycle_until_no_case, empty_queue}
 
 -- function f: integer; begin for f := 1 to 3 do end; begin display(f) end.
 pub own_name_in_for-ends : ending own_name_in_for ≡ (ended_event, pos 3 ∷ [])

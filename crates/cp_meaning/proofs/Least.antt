@@ -2,7 +2,7 @@
 use Rattle.std.specs.Prelude.{◌≡◌, [], ◌∷◌, refl, pos, negsuc}
 use Rattle.cp_meaning.proofs.Words.{book_discipline, enter_event, leave_event, delay_event, start_event, display_event, ended_event, opening}
 use Rattle.cp_meaning.proofs.Following.{ending, goes, traced}
-use Rattle.cp_meaning.proofs.LeastPrograms.{least_of_subrange, sign_of_mod, class_begins_least, monitor_begins_least, local_variables_begin_least, process_begins_least, line_in_order, delay_lets_line_in}
+use Rattle.cp_meaning.proofs.worked.LeastPrograms.{least_of_subrange, sign_of_mod, class_begins_least, monitor_begins_least, local_variables_begin_least, process_begins_least, line_in_order, delay_lets_line_in}
 
 -- var x: 3..5; begin display(x); x := 4; display(x) end.
 pub least_of_subrange-ends : ending least_of_subrange ≡ (ended_event, pos 3 ∷ pos 4 ∷ [])

@@ -1,8 +1,7 @@
+mod Annotated
 pub mod ComponentTree
-mod CountedPrograms
 mod Counts
 pub mod Exclusion
-mod FeaturePrograms
 mod Features
 mod Following
 pub mod Frames
@@ -11,13 +10,10 @@ pub mod Held
 pub mod Holder
 pub mod KernelLaw
 mod Least
-mod LeastPrograms
 pub mod LineLaw
-mod LinedPrograms
 mod Lines
 pub mod LocalLaw
 mod Order
-mod OrderPrograms
 pub mod Orderly
 mod OwnChanges
 pub mod OwnKernel
@@ -27,12 +23,12 @@ pub mod OwnershipLemmas
 mod PlainItems
 mod Room
 mod Shown
-mod ShownPrograms
+mod Signalled
 pub mod Stored
 pub mod Taken
-mod TracedPrograms
 mod Traces
 mod Wanted
 mod Witness
 mod Words
 mod Written
+mod worked

@@ -3,7 +3,7 @@ use Rattle.std.specs.Prelude.{◌≡◌, ℕ, List, [], ◌∷◌, refl}
 use Rattle.cp_meaning.proofs.Words.{Program, book_discipline}
 use Rattle.cp_meaning.specs.Steps.{opening, line_at}
 use Rattle.cp_meaning.proofs.Following.{is_last, up_to}
-use Rattle.cp_meaning.proofs.LinedPrograms.{call_line, for_line, until_line, test_line, display_line, start_line, case_line, inner_line}
+use Rattle.cp_meaning.proofs.worked.LinedPrograms.{call_line, for_line, until_line, test_line, display_line, start_line, case_line, inner_line}
 
 -- the line of the item at which the program's own process ends in a run error
 abbrev pub line_of_error : Program → List ℕ → ℕ

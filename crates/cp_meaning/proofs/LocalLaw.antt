@@ -8,10 +8,11 @@ use Rattle.cp_meaning.specs.Declarations.{RoutineMeaning}
 use Rattle.cp_meaning.specs.State.{Place, Environment, ComponentStatus, uninitialised, initialising, initialised, Component, component_at, no_component, CallKind, own_statement, initial_statement, local_routine, entry_routine, Call, callers, Item, statement_item, function_call, start_item, until, successor, return, init_end, end, is_entry_kind}
 use Rattle.cp_meaning.specs.Places.{View, value_at, stored, this_call, this_component, plain_place, component_there}
 use Rattle.cp_meaning.specs.Expressions.{target_value}
-use Rattle.cp_meaning.specs.Calls.{bound, opened, is_initialised, is_uninitialised, entered_as, with_move, with_items, with_status, initial, initialised_in, started_as}
+use Rattle.cp_meaning.specs.Calls.{bound, opened, is_initialised, is_uninitialised, last_checks, entered_as, with_move, with_items, with_status, initial, initialised_in, started_as}
+use Rattle.cp_meaning.specs.Lifting.{check_items}
 use Rattle.cp_meaning.specs.LocalRules.{after_return, continued_from, outer, with_result, leaving_move, return_move, returned, finished, takes}
-use Rattle.cp_meaning.proofs.Frames.{plain-rest, at_set, Frame, frames, entry_in, initial_in, below, frames-callers, TopReturns, TopStarts, ItemsFit, plain-fit, system_at, Descends, no_entry_below, no_initial_below, entry_or_initial}
-use Rattle.cp_meaning.proofs.PlainItems.{plain_all}
+use Rattle.cp_meaning.proofs.Frames.{plain-append, plain-rest, at_set, Frame, frames, entry_in, initial_in, below, frames-callers, TopReturns, TopStarts, ItemsFit, plain-fit, system_at, Descends, no_entry_below, no_initial_below, entry_or_initial}
+use Rattle.cp_meaning.proofs.PlainItems.{plain_all, plain_initial, plain_last}
 use Rattle.cp_meaning.proofs.Stored.{SameComponents, same_layout, same_components, layout_after, status_layout, stored_frames, stored_components}
 use Rattle.cp_meaning.proofs.Good.{IsMonitor, status_at, NonEmpty, StatusMoves, NoneEntered, Left, MoveFits, Good, GoodDoing, GoodOutcome, good_at, or_cases, or_right, quiet}
 use Rattle.cp_meaning.proofs.Taken.{whatever, if_all, Rules, takes_all}
@@ -77,8 +78,8 @@ module _ (p : Program) (c : Call) (calls : List Call) (cs : List Component) (pid
 
   -- ---- calls
 
-  routine_fits : (g : Frame) (r : RoutineMeaning) (o : Option _) (items : List Item) → TopReturns (g ∷ fs) → ItemsFit fs items → ItemsFit (g ∷ fs) (items_of_all r.scope r.body ++ return o ∷ items)
-  routine_fits g r o items top f = plain-fit (g ∷ fs) (items_of_all r.scope r.body) (return o ∷ items) (plain_all r.scope r.body) (top, f)
+  routine_fits : (g : Frame) (r : RoutineMeaning) (o : Option _) (items : List Item) → TopReturns (g ∷ fs) → ItemsFit fs items → ItemsFit (g ∷ fs) (items_of_all r.scope r.body ++ last_checks r.checks r.scope ++ return o ∷ items)
+  routine_fits g r o items top f = plain-fit (g ∷ fs) (items_of_all r.scope r.body ++ last_checks r.checks r.scope) (return o ∷ items) (plain-append _ _ (plain_all r.scope r.body) (plain_last r.checks r.scope)) (top, f)
 
   local_good : (r : RoutineMeaning) (o : Option _) (items : List Item) (e : Environment) → ItemsFit fs items → GoodDoing cs fs (opened v (this_component v) local_routine r o items e)
   local_good r o items e f =
@@ -175,10 +176,10 @@ module _ (p : Program) (c : Call) (calls : List Call) (cs : List Component) (pid
 
     initial_good : (s : SystemMeaning) (items : List Item) (o : Environment) → ItemsFit fs items → e ≡ o ++ (component_at cs d).environment → GoodDoing cs fs (initial v d s items o)
     initial_good s items o f same =
-        subst (λ x. Good cs fs ((initial_statement, d) ∷ fs) (with_status cs d initialising x) (items_of_all s.scope s.body ++ init_end d ∷ items) stays) same (record {
+        subst (λ x. Good cs fs ((initial_statement, d) ∷ fs) (with_status cs d initialising x) (items_of_all s.scope s.body ++ check_items 0 s.scope ++ init_end d ∷ items) stays) same (record {
           layout = status_layout cs d initialising e;
           open_calls = tt;
-          fits = plain-fit ((initial_statement, d) ∷ fs) (items_of_all s.scope s.body) (init_end d ∷ items) (plain_all s.scope s.body) (refl, f);
+          fits = plain-fit ((initial_statement, d) ∷ fs) (items_of_all s.scope s.body ++ check_items 0 s.scope) (init_end d ∷ items) (plain-append _ _ (plain_all s.scope s.body) (plain_initial s.scope)) (refl, f);
           order = (lt, order);
           status = start_status;
           starting = λ m h. start_starting m (or_cases (d == m) _ h);

@@ -2,7 +2,7 @@
 use Rattle.std.specs.Prelude.{◌≡◌, [], ◌∷◌, refl, pos, negsuc}
 use Rattle.cp_meaning.proofs.Words.{overflow, zero_divisor, out_of_range, no_case, not_init, ended_event, fault_event}
 use Rattle.cp_meaning.proofs.Following.{ending}
-use Rattle.cp_meaning.proofs.OrderPrograms.{targets_index_first, innermost_first, beyond_before_range, first_out_of_range, value_kept_in_item, downwards, last_integer, sign_overflows, least_mod_minus_one, least_div_minus_one, argument_before_not_init, not_init_last, argument_before_init_twice, first_operation, index_where_it_stands, both_operands, element_at_once, calls_before_variables, reference_and_copy, empty_sets_equal, nothing_in_empty_set, whole_array_copied, field_of_element, case_and_loops, class_in_class, continue_in_loop}
+use Rattle.cp_meaning.proofs.worked.OrderPrograms.{targets_index_first, innermost_first, beyond_before_range, first_out_of_range, value_kept_in_item, downwards, last_integer, sign_overflows, least_mod_minus_one, least_div_minus_one, argument_before_not_init, not_init_last, argument_before_init_twice, first_operation, index_where_it_stands, both_operands, element_at_once, calls_before_variables, reference_and_copy, empty_sets_equal, nothing_in_empty_set, whole_array_copied, field_of_element, case_and_loops, class_in_class, continue_in_loop}
 
 -- var a: array [1..2] of integer; function f(n: integer): integer; begin display(n); f := 1 end; begin a[f(1)] := f(2) end.
 pub targets_index_first-ends : ending targets_index_first ≡ (ended_event, pos 1 ∷ pos 2 ∷ [])

@@ -13,7 +13,7 @@ use Rattle.cp_meaning.specs.Places.{View, Target, call_above, with_environment_o
 use Rattle.cp_meaning.specs.Expressions.{value, target_value, selected, chosen, with_element_of}
 use Rattle.cp_meaning.specs.Calls.{bound, bound_argument, is_uninitialised, entered_as, initialised_in, started_as}
 use Rattle.cp_meaning.specs.LocalRules.{continued_from, leaving_move, return_move, returned}
-use Rattle.cp_meaning.specs.Kernel.{output_room, made_ready, waits_inside, notifying, at_gate_first, going_on, signalling, moved_to, is_anybody_inside, entering, process_of, begun, with_begun, starting_as, starting, displaying, kernel_step}
+use Rattle.cp_meaning.specs.Kernel.{output_room, made_ready, waits_inside, at_gate_first, going_on, signalling, moved_to, is_anybody_inside, entering, process_of, begun, with_begun, starting_as, starting, displaying, kernel_step}
 use Rattle.cp_meaning.specs.Ownership.{HoldsComponent, HoldsPlace, HoldsCalls, ChangesHeld, OthersKept}
 use Rattle.cp_meaning.specs.Steps.{settled, view_of}
 use Rattle.cp_meaning.proofs.Frames.{at_set}

@@ -1,8 +1,10 @@
--- Lifted calls and statements are items that open and end no call.
-use Rattle.std.proofs.Common.{ℕ, Bool, true, false, List, [], ◌∷◌}
-use Rattle.cp_tree.specs.Syntax.{Expression, alone, related, Sum, sum, Terms, no_terms, more_terms, Term, term, Factors, no_factors, more_factors, Factor, named, group, negated, set_of, Expressions, no_expressions, more_expressions, Designator, designator, Selectors, no_selectors, more_selectors, Selector, field, index, Start, Statement, assign, invoke, if_then, if_else, case_of, while_do, for_do, init, Statements, no_statements, more_statements}
-use Rattle.cp_meaning.specs.Scopes.{Scope}
-use Rattle.cp_meaning.specs.Lifting.{own_call, is_call, expression_calls, sum_calls, terms_calls, term_calls, factors_calls, factor_calls, expressions_calls, designator_calls, selectors_calls, selector_calls, start_items, items_of, items_of_all, until_items}
+-- Lifted calls, checks and statements are items that open and end no call.
+use Rattle.std.proofs.Common.{ℕ, Bool, true, false, if◌then◌else◌, List, [], ◌∷◌}
+use Rattle.cp_tree.specs.Syntax.{Expression, alone, related, Sum, sum, Terms, no_terms, more_terms, Term, term, Factors, no_factors, more_factors, Factor, named, group, negated, set_of, Expressions, no_expressions, more_expressions, Designator, designator, Selectors, no_selectors, more_selectors, Selector, field, index, Start, Statement, assign, invoke, if_then, if_else, case_of, while_do, for_do, init, asserted, Statements, no_statements, more_statements}
+use Rattle.cp_meaning.specs.Scopes.{Scope, find}
+use Rattle.cp_meaning.specs.State.{Item}
+use Rattle.cp_meaning.specs.Calls.{last_checks}
+use Rattle.cp_meaning.specs.Lifting.{own_call, is_call, expression_calls, sum_calls, terms_calls, term_calls, factors_calls, factor_calls, expressions_calls, designator_calls, selectors_calls, selector_calls, start_items, has_invariants, check_items, waits_meant, first_name, checks_before, items_of, items_of_all, until_items}
 use Rattle.cp_meaning.proofs.Frames.{ArePlain, plain-append}
 
 plain_call : (b : Bool) (at : ℕ) (d : Designator) (es : Expressions) → ArePlain (own_call b at d es)
@@ -54,15 +56,33 @@ plain_starts : (s : Scope) (ts : List Start) → ArePlain (start_items s ts)
 plain_starts s [] = tt
 plain_starts s (t ∷ ts) = plain-append _ _ (plain-append _ _ (plain_designator s t.target) (plain_expressions s t.arguments)) (tt, plain_starts s ts)
 
+plain_if : (b : Bool) (xs : List Item) → ArePlain xs → ArePlain (if b then xs else [])
+plain_if true xs h = h
+plain_if false xs h = tt
+
+plain_check : (at : ℕ) (s : Scope) → ArePlain (check_items at s)
+plain_check at s = plain_if (has_invariants s) _ (tt, tt)
+
+pub plain_initial : (s : Scope) → ArePlain (check_items 0 s)
+plain_initial s = plain_check 0 s
+
+pub plain_last : (b : Bool) (s : Scope) → ArePlain (last_checks b s)
+plain_last true s = plain_check 0 s
+plain_last false s = tt
+
+plain_before : (at : ℕ) (s : Scope) (d : Designator) → ArePlain (checks_before at s d)
+plain_before at s d = plain_if (waits_meant (find (first_name d) s)) (check_items at s) (plain_check at s)
+
 pub plain_items : (s : Scope) (t : Statement) → ArePlain (items_of s t)
 plain_items s (init at ts) = plain_starts s ts
 plain_items s (assign at d e) = plain-append _ _ (plain-append _ _ (plain_designator s d) (plain_expression s e)) (tt, tt)
-plain_items s (invoke at d es) = plain-append _ _ (plain-append _ _ (plain_designator s d) (plain_expressions s es)) (tt, tt)
+plain_items s (invoke at d es) = plain-append _ _ (plain-append _ _ (plain-append _ _ (plain_designator s d) (plain_expressions s es)) (plain_before at s d)) (tt, tt)
 plain_items s (if_then at e t) = plain-append _ _ (plain_expression s e) (tt, tt)
 plain_items s (if_else at e t u) = plain-append _ _ (plain_expression s e) (tt, tt)
 plain_items s (case_of at e as' b) = plain-append _ _ (plain_expression s e) (tt, tt)
 plain_items s (while_do at e t) = plain-append _ _ (plain_expression s e) (tt, tt)
 plain_items s (for_do at i e d f t) = plain-append _ _ (plain-append _ _ (plain_expression s e) (plain_expression s f)) (tt, tt)
+plain_items s (asserted at k e t) = plain-append _ _ (plain_expression s e) (tt, tt)
 plain_items s _ = (tt, tt)
 
 pub plain_all : (s : Scope) (ts : Statements) → ArePlain (items_of_all s ts)

@@ -2,7 +2,7 @@
 use Rattle.std.specs.Prelude.{◌≡◌, [], ◌∷◌, refl, pos, negsuc}
 use Rattle.cp_meaning.proofs.Words.{overflow, zero_divisor, out_of_range, not_init, init_twice, ended_event, fault_event}
 use Rattle.cp_meaning.proofs.Following.{ending}
-use Rattle.cp_meaning.proofs.ShownPrograms.{divide_by_zero, add_overflow, shown_values, function_call_first, right_side_first, for_to_upper_bound, set_operations, set_assignment_range, set_element_before_range, not_initialised, init_twice_class, dangling_else}
+use Rattle.cp_meaning.proofs.worked.ShownPrograms.{divide_by_zero, add_overflow, shown_values, function_call_first, right_side_first, for_to_upper_bound, set_operations, set_assignment_range, set_element_before_range, not_initialised, init_twice_class, dangling_else}
 
 -- begin display(1 div 0) end.
 pub divide_by_zero-ends : ending divide_by_zero ≡ (fault_event zero_divisor, [])

@@ -2,7 +2,7 @@
 use Rattle.std.proofs.Common.{◌≡◌, ℕ, ℤ, Bool, true, false, if◌then◌else◌, List, [], ◌∷◌, ◌++◌, Option, Some, None, Ok, Err, refl}
 use Rattle.cp_meaning.proofs.Words.{Identifier, Direction, Name, Outcome, ◌>>=◌, Doing, delays, ends, Value, number_value, queue_value, number_of, waiting_in, system_of}
 use Rattle.cp_meaning.proofs.Words.{items_of, items_of_all, until_items, takes}
-use Rattle.cp_tree.specs.Syntax.{Expressions, Designator, Start, Statement, assign, invoke, block, if_then, if_else, case_of, while_do, repeat_until, for_do, cycle, Program}
+use Rattle.cp_tree.specs.Syntax.{Expressions, Designator, Start, Statement, assign, invoke, block, if_then, if_else, case_of, while_do, repeat_until, for_do, cycle, asserted, Program}
 use Rattle.cp_meaning.specs.Names.{temporary}
 use Rattle.cp_meaning.specs.Scopes.{Meaning, routine_meaning, standard_meaning, delay_procedure, continue_procedure, display_procedure}
 use Rattle.cp_meaning.specs.Declarations.{RoutineMeaning, Parameter}
@@ -138,6 +138,7 @@ module _ (p : Program) (calls : List Call) (cs : List Component) (pid : ℕ) whe
     does_all (for_do at i e d b s) items f =
         bind_all P (value v e) _ (λ x. bind_all P (value v b) _ (λ y. if_all P (is_beyond d (number_of x.value) (number_of y.value)) _ _ (λ h. stays_here items f) (next_all at i (number_of x.value) d (number_of y.value) s items f)))
     does_all (cycle at ss) items f = stays_here _ (two_fit (items_of_all (scope_here v) ss) (items_of (scope_here v) (cycle at ss)) items (plain_all (scope_here v) ss) (plain_items (scope_here v) (cycle at ss)) f)
+    does_all (asserted at k e s) items f = bind_all P (value v e) _ (λ x. if_all P (is_true x) _ _ (λ h. stays_here _ (statement_fits s items f)) tt)
     does_all _ items f = stays_here items f
 
     -- ---- items

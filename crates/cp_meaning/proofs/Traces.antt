@@ -4,7 +4,7 @@ use Rattle.cp_meaning.specs.Outcome.{queue_in_use, init_twice}
 use Rattle.cp_meaning.proofs.Words.{book_discipline, by_gates, any_gates, opening}
 use Rattle.cp_meaning.specs.Kernel.{local_event, enter_event, leave_event, delay_event, continue_event, start_event, display_event, ended_event, fault_event}
 use Rattle.cp_meaning.proofs.Following.{goes, goes_in, traced}
-use Rattle.cp_meaning.proofs.TracedPrograms.{inner_delay_keeps_outer, buffer_trace, queue_used, continue_admits_line, resumed_before_line, admits_third, start_order, unseen_variable, waits_in_other_monitor, array_of_processes, started_twice}
+use Rattle.cp_meaning.proofs.worked.TracedPrograms.{inner_delay_keeps_outer, buffer_trace, queue_used, continue_admits_line, resumed_before_line, admits_third, start_order, unseen_variable, waits_in_other_monitor, array_of_processes, started_twice}
 
 -- type inner = monitor; var q: queue; procedure entry hold; begin delay(q) end; procedure entry free; begin continue(q) end; begin end; outer = monitor(i: inner); procedure entry go; begin i.hold end; begin end; a = process(o: outer); begin o.go end; b = process(i: inner); begin i.free end; var i: inner; o: outer; p, r: a; s: b; begin init i, o(i), p(o), r(o), s(i) end.
 pub inner_delay_keeps_outer-goes :

@@ -3,7 +3,7 @@ use Rattle.std.specs.Prelude.{◌≡◌, List, [], ◌∷◌, Some, None, refl}
 use Rattle.cp_meaning.proofs.Words.{Program, State, Discipline, book_discipline, by_gates, any_gates, opening}
 use Rattle.cp_meaning.specs.Readings.{ready_of, rising_line, holder_of, monitors_of}
 use Rattle.cp_meaning.proofs.Following.{Turn, goes, turn}
-use Rattle.cp_meaning.proofs.TracedPrograms.{admits_third}
+use Rattle.cp_meaning.proofs.worked.TracedPrograms.{admits_third}
 
 abbrev pub after_turns : Program → State → List Turn → State
 after_turns p s [] = s

@@ -4,7 +4,7 @@ use Rattle.cp_tree.specs.declared.declaration.SystemKind.TheVariants as system_k
 use Rattle.cp_meaning.specs.Types.{Ty, component_of}
 use Rattle.cp_meaning.proofs.Words.{system_of, Component, component_at, component_with, first_components, PathStep, Path, HasNoClass, HasEarlier, IsWellFormed}
 use Rattle.cp_meaning.proofs.ComponentTree.{path_at}
-use Rattle.cp_meaning.proofs.TracedPrograms.{admits_third}
+use Rattle.cp_meaning.proofs.worked.TracedPrograms.{admits_third}
 
 abbrev five : List Component
 five = first_components admits_third

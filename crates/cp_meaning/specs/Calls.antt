@@ -7,14 +7,14 @@ use Rattle.cp_meaning.specs.Names.{Name, result_name}
 use Rattle.cp_meaning.specs.Outcome.{Outcome, ◌>>=◌, not_init, init_twice}
 use Rattle.cp_meaning.specs.Types.{Ty, component_of, has_components}
 use Rattle.cp_meaning.specs.Values.{number_value, least}
-use Rattle.cp_meaning.specs.Scopes.{Meaning, routine_meaning}
+use Rattle.cp_meaning.specs.Scopes.{Meaning, routine_meaning, Scope}
 use Rattle.cp_meaning.specs.Declarations.{Variable, Parameter, RoutineMeaning}
 use Rattle.cp_meaning.specs.Systems.{SystemMeaning, system_of}
 use Rattle.cp_meaning.specs.State.{Content, holds, refers, knows, Environment, ComponentStatus, uninitialised, initialising, initialised, Component, component_at, CallKind, initial_statement, local_routine, entry_routine, Call, current, Item, return, init_end}
 use Rattle.cp_meaning.specs.Places.{View, Target, component_there, this_component}
 use Rattle.cp_meaning.specs.Operations.{checked}
 use Rattle.cp_meaning.specs.Expressions.{value, target_value, variable_in, routine_called, meaning_here}
-use Rattle.cp_meaning.specs.Lifting.{items_of_all}
+use Rattle.cp_meaning.specs.Lifting.{check_items, items_of_all}
 use Rattle.cp_meaning.specs.Move.{Doing, Move, stays, enters, starts}
 
 -- ---- arguments, from left to right
@@ -63,12 +63,17 @@ least_result (Some t) = (result_name, holds (least t)) ∷ []
 
 -- ---- a call; a function's result will go to the name o
 
+-- the invariants are looked at as an entry ends
+abbrev pub last_checks : Bool → Scope → List Item
+last_checks true s = check_items 0 s
+last_checks false s = []
+
 -- opened in the component d
 abbrev pub opened : View → ℕ → CallKind → RoutineMeaning → Option Name → List Item → Environment → Doing
 opened v d kind r o items e =
     record {
       calls = (let c : Call = record { component = d; kind = kind; scope = r.scope; environment = e ++ least_of r.variables ++ least_result r.result } in c) ∷ v.calls;
-      items = items_of_all r.scope r.body ++ return o ∷ items;
+      items = items_of_all r.scope r.body ++ last_checks r.checks r.scope ++ return o ∷ items;
       components = v.components;
       move = stays;
     }
@@ -129,7 +134,7 @@ abbrev pub initial : View → ℕ → SystemMeaning → List Item → Environmen
 initial v d s items e =
     record {
       calls = (let c : Call = record { component = d; kind = initial_statement; scope = s.scope; environment = [] } in c) ∷ v.calls;
-      items = items_of_all s.scope s.body ++ init_end d ∷ items;
+      items = items_of_all s.scope s.body ++ check_items 0 s.scope ++ init_end d ∷ items;
       components = with_status v.components d initialising (e ++ (component_at v.components d).environment);
       move = stays;
     }

@@ -6,7 +6,7 @@ use Rattle.cp_tree.specs.declared.constant.Sign.TheVariants as sign
 use Rattle.cp_tree.specs.declared.constant.Constant.{Constant}
 use Rattle.cp_tree.specs.declared.constant.ConstantKind.{ConstantKind}
 use Rattle.cp_tree.specs.declared.constant.ConstantKind.TheVariants as constant_kind
-use Rattle.cp_tree.specs.Syntax.{Simple, type_name, enumeration, subrange, TypeTerm, simple, array_of, set_type, record_of, FieldGroups, no_fields, more_fields, FieldGroup, fields, ConstantDefinition, TypeDefinition, VariableGroup, Part, constants, types, variables, Group, ParameterGroup, RoutineKind, procedure, function, Routine, Statements}
+use Rattle.cp_tree.specs.Syntax.{Simple, type_name, enumeration, subrange, TypeTerm, simple, array_of, set_type, record_of, FieldGroups, no_fields, more_fields, FieldGroup, fields, ConstantDefinition, TypeDefinition, VariableGroup, Part, constants, types, variables, Group, ParameterGroup, RoutineKind, procedure, function, invariants, Routine, Statements}
 use Rattle.cp_meaning.specs.Names.{Name, same_name}
 use Rattle.cp_meaning.specs.Types.{Base, integers, characters, enumerated, Ty, ordinal, set_over, array_over, record_with, FieldTypes, no_field_types, more_field_types, all_integers, range_of}
 use Rattle.cp_meaning.specs.Scopes.{Meaning, constant_meaning, type_meaning, local_variable, Scope, find}
@@ -175,20 +175,24 @@ pub record RoutineMeaning : Type 0 where
   pub result : Option Ty
   pub scope : Scope
   pub body : Statements
+  -- whether the invariants of the block are looked at as it ends
+  pub checks : Bool
 
 -- the parameters of a procedure or function
 abbrev pub heading_of : Scope → RoutineKind → Heading
 heading_of s (procedure gs) = with_parameter_groups (record { parameters = []; scope = s }) gs
 heading_of s (function gs i) = with_groups local_variable (record { parameters = []; scope = s }) gs
+heading_of s invariants = record { parameters = []; scope = s }
 
 -- a function's result type
 abbrev pub result_of : Scope → RoutineKind → Option Ty
 result_of s (procedure gs) = None
 result_of s (function gs i) = Some (type_named s i.name)
+result_of s invariants = None
 
 -- s is the scope in which the routine's own name is the latest
 abbrev pub routine_in : Scope → Routine → RoutineMeaning
 routine_in s r =
     let h = heading_of s r.kind in
     let b = parts_in local_variable (record { variables = []; scope = h.scope }) r.parts in
-    record { parameters = h.parameters; variables = b.variables; result = result_of h.scope r.kind; scope = b.scope; body = r.body.statements }
+    record { parameters = h.parameters; variables = b.variables; result = result_of h.scope r.kind; scope = b.scope; body = r.body.statements; checks = r.is_entry }

@@ -1,10 +1,10 @@
 -- Lifting (this profile's own): the function calls of a statement are items of their own before it, innermost first in reading order.
 -- Each goes into a temporary name, and in the statement the call then stands for that name.
-use Rattle.std.specs.Prelude.{ℕ, Bool, true, false, List, [], ◌∷◌, ◌++◌, Option, Some, None}
-use Rattle.cp_tree.specs.Syntax.{Expression, alone, related, Sum, sum, Terms, no_terms, more_terms, Term, term, Factors, no_factors, more_factors, Factor, number, character, named, group, negated, set_of, Expressions, no_expressions, more_expressions, Designator, designator, Selectors, no_selectors, more_selectors, Selector, field, index, Start, Statement, empty, assign, invoke, block, if_then, if_else, case_of, while_do, repeat_until, for_do, cycle, init, Statements, no_statements, more_statements}
+use Rattle.std.specs.Prelude.{ℕ, Bool, true, false, if◌then◌else◌, List, [], ◌∷◌, ◌++◌, Option, Some, None}
+use Rattle.cp_tree.specs.Syntax.{Expression, alone, related, Sum, sum, Terms, no_terms, more_terms, Term, term, Factors, no_factors, more_factors, Factor, number, character, named, group, negated, set_of, Expressions, no_expressions, more_expressions, Designator, designator, Selectors, no_selectors, more_selectors, Selector, field, index, Start, Statement, empty, assign, invoke, block, if_then, if_else, case_of, while_do, repeat_until, for_do, cycle, init, asserted, nameless, Statements, no_statements, more_statements}
 use Rattle.cp_meaning.specs.Names.{Name}
 use Rattle.cp_meaning.specs.Types.{has_components}
-use Rattle.cp_meaning.specs.Scopes.{Meaning, permanent_variable, routine_meaning, Scope, find}
+use Rattle.cp_meaning.specs.Scopes.{Meaning, permanent_variable, routine_meaning, standard_meaning, delay_procedure, continue_procedure, Scope, find}
 use Rattle.cp_meaning.specs.State.{Item, statement_item, function_call, start_item, until}
 
 -- the routine of a component that a designator ends in, if it does
@@ -74,11 +74,39 @@ abbrev pub start_items : Scope → List Start → List Item
 start_items s [] = []
 start_items s (t ∷ ts) = designator_calls s t.target ++ expressions_calls s t.arguments ++ start_item t ∷ start_items s ts
 
+-- ---- checks: calls of the routine without a name, which says the invariants of the block
+
+abbrev pub is_routine_meant : Option Meaning → Bool
+is_routine_meant (Some (routine_meaning r)) = true
+is_routine_meant m = false
+
+-- whether the block has invariants; a routine of it can't hide that name
+abbrev pub has_invariants : Scope → Bool
+has_invariants s = is_routine_meant (find nameless s)
+
+abbrev pub check_statement : ℕ → Statement
+check_statement at = invoke at (designator (record { at = at; name = nameless }) no_selectors) no_expressions
+
+abbrev pub check_items : ℕ → Scope → List Item
+check_items at s = if has_invariants s then statement_item (check_statement at) ∷ [] else []
+
+abbrev pub waits_meant : Option Meaning → Bool
+waits_meant (Some (standard_meaning delay_procedure)) = true
+waits_meant (Some (standard_meaning continue_procedure)) = true
+waits_meant m = false
+
+abbrev pub first_name : Designator → Name
+first_name (designator i ss) = i.name
+
+-- before `delay` and `continue`, behind their function calls
+abbrev pub checks_before : ℕ → Scope → Designator → List Item
+checks_before at s d = if waits_meant (find (first_name d) s) then check_items at s else []
+
 -- the items of a statement: its calls and itself; an `init` stands for its starts
 abbrev pub items_of : Scope → Statement → List Item
 items_of s (init at ts) = start_items s ts
 items_of s (assign at d e) = designator_calls s d ++ expression_calls s e ++ statement_item (assign at d e) ∷ []
-items_of s (invoke at d es) = designator_calls s d ++ expressions_calls s es ++ statement_item (invoke at d es) ∷ []
+items_of s (invoke at d es) = designator_calls s d ++ expressions_calls s es ++ checks_before at s d ++ statement_item (invoke at d es) ∷ []
 items_of s (if_then at e t) = expression_calls s e ++ statement_item (if_then at e t) ∷ []
 items_of s (if_else at e t u) = expression_calls s e ++ statement_item (if_else at e t u) ∷ []
 items_of s (case_of at e as' b) = expression_calls s e ++ statement_item (case_of at e as' b) ∷ []
@@ -88,6 +116,8 @@ items_of s (empty at) = statement_item (empty at) ∷ []
 items_of s (block at ts) = statement_item (block at ts) ∷ []
 items_of s (repeat_until at ts e) = statement_item (repeat_until at ts e) ∷ []
 items_of s (cycle at ts) = statement_item (cycle at ts) ∷ []
+-- an annotation has no calls (C22)
+items_of s (asserted at k e t) = expression_calls s e ++ statement_item (asserted at k e t) ∷ []
 
 -- the items of statements, one after the other
 abbrev pub items_of_all : Scope → Statements → List Item

@@ -2,13 +2,15 @@
 use Rattle.std.specs.Prelude.{ℕ, ℤ, pos, negsuc, ◌+ℤ◌, int_lt, Bool, false, ◌||◌, if◌then◌else◌, List, [], ◌∷◌, ◌++◌, Option, Some, None, Ok, Err}
 use Rattle.cp_tree.specs.declared.constant.Identifier.{Identifier}
 use Rattle.cp_tree.specs.declared.constant.Constant.{Constant}
+use Rattle.cp_tree.specs.declared.statement.AssertionKind.{AssertionKind}
+use Rattle.cp_tree.specs.declared.statement.AssertionKind.TheVariants as said
 use Rattle.cp_tree.specs.declared.statement.Direction.{Direction}
 use Rattle.cp_tree.specs.declared.statement.Direction.TheVariants.{To, Downto}
 use Rattle.cp_tree.specs.declared.declaration.SystemKind.{SystemKind}
 use Rattle.cp_tree.specs.declared.declaration.SystemKind.TheVariants as system_kind
-use Rattle.cp_tree.specs.Syntax.{Expressions, no_expressions, more_expressions, Designator, Statement, empty, assign, invoke, block, if_then, if_else, case_of, while_do, repeat_until, for_do, cycle, init, Arms, no_arms, more_arms, arm}
+use Rattle.cp_tree.specs.Syntax.{Expressions, no_expressions, more_expressions, Designator, Statement, empty, assign, invoke, block, if_then, if_else, case_of, while_do, repeat_until, for_do, cycle, init, asserted, Arms, no_arms, more_arms, arm}
 use Rattle.cp_meaning.specs.Names.{Name, temporary, result_name}
-use Rattle.cp_meaning.specs.Outcome.{Outcome, ◌>>=◌, no_case, queue_in_use}
+use Rattle.cp_meaning.specs.Outcome.{ErrorName, Outcome, ◌>>=◌, no_case, queue_in_use, assertion, invariant}
 use Rattle.cp_meaning.specs.Types.{range_of}
 use Rattle.cp_meaning.specs.Values.{Value, number_value, queue_value, number_of, waiting_in}
 use Rattle.cp_meaning.specs.Scopes.{Meaning, standard_meaning, delay_procedure, continue_procedure, display_procedure, Scope}
@@ -35,6 +37,13 @@ becomes v items = Ok (with_items v items)
 -- the value in the range of the target; the check comes last
 abbrev pub assigned : View → Target → Value → Outcome View
 assigned v t w = checked t.ty w >>= λ x. Ok (stored v t.place x)
+
+-- ---- annotations
+
+-- the run error of what is false
+abbrev pub broken_as : AssertionKind → ErrorName
+broken_as said.Assertion = assertion
+broken_as said.Invariant = invariant
 
 -- ---- case: the arm that has the value as a label
 
@@ -143,6 +152,8 @@ does v pid (for_do at i e d f s) items =
 does v pid (cycle at ss) items = becomes v (items_of_all (scope_here v) ss ++ items_of (scope_here v) (cycle at ss) ++ items)
 -- an `init` stands for its starts and is no item
 does v pid (init at ts) items = Ok (passed_over v items)
+-- what is said before a statement: true: becomes the statement; false: that run error
+does v pid (asserted at k e s) items = value v e >>= λ x. if is_true x then becomes v (items_of (scope_here v) s ++ items) else Err (broken_as k)
 
 -- ---- the ends of calls and of initial statements
 

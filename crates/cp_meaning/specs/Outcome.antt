@@ -10,6 +10,9 @@ pub data ErrorName : Type 0 where
   queue_in_use : ErrorName
   not_init : ErrorName
   init_twice : ErrorName
+  -- an assertion, or an invariant, is false
+  assertion : ErrorName
+  invariant : ErrorName
 
 -- what is computed, or the first run error
 abbrev pub Outcome : Type 0 → Type 0

@@ -2,7 +2,7 @@
 use Rattle.std.specs.Prelude.{◌≡◌, ℕ, suc, ◌<◌, ◌==◌, true, if◌then◌else◌, List, [], ◌∷◌, ◌++◌, map, length, Option, Some, None, Ok, Err, slice_index}
 use Rattle.cp_tree.specs.declared.declaration.SystemKind.{SystemKind}
 use Rattle.cp_tree.specs.declared.declaration.SystemKind.TheVariants as system_kind
-use Rattle.cp_tree.specs.Syntax.{Expression, alone, related, Designator, designator, Statement, empty, assign, invoke, block, if_then, if_else, case_of, while_do, repeat_until, for_do, cycle, init, Program, Tree}
+use Rattle.cp_tree.specs.Syntax.{Expression, alone, related, Designator, designator, Statement, empty, assign, invoke, block, if_then, if_else, case_of, while_do, repeat_until, for_do, cycle, init, asserted, Program, Tree}
 use Rattle.cp_meaning.specs.Outcome.{Outcome}
 use Rattle.cp_meaning.specs.Values.{is_member}
 use Rattle.cp_meaning.specs.Declarations.{Variable, Parameter}
@@ -97,6 +97,7 @@ at_statement (repeat_until at ss e) = at
 at_statement (for_do at i e d f s) = at
 at_statement (cycle at ss) = at
 at_statement (init at ts) = at
+at_statement (asserted at k e s) = at
 
 abbrev pub at_designator : Designator → ℕ
 at_designator (designator i ss) = i.at

@@ -4,7 +4,7 @@ use Rattle.cp_merged.proofs.Words.{nat_eq, nat_list_eq_equiv, ErrorName, Shown, 
 use Rattle.std.specs.Int.{is_negative}
 use Rattle.std.proofs.lemmas.Bool.{eqb-true, le-ltb}
 use lib.Pointwise.{pointwise}
-use Rattle.cp_store.specs.declared.error.ErrorName.TheVariants.{Overflow, ZeroDivisor, Range, NoCase, QueueInUse, NotInit, InitTwice}
+use Rattle.cp_store.specs.declared.error.ErrorName.TheVariants.{Overflow, ZeroDivisor, Range, NoCase, QueueInUse, NotInit, InitTwice, Assertion, Invariant}
 use Rattle.cp_machine.specs.declared.shown.Shown.TheVariants.{Integer, Char, Truth, Constant}
 use Rattle.cp_run.specs.declared.outcome.OutcomeKind.TheVariants.{Finished, AllWaiting, RunError, ChoiceLimit, StepLimit, OutputLimit}
 use Rattle.cp_walk.specs.Report.{shown_numbers, number_of, kind_numbers, outcome_numbers, same_outcome}
@@ -18,7 +18,9 @@ error_of (suc (suc zero)) = Range
 error_of (suc (suc (suc zero))) = NoCase
 error_of (suc (suc (suc (suc zero)))) = QueueInUse
 error_of (suc (suc (suc (suc (suc zero))))) = NotInit
-error_of (suc (suc (suc (suc (suc (suc n)))))) = InitTwice
+error_of (suc (suc (suc (suc (suc (suc zero)))))) = InitTwice
+error_of (suc (suc (suc (suc (suc (suc (suc zero))))))) = Assertion
+error_of (suc (suc (suc (suc (suc (suc (suc (suc n)))))))) = Invariant
 
 error_back : (e : ErrorName) → error_of (number_of e) ≡ e
 unfolding error_of
@@ -29,6 +31,8 @@ error_back NoCase = refl
 error_back QueueInUse = refl
 error_back NotInit = refl
 error_back InitTwice = refl
+error_back Assertion = refl
+error_back Invariant = refl
 
 shown_of : ℕ → ℕ → Shown
 shown_of zero n = Integer (pos n)

@@ -71,6 +71,10 @@ impl<'a> Register<'a> {
         if routine.is_empty() {
             return self.strings.place_text(path);
         }
+        if self.legend.is_nameless(frame.routine) {
+            let name = format!(in self.alloc; "invariant of {path}")?;
+            return self.strings.place_text(name.as_str());
+        }
         let name = format!(in self.alloc; "{path}.{routine}")?;
         self.strings.place_text(name.as_str())
     }

@@ -1,3 +1,4 @@
+pub mod Assertions
 pub mod Cases
 pub mod Control
 pub mod Counting

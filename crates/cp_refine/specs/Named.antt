@@ -14,7 +14,7 @@ use Rattle.cp_machine.specs.declared.discipline.Signals.TheVariants as signals
 use Rattle.cp_machine.specs.declared.shown.Shown as slot_shown
 use Rattle.cp_machine.specs.declared.shown.Shown.TheVariants as shown
 use Rattle.cp_run.specs.System.{System}
-use Rattle.cp_meaning.specs.Outcome.{ErrorName, overflow, zero_divisor, out_of_range, no_case, queue_in_use, not_init, init_twice}
+use Rattle.cp_meaning.specs.Outcome.{ErrorName, overflow, zero_divisor, out_of_range, no_case, queue_in_use, not_init, init_twice, assertion, invariant}
 use Rattle.cp_meaning.specs.Types.{Base, integers, booleans, characters, enumerated, natural_of}
 use Rattle.cp_meaning.specs.Values.{is_member}
 use Rattle.cp_meaning.specs.State.{process_at, Gates, first_gates, any_gates, Signals, return_signals, continue_signals, wait_signals, Discipline, Shown, State}
@@ -33,6 +33,8 @@ error_of no_case = error.NoCase
 error_of queue_in_use = error.QueueInUse
 error_of not_init = error.NotInit
 error_of init_twice = error.InitTwice
+error_of assertion = error.Assertion
+error_of invariant = error.Invariant
 
 abbrev pub gates_of : Gates → slot_gates.Gates
 gates_of first_gates = First

@@ -1,10 +1,12 @@
 -- What is asked of a program, its tables and its layouts, so that each step on slots stands for one on names.
 use Rattle.std.specs.Prelude.{◌≡◌, ℕ, ◌<◌, ◌≤◌, true, false, length, Some, None}
+use Rattle.cp_tree.specs.declared.declaration.SystemKind.TheVariants.{Process}
 use Rattle.cp_tree.specs.Syntax.{Tree}
 use Rattle.cp_slots.specs.Fits.{IsSound}
 use Rattle.cp_slots.specs.Tables.{Tables, component_at, system_at}
 use Rattle.cp_meaning.specs.Names.{Name, same_name}
 use Rattle.cp_meaning.specs.Types.{Range, Ty, ordinal}
+use Rattle.cp_meaning.specs.Lifting.{has_invariants}
 use Rattle.cp_meaning.specs.Places.{content_of}
 use Rattle.cp_meaning.specs.Scopes.{find}
 use Rattle.cp_meaning.specs.Steps.{parameter_variables, first_environment}
@@ -49,6 +51,8 @@ pub record ProgramKnown (t : Tree) (r : Tables) (l : Layouts) : Type 0 where
   pub routines : (n : ℕ) → n < length r.routines → RoutineKnown t l n
   -- results are ordinals
   pub results : (n : ℕ) (u : Ty) → (l.meanings n).result ≡ Some u → (q : Range) × (u ≡ ordinal q)
+  -- a process has no invariants
+  pub unsaid : (k : ℕ) → (system_of t.program k).kind ≡ Process → has_invariants (system_of t.program k).scope ≡ false
   pub systems : SystemsLaid t r l
 
 -- tables that stand for a tree and are sound, of a program of which this is known

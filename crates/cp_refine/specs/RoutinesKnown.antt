@@ -3,13 +3,14 @@ use Rattle.std.specs.Prelude.{◌≡◌, ℕ, Bool, true, false, List, [], ◌�
 use Rattle.cp_tree.specs.Syntax.{Expressions, Designator, invoke, Program, Statements}
 use Rattle.cp_meaning.specs.Declarations.{RoutineMeaning}
 use Rattle.cp_meaning.specs.Expressions.{name_of, routine_called}
+use Rattle.cp_meaning.specs.Lifting.{has_invariants}
 use Rattle.cp_meaning.specs.Scopes.{Meaning, standard_meaning, routine_meaning, delay_procedure, continue_procedure, Scope, find}
 use Rattle.cp_meaning.specs.State.{component_at, CallKind, own_statement, initial_statement, local_routine, entry_routine, Call, Item, function_call, return, init_end, end}
 use Rattle.cp_meaning.specs.Steps.{first_components}
 use Rattle.cp_meaning.specs.Systems.{system_of}
 use Rattle.cp_resolved.specs.Layouts.{Layouts}
 use Rattle.cp_resolved.specs.Resolved.{initial_meaning}
-use Rattle.cp_refine.specs.Bodies.{IsWithin, ItemStands}
+use Rattle.cp_refine.specs.Bodies.{IsWithin, check_name, ItemStands}
 
 -- ---- routines
 
@@ -46,6 +47,8 @@ pub record Initial (p : Program) (l : Layouts) (f : Traits) (d : ℕ) : Type 0 w
 pub record RoutinesKnown (p : Program) (l : Layouts) (f : Traits) : Type 0 where
   pub functions : (n at : ℕ) (d : Designator) (es : Expressions) (r : RoutineMeaning) → ItemStands (scope_of l n) (body_of l n) (function_call at d es) → routine_called p (scope_of l n) d ≡ Some r → Callee l f n d r × (r.result ≡ None → ⊥)
   pub procedures : (n at : ℕ) (d : Designator) (es : Expressions) (r : RoutineMeaning) → IsWithin (body_of l n) (invoke at d es) → routine_called p (scope_of l n) d ≡ Some r → Callee l f n d r
+  -- what a check calls
+  pub checks : (n at : ℕ) (r : RoutineMeaning) → has_invariants (scope_of l n) ≡ true → routine_called p (scope_of l n) (check_name at) ≡ Some r → Callee l f n (check_name at) r
   pub initials : (d : ℕ) → Initial p l f d
   -- `delay` is in no quiet routine, and `continue` in an entry procedure
   pub delays : (n at : ℕ) (d : Designator) (es : Expressions) → IsWithin (body_of l n) (invoke at d es) → find (name_of d) (scope_of l n) ≡ Some (standard_meaning delay_procedure) → f.quiet n ≡ false

@@ -54,6 +54,7 @@ code_of rule.C18 = refl
 code_of rule.C19 = refl
 code_of rule.C20 = refl
 code_of rule.C21 = refl
+code_of rule.C22 = refl
 
 -- ---- a fault of the scanner
 

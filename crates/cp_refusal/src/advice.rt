@@ -2,7 +2,7 @@
 
 use crate::draft::spelling;
 use crate::extent::{is_adding, is_multiplying, is_relation};
-use crate::foreign::is_start;
+use crate::foreign::{instead_of, is_start};
 use crate::place::has_comment_before;
 use crate::rules::mark_before;
 use crate::teller::Teller;
@@ -70,7 +70,52 @@ fn mark_advice(teller: &mut Teller, mark: Mark) -> &'static str {
     if mark == Mark::Comma && teller.takes("]") {
         return ": where two indices are meant, write a[1][2], and array [1..2] of array [1..2] of ..";
     }
+    if mark == Mark::Assert {
+        return assertion_advice(teller);
+    }
+    if teller.is_in_annotation() {
+        return inner_advice(teller, mark);
+    }
     place_advice(teller, mark)
+}
+
+// Of an assertion that stands where none can.
+fn assertion_advice(teller: &mut Teller) -> &'static str {
+    if is_before_else(teller) {
+        ": an assertion stands before a statement, and none can stand before else"
+    } else if teller.takes(";") {
+        ": an assertion stands before a statement, so that a semicolon is missing before it"
+    } else if teller.takes("procedure") {
+        ": an assertion stands before a statement; what is true whenever nobody is inside is said by an invariant"
+    } else {
+        ": an assertion stands before a statement"
+    }
+}
+
+// Whether `else` follows the annotation that begins at the token.
+fn is_before_else(teller: &Teller) -> bool {
+    for place in teller.at..teller.tokens.count() {
+        if teller.mark_at(place) == Some(Mark::Closes) {
+            return teller.mark_at(place.saturating_add(1)) == Some(Mark::Else);
+        }
+    }
+    false
+}
+
+// Of what stands in an annotation.
+fn inner_advice(teller: &Teller, mark: Mark) -> &'static str {
+    match (back(teller, 1), mark) {
+        (Some(Mark::Times), Mark::CloseParenthesis) => ": behind *) the closing quote is missing",
+        (_, Mark::CloseParenthesis) => ": an annotation ends in *) and a quote",
+        (_, Mark::Becomes) => ": an annotation says what is true; equality is written with =",
+        (Some(Mark::Assert | Mark::Invariant), Mark::Colon) => {
+            ": the expression follows without a colon"
+        }
+        (_, Mark::Semicolon | Mark::Comma) => {
+            ": an annotation has one expression; write and, or an annotation for each"
+        }
+        _ => "",
+    }
 }
 
 // Of a mark that stands at a wrong place.
@@ -82,8 +127,14 @@ fn place_advice(teller: &Teller, mark: Mark) -> &'static str {
         Mark::Var if is_system_parameter(teller) => {
             ": parameters of a class, a monitor or a process have no var"
         }
+        Mark::Const | Mark::Type | Mark::Var if back(teller, 1) == Some(Mark::Closes) => {
+            ": constants, types and variables are declared before the invariants"
+        }
         Mark::Const | Mark::Type | Mark::Var => {
             ": constants, types and variables are declared before the routines, or an end is missing further up"
+        }
+        Mark::Invariant => {
+            ": invariants stand in a class or a monitor, behind its declarations and before its routines"
         }
         Mark::Period if back(teller, 1).is_none() => ": there are no real numbers",
         _ => "",
@@ -150,7 +201,9 @@ fn word_advice(teller: &mut Teller) -> &'static str {
         Some(before) => teller.name_at(before),
         None => "",
     };
-    if name == "elsif" {
+    if is_annotation_word(before) {
+        instead_of(before)
+    } else if name == "elsif" {
         ": write else if"
     } else if before == "return" {
         ": a function gives its result by an assignment to its own name"
@@ -159,6 +212,11 @@ fn word_advice(teller: &mut Teller) -> &'static str {
     } else {
         ""
     }
+}
+
+// Whether a name is the word of an annotation that stands in no comment.
+fn is_annotation_word(name: &str) -> bool {
+    name.eq_ignore_ascii_case("assert") || name.eq_ignore_ascii_case("invariant")
 }
 
 fn end_advice(teller: &mut Teller) -> &'static str {

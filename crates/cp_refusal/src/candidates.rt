@@ -4,13 +4,14 @@ use crate::teller::Teller;
 use cp_prose::Prose;
 
 /// What is told by a word for all of its kind: where this token may stand, and none of the first ones.
-static KINDS: [(&[&str], &str, &str); 6] = [
+static KINDS: [(&[&str], &str, &str); 7] = [
     (&[], "while", "a statement"),
     (&[], "not", "an expression"),
     (&["while", "not"], "x", "a name"),
     (&["while", "not"], "1", "a number"),
     (&["while", "not"], "'A'", "a character"),
     (&[], "*", "an operator"),
+    (&[], "*)\"", "the end of the annotation"),
 ];
 
 /// The reserved words and signs that are told themselves, in this order, where none of the first ones may stand.

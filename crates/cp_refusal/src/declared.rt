@@ -251,6 +251,7 @@ impl<'a> Declarations<'a> {
                     self.add(&routine.name, outer.with(Declared::Function, ""))?;
                     self.add_groups(groups, inner)?;
                 }
+                RoutineKind::Invariants => {}
             }
             self.add_parts(&routine.parts, inner)?;
         }

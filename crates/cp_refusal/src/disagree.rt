@@ -5,7 +5,7 @@ use crate::extent::{
     between, designator_at, expression_at, inside, is_adding, is_multiplying, is_relation, single,
     until_of,
 };
-use crate::rules::mark_at;
+use crate::rules::{mark_at, mark_before};
 use crate::sorts::{ORDINALS, Sort};
 use crate::teller::Teller;
 use crate::wanted::Wanted;
@@ -460,10 +460,24 @@ fn condition(teller: &mut Teller, taker: &str, value: Extent) -> bool {
     unless(teller, taker, Wanted::boolean(), value)
 }
 
+// What an annotation says, where it begins at the token.
+fn said(teller: &mut Teller) -> bool {
+    let taker = match mark_before(teller.tokens, teller.at) {
+        Some(Mark::Assert) => "assert",
+        Some(Mark::Invariant) => "invariant",
+        _ => return false,
+    };
+    let value = expression_at(teller.tokens, teller.at);
+    condition(teller, taker, value)
+}
+
 /// Says what is there and what is wanted in the construct that begins at the token.
 pub fn put_disagreement(teller: &mut Teller) -> bool {
     let (tokens, at) = (teller.tokens, teller.at);
     let next = at.saturating_add(1);
+    if said(teller) {
+        return true;
+    }
     match teller.mark() {
         Some(Mark::If) => condition(teller, "if", expression_at(tokens, next)),
         Some(Mark::While) => condition(teller, "while", expression_at(tokens, next)),

@@ -6,7 +6,7 @@ use cp_text::{Kind, Mark, ScanCause, Tokens, scan};
 use std::alloc::{AllocError, Global};
 
 /// The spellings of the reserved words and signs, in the order of `Mark`.
-const SPELLINGS: [&str; 56] = [
+const SPELLINGS: [&str; 59] = [
     "and",
     "array",
     "begin",
@@ -63,6 +63,9 @@ const SPELLINGS: [&str; 56] = [
     ":",
     ".",
     "..",
+    "\"(* assert",
+    "\"(* invariant",
+    "*)\"",
 ];
 
 /// The spelling of a reserved word or sign.

@@ -21,7 +21,7 @@ use crate::rules::{Broken, code, sentence};
 use crate::teller::Teller;
 use cp_check::CheckFault;
 use cp_front::{Loaded, Refusal as LoadRefusal};
-use cp_text::{ScanCause, ScanFault, Tokens};
+use cp_text::{Mark, ScanCause, ScanFault, Tokens};
 use cp_tree::{ParseFault, Tree};
 use std::alloc::{AllocError, Global};
 
@@ -213,9 +213,8 @@ fn put_unexpected(teller: &mut Teller, missing: &Missing) {
     teller.put("expected ");
     put_wanted(teller);
     if teller.at < teller.tokens.count() {
-        teller.put(", found \"");
-        teller.put_tokens(single(teller.at));
-        teller.put("\"");
+        teller.put(", found ");
+        put_found(teller);
     } else {
         teller.put(", found the end of the source");
     }
@@ -232,6 +231,20 @@ fn put_unexpected(teller: &mut Teller, missing: &Missing) {
             teller.put(" has no end");
         }
         Missing::Nothing => put_meant(teller),
+    }
+}
+
+// The token that is refused.
+fn put_found(teller: &mut Teller) {
+    match teller.mark() {
+        Some(Mark::Assert) => teller.put("an assertion"),
+        Some(Mark::Invariant) => teller.put("an invariant"),
+        Some(Mark::Closes) => teller.put("the end of the annotation"),
+        _ => {
+            teller.put("\"");
+            teller.put_tokens(single(teller.at));
+            teller.put("\"");
+        }
     }
 }
 

@@ -1,7 +1,7 @@
 //! What stands in this language for words and signs of other ones.
 
 /// Words of other languages, in lower case, and what stands for them here.
-static WORDS: [(&[&str], &str); 20] = [
+static WORDS: [(&[&str], &str); 22] = [
     (
         &["condition", "cond"],
         ": a condition is a queue, as in q: queue",
@@ -53,6 +53,14 @@ static WORDS: [(&[&str], &str); 20] = [
         ": there is no clock: a process waits by delay(q) until another one calls continue(q)",
     ),
     (&["inc"], ": write x := x + 1"),
+    (
+        &["assert"],
+        ": what is true at a place is said in a comment before a statement, as in \"(* assert x > 0 *)\"",
+    ),
+    (
+        &["invariant"],
+        ": what is true of a monitor is said in a comment before its routines, as in \"(* invariant x > 0 *)\"",
+    ),
     (&["dec"], ": write x := x - 1"),
     (
         &["cobegin", "fork", "start"],

@@ -38,8 +38,8 @@ const DECLARATIONS: [Mark; 5] = [
     Mark::Function,
 ];
 
-/// What a statement begins with, apart from a name.
-const STATEMENTS: [Mark; 8] = [
+/// What a statement or an invariant begins with, apart from a name.
+const STATEMENTS: [Mark; 10] = [
     Mark::If,
     Mark::Case,
     Mark::While,
@@ -48,6 +48,8 @@ const STATEMENTS: [Mark; 8] = [
     Mark::Cycle,
     Mark::Init,
     Mark::Begin,
+    Mark::Assert,
+    Mark::Invariant,
 ];
 
 // Whether what begins with the token follows a whole block.

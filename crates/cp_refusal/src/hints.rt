@@ -21,7 +21,7 @@ pub struct Gathering<'a, 'b> {
     pub declarations: &'b Declarations<'a>,
     /// Whether `continue` ends the call of its entry procedure.
     continue_returns: bool,
-    hints: Hints,
+    pub hints: Hints,
 }
 
 /// How many words are open after a token that an `end` or `until` closes, where so many are open before it.
@@ -154,5 +154,6 @@ pub fn hints(
     gathering.add_inner_waits()?;
     gathering.add_plain_delays()?;
     gathering.add_starts()?;
+    gathering.add_nearly_annotations()?;
     Ok(gathering.hints)
 }

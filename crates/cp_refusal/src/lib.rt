@@ -15,6 +15,7 @@ mod foreign;
 mod further_up;
 mod hints;
 mod looking_again;
+mod nearly;
 mod page;
 mod place;
 mod report;

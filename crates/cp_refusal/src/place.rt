@@ -2,7 +2,8 @@
 
 ghost use Rattle.std.specs.Prelude.{◌+◌, ◌≤◌, IfSome, length};
 
-use cp_text::ScanCause;
+use cp_text::{Annotation, ScanCause, annotation_at};
+use std::alloc::{AllocError, Global};
 
 /// What a piece of a source is.
 #[derive(Clone, Copy, PartialEq, Eq)]
@@ -167,19 +168,56 @@ fn has_fault(cause: ScanCause, shape: PieceKind, text: &[u8], before: usize) -> 
     }
 }
 
+/// The longest source that has annotations, as it has tokens.
+const MOST_BYTES: usize = 65535;
+
+/// The annotation at the front of a text.
+fn annotation_of(text: &[u8]) -> Option<Annotation> {
+    if text.is_empty() || text.len() > MOST_BYTES {
+        return None;
+    }
+    annotation_at(text)
+}
+
+/// How many bytes stand up to the first quote, with it.
+fn closing_len(text: &[u8]) -> usize {
+    for (at, byte) in text.iter().enumerate() {
+        if *byte == b'"' {
+            return at.saturating_add(1);
+        }
+    }
+    text.len()
+}
+
+/// The piece at the front of a text, where `open` bytes stand before the closing of an annotation, and how many stand before it behind the piece.
+fn next_piece(text: &[u8], open: Option<usize>) -> (SourcePiece, Option<usize>) {
+    match open {
+        Some(0) => (piece(PieceKind::Sign, closing_len(text)), None),
+        Some(left) => {
+            let found = first_piece(&text[..left.min(text.len())]);
+            (found, Some(left.saturating_sub(found.len)))
+        }
+        None => match annotation_of(text) {
+            Some(found) => (piece(PieceKind::Sign, found.opening), Some(found.inner)),
+            None => (first_piece(text), None),
+        },
+    }
+}
+
 /// Where what is looked for stands in a source; `None` where it is not there.
 pub fn find(source: &[u8], sought: Sought) -> Option<ByteRange>
     ensures { IfSome result (λ found. found.from + found.len ≤ length source.now) }
 {
     let mut left: usize = 0;
     let mut before: usize = 0;
+    let mut open = None;
     for from in 0..source.len() {
         if left > 0 {
             left -= 1;
             continue;
         }
         let text = &source[from..];
-        let piece = first_piece(text);
+        let (piece, behind) = next_piece(text, open);
         let len = piece.len.min(text.len());
         let found = match sought {
             Sought::Token(at) => is_token(piece.shape) && before == at,
@@ -192,8 +230,31 @@ pub fn find(source: &[u8], sought: Sought) -> Option<ByteRange>
             before = before.saturating_add(1);
         }
         left = len.saturating_sub(1);
+        open = behind;
     }
     None
+}
+
+/// The comments of a source that are no annotations.
+pub fn comments(alloc: Global, source: &[u8]) -> Result<Vec<ByteRange>, AllocError> {
+    let mut found = Vec::new(alloc);
+    let mut left: usize = 0;
+    let mut open = None;
+    for from in 0..source.len() {
+        if left > 0 {
+            left -= 1;
+            continue;
+        }
+        let text = &source[from..];
+        let (piece, behind) = next_piece(text, open);
+        let len = piece.len.min(text.len());
+        if piece.shape == PieceKind::Comment {
+            found.push(ByteRange { from, len })?;
+        }
+        left = len.saturating_sub(1);
+        open = behind;
+    }
+    Ok(found)
 }
 
 /// Whether a comment stands between the token of this number and the one before it.

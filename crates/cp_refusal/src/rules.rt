@@ -117,7 +117,7 @@ fn too_large(tokens: &Tokens, at: usize) -> &'static str {
 }
 
 /// What is wrong with a token where a rule is broken, in the order of `Rule`; empty where that hangs on the token.
-const COMPLAINTS: [&str; 21] = [
+const COMPLAINTS: [&str; 22] = [
     " is not declared here",
     " is declared twice in one block",
     " is no constant, and its value has to be known before the program runs",
@@ -139,6 +139,7 @@ const COMPLAINTS: [&str; 21] = [
     " comes twice among the labels of this case",
     "",
     " is an array, a record or a set",
+    " is called in an annotation, which may call no routine of the program, so that it changes nothing",
 ];
 
 /// What is wrong with the token of this number, after its spelling.
@@ -153,9 +154,9 @@ fn complaint(tokens: &Tokens, at: usize, rule: Rule) -> &'static str {
 }
 
 /// The numbers of the rules, in the order of `Rule`.
-const CODES: [&str; 21] = [
+const CODES: [&str; 22] = [
     "C1", "C2", "C3", "C4", "C5", "C6", "C7", "C8", "C9", "C10", "C11", "C12", "C13", "C14", "C15",
-    "C16", "C17", "C18", "C19", "C20", "C21",
+    "C16", "C17", "C18", "C19", "C20", "C21", "C22",
 ];
 
 /// The number of a rule.
@@ -200,6 +201,7 @@ fn put_particular(teller: &mut Teller, declarations: &Declarations, rule: Rule) 
         Rule::C6 => put_unchangeable(teller, declarations),
         Rule::C7 => put_counts(teller, declarations),
         Rule::C8 => put_no_start(teller),
+        Rule::C9 | Rule::C10 | Rule::C22 => put_own_name(teller),
         Rule::C17 => put_array(teller),
         Rule::C21 => put_undisplayed(teller),
         _ => false,
@@ -303,6 +305,32 @@ fn put_no_start(teller: &mut Teller) -> bool {
     teller.put_tokens(single(teller.at));
     teller.put(" is no routine of this component: processes are started by init");
     true
+}
+
+/// Says that an annotation in a function can't speak of its result, where it names the function.
+fn put_own_name(teller: &mut Teller) -> bool {
+    if !teller.is_in_annotation() || !is_own_name(teller) {
+        return false;
+    }
+    teller.put_tokens(single(teller.at));
+    teller.put(" is the function itself: an annotation can't speak of its result");
+    true
+}
+
+/// Whether the token is the name of the function in which it stands.
+fn is_own_name(teller: &Teller) -> bool {
+    for place in (0..teller.at).rev() {
+        let next = place.saturating_add(1);
+        match teller.mark_at(place) {
+            Some(Mark::Procedure) => return false,
+            Some(Mark::Function) if teller.mark_at(next) == Some(Mark::Entry) => {
+                return teller.name_at(next.saturating_add(1)) == teller.name();
+            }
+            Some(Mark::Function) => return teller.name_at(next) == teller.name(),
+            _ => {}
+        }
+    }
+    false
 }
 
 /// Says how the components of an array are initialised.

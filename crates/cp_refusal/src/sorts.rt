@@ -1,8 +1,10 @@
 //! Of what sort a value is, as the checker sees it.
 
+use crate::draft::spelling;
 use crate::extent::Extent;
 use crate::teller::{Insertion, Reply, Teller};
 use cp_check::Rule;
+use cp_text::Mark;
 
 /// What sort of value an expression has.
 #[derive(Clone, Copy, PartialEq, Eq)]
@@ -45,27 +47,34 @@ impl Sort {
 
 /// The sorts of which one question tells whether a value has them, in the order of these questions: the words before the value, and those after it.
 static PLAIN_SORTS: [(Sort, &str, &str); 6] = [
-    (Sort::Integer, "if (", ") = 1 then"),
-    (Sort::Boolean, "if not (", ") then"),
-    (Sort::Character, "if (", ") = '(:65:)' then"),
-    (Sort::Set, "if (", ") = [ ] then"),
-    (Sort::Enumeration, "if [", "] = [ ] then"),
-    (Sort::Queue, "if empty (", ") then"),
+    (Sort::Integer, "(", ") = 1"),
+    (Sort::Boolean, "not (", ")"),
+    (Sort::Character, "(", ") = '(:65:)'"),
+    (Sort::Set, "(", ") = [ ]"),
+    (Sort::Enumeration, "[", "] = [ ]"),
+    (Sort::Queue, "empty (", ")"),
 ];
 
 /// A field with a name of the greatest length, that no program is likely to have.
-const NEW_FIELD: &str = ". q012345678901234567890123456789012345678 then";
+const NEW_FIELD: &str = ". q012345678901234567890123456789012345678";
 
 /// An index of each sort that is tried.
-const INDICES: [&str; 2] = ["[ 1 ] then", "[ '(:65:)' ] then"];
+const INDICES: [&str; 2] = ["[ 1 ]", "[ '(:65:)' ]"];
 
 impl<'a> Teller<'a> {
-    /// What the checker says of a value between words.
+    /// What the checker says of a value between words, as a condition of an `if`, or in an invariant as another one before it.
     fn ask_between(&mut self, before: &'static str, value: Extent, after: &'static str) -> Reply {
+        let (first, last) = if self.is_in_invariant() {
+            (spelling(Mark::Invariant), spelling(Mark::Closes))
+        } else {
+            ("if", "then")
+        };
         self.ask(&[
+            Insertion::Words(first),
             Insertion::Words(before),
             Insertion::Copied(value),
             Insertion::Words(after),
+            Insertion::Words(last),
         ])
     }
 
@@ -83,7 +92,7 @@ impl<'a> Teller<'a> {
 
     /// Whether the fault with an index is another than that there is none.
     fn takes_index(&mut self, value: Extent, index: &'static str) -> bool {
-        match self.ask_between("if", value, index) {
+        match self.ask_between("", value, index) {
             Reply::Fine => true,
             Reply::Broken { rule, at } => rule == Rule::C5 && at == 0,
             Reply::Unknown => false,
@@ -92,7 +101,11 @@ impl<'a> Teller<'a> {
 
     /// The sort of what has fields or indices.
     fn compound_sort(&mut self, value: Extent) -> Option<Sort> {
-        match self.ask_between("if", value, NEW_FIELD) {
+        // The fault of an invariant that is not boolean is at the same token as one of its first variable.
+        if self.is_in_invariant() {
+            return None;
+        }
+        match self.ask_between("", value, NEW_FIELD) {
             Reply::Broken { rule: Rule::C1, at } if at > 1 => return Some(Sort::Record),
             Reply::Broken { rule: Rule::C8, .. } => return Some(Sort::Component),
             _ => {}

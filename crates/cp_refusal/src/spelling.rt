@@ -30,6 +30,11 @@ fn is_two_apart(one: &[u8], other: &[u8]) -> bool {
         || is_one_apart(a, after_first(b))
 }
 
+/// Whether two words are equal, but for one letter at most.
+pub fn is_nearly(one: &[u8], other: &[u8]) -> bool {
+    one == other || is_one_apart(one, other)
+}
+
 // Short names are alike by chance.
 fn is_alike(one: &str, other: &str, letters: usize) -> bool {
     let (one, other) = (one.as_bytes(), other.as_bytes());

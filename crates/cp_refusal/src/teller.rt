@@ -1,6 +1,6 @@
 //! Who tells of a source that is refused at a token.
 
-use crate::draft::{push_copies, tokens_of};
+use crate::draft::{push_copies, spelling, tokens_of};
 use crate::extent::{Extent, between, statement_start};
 use crate::page::push_tokens;
 use crate::rules::{mark_at, name_at};
@@ -78,6 +78,18 @@ fn reply_to(fault: &CheckFault, pieces: Extent) -> Result<Reply, AllocError> {
     }
 }
 
+// The number of the opening of the annotation in which the token of this number stands.
+fn opening_before(tokens: &Tokens, at: usize) -> Option<usize> {
+    for place in (0..at).rev() {
+        match mark_at(tokens, place) {
+            Some(Mark::Assert | Mark::Invariant) => return Some(place),
+            Some(Mark::Closes) => return None,
+            _ => {}
+        }
+    }
+    None
+}
+
 impl<'a> Teller<'a> {
     pub fn new(alloc: Global, source: &'a [u8], tokens: &'a Tokens, at: usize) -> Teller<'a> {
         Teller {
@@ -109,9 +121,25 @@ impl<'a> Teller<'a> {
         name_at(self.tokens, at)
     }
 
-    /// The number of the first token of the innermost statement with the token.
+    /// The number of the first token of the innermost statement with the token, or of the invariant.
     pub fn place(&self) -> usize {
-        statement_start(self.tokens, self.at)
+        match opening_before(self.tokens, self.at) {
+            Some(opening) if self.mark_at(opening) == Some(Mark::Invariant) => opening,
+            _ => statement_start(self.tokens, self.at),
+        }
+    }
+
+    /// Whether the token stands in an annotation, behind its opening.
+    pub fn is_in_annotation(&self) -> bool {
+        opening_before(self.tokens, self.at).is_some()
+    }
+
+    /// The same of an invariant.
+    pub fn is_in_invariant(&self) -> bool {
+        match opening_before(self.tokens, self.at) {
+            Some(opening) => self.mark_at(opening) == Some(Mark::Invariant),
+            None => false,
+        }
     }
 
     /// Appends words.
@@ -150,6 +178,13 @@ impl<'a> Teller<'a> {
         let mut draft = Prose::new(self.alloc);
         push_copies(&mut draft, self.tokens, between(0, self.at));
         push_piece(&mut draft, self.tokens, Insertion::Words(word));
+        if self.is_in_annotation() && word != spelling(Mark::Closes) {
+            push_piece(
+                &mut draft,
+                self.tokens,
+                Insertion::Words(spelling(Mark::Closes)),
+            );
+        }
         let Some(tokens) = tokens_of(self.alloc, &draft)? else {
             return Ok(false);
         };

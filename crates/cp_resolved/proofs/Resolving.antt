@@ -60,7 +60,7 @@ module _ (t : Tree) (r : Tables) (read : IsRead t.program) (ok : IsAccepted t) (
   inside = inside_law t r same items_below stands (can_hold t r same ok placed framed (bodies_formed t read ok) stands)
 
   names_hold : NamesHold r
-  names_hold = record { calls = own_calls_law r t same ok; inside = inside.inside; actions = inside.actions }
+  names_hold = record { calls = own_calls_law r t same read ok; inside = inside.inside; actions = inside.actions }
 
   sound : IsSound r
   sound = laid_sound r t same (accepted_modest t r same read ok) names_hold

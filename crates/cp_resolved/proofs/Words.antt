@@ -117,7 +117,7 @@ unfoldable pub use Rattle.cp_layout.specs.LaidDeclarations.{constant_groups, hea
 pub use Rattle.cp_layout.specs.LaidExpressions.{as_integer, begun, begun_as, component_found, component_of_array, count_in, element_selected, entry_among, entry_in}
 pub use Rattle.cp_layout.specs.LaidExpressions.{entry_of, field_selected, signed, with_count}
 pub use Rattle.cp_layout.specs.LaidStatements.{assigned_as, initial_in, initial_of}
-unfoldable pub use Rattle.cp_layout.specs.LaidStatements.{assigned, statement, statements}
+unfoldable pub use Rattle.cp_layout.specs.LaidStatements.{assigned, checked, statement, statements}
 pub use Rattle.cp_layout.specs.LaidTypes.{enumeration_base, named_type, type_meant, with_constant}
 unfoldable pub use Rattle.cp_layout.specs.LaidTypes.{enumerated, field_group, field_groups, fields_of_type, simple_type, written_type}
 pub use Rattle.cp_symbols.specs.Symbols.{Noted}
@@ -173,7 +173,7 @@ pub use Rattle.cp_resolved.specs.SmallStatements.{AreSmallArms, AreSmallStatemen
 pub use Rattle.cp_resolved.specs.Soundness.{IsModest, IsOwnCall}
 pub use Rattle.cp_resolved.specs.Standing.{IsFit, IsFreeParameter, IsFreeVariable, IsStandingParameter, IsStandingVariable, are_few, are_free, is_bounded, is_element}
 pub use Rattle.cp_resolved.specs.Standing.{is_free, is_indexed, is_standing}
-pub use Rattle.cp_resolved.specs.Stands.{AreGiven, AssignedBy, CallItem, CalleeIs, GivenBy, Ground, IsCalled, IsGiven, ItemAt, OwnAll, PlaceGiven, ResultGoes, ValueGiven}
+pub use Rattle.cp_resolved.specs.Stands.{AreGiven, AssignedBy, BodyIs, CallItem, CalleeIs, GivenBy, Ground, IsCalled, IsGiven, ItemAt, OwnAll, PlaceGiven, ResultGoes, ValueGiven}
 pub use Rattle.cp_resolved.specs.Stands.{first_of, result_cell}
 pub use Rattle.cp_resolved.specs.Tokens.{all_tokens, groups_tokens, part_tokens, routine_tokens, system_tokens, token_of_type, type_tokens}
 pub use Rattle.cp_resolved.specs.TreeLayouts.{begun_at, call_variables, components_among, definition_parts, definitions_parts, first_in, frame_layout, hidden_origin}

@@ -5,6 +5,8 @@ pub mod DistinctOfTrees
 pub mod EntriesAllowed
 pub mod EnumerationsRead
 pub mod FramedOfTrees
+pub mod NamedRoutines
+pub mod Nameless
 pub mod Numbered
 pub mod OnceOfTrees
 pub mod OnceRoutines

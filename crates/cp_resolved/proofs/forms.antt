@@ -13,6 +13,7 @@ pub mod Moved
 pub mod MovedTypes
 pub mod NamesAlone
 pub mod Operations
+pub mod Quiet
 pub mod Selecting
 pub mod StatementsFit
 pub mod Typing

@@ -1,6 +1,8 @@
 pub mod CalleesKnown
 pub mod CallsJudged
 pub mod CallsKnown
+pub mod Calm
+pub mod ChecksKnown
 pub mod ComponentsCalled
 pub mod EachStatement
 pub mod ExpressionsJudged

@@ -1,6 +1,6 @@
 -- The function calls of statements in the order in which they take cells of the frame.
 use Rattle.std.specs.Prelude.{◌≡◌, ℕ, suc, ◌+◌, ◌⊎◌, ◌==◌, Bool, true, false, if◌then◌else◌, List, [], ◌∷◌, ◌++◌}
-use Rattle.cp_tree.specs.Syntax.{Start, Statement, empty, assign, invoke, block, if_then, if_else, case_of, while_do, repeat_until, for_do, cycle, init, Statements, no_statements, more_statements, Arms, no_arms, more_arms, Arm, arm}
+use Rattle.cp_tree.specs.Syntax.{Start, Statement, empty, assign, invoke, block, if_then, if_else, case_of, while_do, repeat_until, for_do, cycle, init, asserted, Statements, no_statements, more_statements, Arms, no_arms, more_arms, Arm, arm}
 use Rattle.cp_slots.specs.declared.place.PlaceOrigin.TheVariants.{Local}
 use Rattle.cp_meaning.specs.Names.{temporary}
 use Rattle.cp_meaning.specs.Scopes.{Scope}
@@ -27,6 +27,7 @@ abbrev mutual
   calls_laid s (for_do at i e d f t) = calls_laid s t ++ (expression_calls s e ++ expression_calls s f)
   calls_laid s (cycle at ts) = all_calls_laid s ts
   calls_laid s (init at ts) = starts_calls s ts
+  calls_laid s (asserted at k e t) = calls_laid s t ++ expression_calls s e
 
   pub all_calls_laid : Scope → Statements → List Item
   all_calls_laid s no_statements = []

@@ -1,6 +1,6 @@
 -- What accepted declarations have, of the names that are declared in one routine or system type.
 use Rattle.std.specs.Prelude.{◌≡◌, ℕ, false, List, [], ◌∷◌, ◌++◌}
-use Rattle.cp_tree.specs.Syntax.{Simple, type_name, enumeration, subrange, TypeTerm, simple, array_of, set_type, record_of, FieldGroups, no_fields, more_fields, fields, Part, constants, types, variables, RoutineKind, procedure, function, Routine, System, Definition, type_definition, system_definition, ProgramPart, program_constants, program_types, program_variables, Program}
+use Rattle.cp_tree.specs.Syntax.{Simple, type_name, enumeration, subrange, TypeTerm, simple, array_of, set_type, record_of, FieldGroups, no_fields, more_fields, fields, Part, constants, types, variables, RoutineKind, procedure, function, invariants, Routine, System, Definition, type_definition, system_definition, ProgramPart, program_constants, program_types, program_variables, Program}
 use Rattle.cp_meaning.specs.Names.{Name, same_name}
 use Rattle.cp_meaning.specs.Types.{Ty, component_of}
 use Rattle.cp_meaning.specs.Declarations.{names_of, Parameter}
@@ -49,6 +49,7 @@ part_names (variables at gs) = all_names (λ g. type_names g.variable_type ++ na
 abbrev pub kind_names : RoutineKind → List Name
 kind_names (procedure gs) = all_names (λ g. names_of g.group.names) gs
 kind_names (function gs i) = all_names (λ g. names_of g.names) gs
+kind_names invariants = []
 
 -- of a system type
 abbrev pub parameter_names : System → List Name

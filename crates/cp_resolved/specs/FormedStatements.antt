@@ -1,7 +1,7 @@
 -- The forms of accepted statements on slots: each expression has the form that its statement wants, and names are used as the rules want it.
 use Rattle.std.specs.Prelude.{◌≡◌, ℕ, true, Option, Some, None, slice_get}
 use Rattle.cp_tree.specs.declared.constant.Identifier.{Identifier}
-use Rattle.cp_tree.specs.Syntax.{Expression, Expressions, Designator, designator, no_selectors, Start, Routine, Statement, empty, assign, invoke, block, if_then, if_else, case_of, while_do, repeat_until, for_do, cycle, init, Statements, no_statements, more_statements, Arms, no_arms, more_arms, Arm, arm}
+use Rattle.cp_tree.specs.Syntax.{Expression, Expressions, Designator, designator, no_selectors, Start, Routine, Statement, empty, assign, invoke, block, if_then, if_else, case_of, while_do, repeat_until, for_do, cycle, init, asserted, Statements, no_statements, more_statements, Arms, no_arms, more_arms, Arm, arm}
 use Rattle.cp_slots.specs.declared.place.PlaceOrigin.{PlaceOrigin}
 use Rattle.cp_slots.specs.declared.place.PlaceOrigin.TheVariants.{Local}
 use Rattle.cp_symbols.specs.declared.symbols.FunctionResult.{FunctionResult}
@@ -153,6 +153,7 @@ abbrev mutual
   StatementFormed h (for_do at i e d f t) = ForFormed h i e f × StatementFormed h t
   StatementFormed h (cycle at ss) = AllFormed h ss
   StatementFormed h (init at ts) = Each (StartFormed h) ts
+  StatementFormed h (asserted at k e t) = TestFormed h e × StatementFormed h t
 
   pub AllFormed : Here → Statements → Type 0
   AllFormed h no_statements = Unit {0}

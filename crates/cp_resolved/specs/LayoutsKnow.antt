@@ -1,6 +1,7 @@
 -- The layouts of a tree know what stands where the statements of each routine and of each initial statement begin, as a law.
 use Rattle.std.specs.Prelude.{◌≡◌, ℕ, length, Some, slice_get}
-use Rattle.cp_tree.specs.Syntax.{Tree}
+use Rattle.cp_tree.specs.Syntax.{nameless, invariants, Routine, Tree}
+use Rattle.cp_meaning.specs.Scopes.{routine_meaning, find}
 use Rattle.cp_layout.specs.Layers.{Layer}
 use Rattle.cp_resolved.specs.Begun.{all_begun}
 use Rattle.cp_resolved.specs.Calls.{all_calls_laid, AreApart}
@@ -18,6 +19,8 @@ pub record IsPlaced (t : Tree) : Type 0 where
   pub once : IsOnce t.program
   pub sized : (n : ℕ) → AreSized (meaning_at t.program n).scope
   pub words : (n : ℕ) → AreWords (meaning_at t.program n).scope
+  -- a routine without a name says invariants
+  pub checks : (n : ℕ) (r : Routine) → find nameless (meaning_at t.program n).scope ≡ Some (routine_meaning r) → r.kind ≡ invariants
   pub apart : (n : ℕ) → AreApart (all_calls_laid (meaning_at t.program n).scope (meaning_at t.program n).body)
 
 abbrev pub place_of : Tree → ℕ → Here

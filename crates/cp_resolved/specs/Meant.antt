@@ -80,6 +80,7 @@ Means h (code.copy_cells p q size) = Assigns h (code.copy_cells p q size)
 Means h (code.block list) = Unit {0}
 Means h (code.choose c list other) = IsCell h c
 Means h (code.select c arms) = IsCell h c
+Means h (code.assert_that c said) = IsCell h c
 Means h (code.while_do c list again) = IsCell h c
 Means h (code.until c list again) = IsCell h c
 Means h (code.for_do o low high from to down list) = IsCounter h o × IsCell h from × IsCell h to

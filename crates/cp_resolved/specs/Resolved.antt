@@ -17,13 +17,13 @@ use Rattle.cp_meaning.specs.Components.{step_down}
 use Rattle.cp_meaning.specs.State as named
 use Rattle.cp_meaning.specs.State.{book_discipline, Environment}
 use Rattle.cp_meaning.specs.Places.{content_of, value_held, component_with, result_type}
-use Rattle.cp_meaning.specs.Calls.{least_of, least_result}
+use Rattle.cp_meaning.specs.Calls.{last_checks, least_of, least_result}
 use Rattle.cp_meaning.specs.Readings.{monitors_of}
 use Rattle.cp_meaning.specs.Steps.{parameter_variables, first_environment, opening, first_components}
 use Rattle.cp_resolved.specs.Enumerations.{constant_names}
 use Rattle.cp_resolved.specs.Layouts.{cells_of, FrameLayout, SystemLayout, Layouts, here, cell_named, is_named, look}
 use Rattle.cp_resolved.specs.Encoded.{encode, HasType}
-use Rattle.cp_resolved.specs.Stands.{Ground, OwnAll}
+use Rattle.cp_resolved.specs.Stands.{Ground, BodyIs}
 
 -- ---- cells of an image
 
@@ -78,7 +78,7 @@ pub record FrameIs (f : FrameLayout) (r : RoutineView) (m : RoutineMeaning) : Ty
 
 pub record RoutineIs (g : Ground) (p : Program) (l : Layouts) (n : ℕ) : Type 0 where
   pub frame : FrameIs (l.frames n) (routine_at g.tables n) (l.meanings n)
-  pub body : OwnAll g (here p l n) (l.meanings n).body (routine_at g.tables n).body None
+  pub body : BodyIs g (here p l n) (l.meanings n).body (last_checks (l.meanings n).checks (l.meanings n).scope) (routine_at g.tables n).body
   pub system : (routine_at g.tables n).system ≡ l.owners n
   pub owner : l.owners n ≤ program_system p
   -- its own name, in it, has its result
@@ -95,7 +95,7 @@ first_permanent s x = value_held (content_of x (first_environment s))
 
 -- the meaning of an initial statement as that of a routine
 abbrev pub initial_meaning : SystemMeaning → RoutineMeaning
-initial_meaning s = record { parameters = []; variables = []; result = None; scope = s.scope; body = s.body }
+initial_meaning s = record { parameters = []; variables = []; result = None; scope = s.scope; body = s.body; checks = true }
 
 -- a parameter is a component, or has cells
 abbrev pub SystemParameterIs : SystemLayout → Ty → Name → Type 0

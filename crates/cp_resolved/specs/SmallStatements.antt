@@ -1,5 +1,5 @@
 -- Statements whose expressions have small numbers.
-use Rattle.cp_tree.specs.Syntax.{Start, Statement, empty, assign, invoke, block, if_then, if_else, case_of, while_do, repeat_until, for_do, cycle, init, Statements, no_statements, more_statements, Arms, no_arms, more_arms, Arm, arm}
+use Rattle.cp_tree.specs.Syntax.{Start, Statement, empty, assign, invoke, block, if_then, if_else, case_of, while_do, repeat_until, for_do, cycle, init, asserted, Statements, no_statements, more_statements, Arms, no_arms, more_arms, Arm, arm}
 use Rattle.cp_resolved.specs.Small.{Each, IsSmallConstant}
 use Rattle.cp_resolved.specs.Typed.{IsSmallExpression, AreSmallExpressions, IsSmallDesignator}
 
@@ -20,6 +20,7 @@ abbrev mutual
   IsSmallStatement (for_do at i e d f t) = IsSmallExpression e × IsSmallExpression f × IsSmallStatement t
   IsSmallStatement (cycle at ss) = AreSmallStatements ss
   IsSmallStatement (init at ts) = Each IsSmallStart ts
+  IsSmallStatement (asserted at k e t) = IsSmallExpression e × IsSmallStatement t
 
   pub AreSmallStatements : Statements → Type 0
   AreSmallStatements no_statements = Unit {0}

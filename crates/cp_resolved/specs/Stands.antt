@@ -3,9 +3,13 @@
 use Rattle.std.specs.Prelude.{◌≡◌, ℕ, ◌<◌, ℤ, Bool, true, false, List, [], ◌∷◌, ◌++◌, length, map, Option, Some, None, slice_index}
 use Rattle.cp_tree.specs.declared.constant.Constant.{Constant}
 use Rattle.cp_tree.specs.declared.constant.Identifier.{Identifier}
+use Rattle.cp_tree.specs.declared.statement.AssertionKind.{AssertionKind}
+use Rattle.cp_tree.specs.declared.statement.AssertionKind.TheVariants as kinds
 use Rattle.cp_tree.specs.declared.statement.Direction.{Direction}
 use Rattle.cp_tree.specs.declared.statement.Direction.TheVariants.{To, Downto}
-use Rattle.cp_tree.specs.Syntax.{Expression, Expressions, no_expressions, more_expressions, Designator, designator, Selectors, Start, Statement, empty, assign, invoke, block, if_then, if_else, case_of, while_do, repeat_until, for_do, cycle, init, Statements, no_statements, more_statements, Arms, no_arms, more_arms, Arm, arm}
+use Rattle.cp_tree.specs.Syntax.{Expression, Expressions, no_expressions, more_expressions, Designator, designator, Selectors, Start, Statement, empty, assign, invoke, block, if_then, if_else, case_of, while_do, repeat_until, for_do, cycle, init, asserted, Statements, no_statements, more_statements, Arms, no_arms, more_arms, Arm, arm}
+use Rattle.cp_slots.specs.declared.item.Said.{Said}
+use Rattle.cp_slots.specs.declared.item.Said.TheVariants as said
 use Rattle.cp_slots.specs.declared.item.ShownKind.{ShownKind}
 use Rattle.cp_slots.specs.declared.item.ShownKind.TheVariants as kind
 use Rattle.cp_slots.specs.declared.place.PlaceOrigin.{PlaceOrigin}
@@ -15,10 +19,10 @@ use Rattle.cp_meaning.specs.Types.{Base, integers, booleans, characters, enumera
 use Rattle.cp_meaning.specs.Scopes.{Meaning, routine_meaning, standard_meaning, Standard, delay_procedure, continue_procedure, display_procedure, Scope, find}
 use Rattle.cp_meaning.specs.Declarations.{Parameter, RoutineMeaning, constant_of}
 use Rattle.cp_meaning.specs.Systems.{system_of}
-use Rattle.cp_meaning.specs.State.{Item, function_call}
+use Rattle.cp_meaning.specs.State.{Item, statement_item, function_call}
 use Rattle.cp_meaning.specs.Steps.{at_expression, at_designator}
 use Rattle.cp_meaning.specs.Expressions.{name_of, routine_called}
-use Rattle.cp_meaning.specs.Lifting.{expression_calls, expressions_calls, designator_calls}
+use Rattle.cp_meaning.specs.Lifting.{expression_calls, expressions_calls, designator_calls, checks_before}
 use Rattle.cp_slots.specs.Code as code
 use Rattle.cp_resolved.specs.Layouts.{cells_of, Here, frame_here, cell_named, look}
 use Rattle.cp_resolved.specs.Compiled.{Form, as_ordinal, as_set, as_place, as_component, Formed, place_form, a_variable, a_component, begun_form, expression_form, designator_form, is_boolean}
@@ -128,6 +132,13 @@ CallsAre g h first (function_call at d es ∷ items) last =
     (n : ℕ) × (mid : Option ℕ) × (first ≡ Some n) × CallItem g h n at d es (Some (temporary at)) mid × CallsAre g h mid items last
 CallsAre g h first (i ∷ items) last = ⊥
 
+-- the items of checks, from the first one to what comes after them
+abbrev pub ChecksAre : Ground → Here → Option ℕ → List Item → Option ℕ → Type 0
+ChecksAre g h first [] last = first ≡ last
+ChecksAre g h first (statement_item (invoke at d es) ∷ items) last =
+    (n : ℕ) × (mid : Option ℕ) × (first ≡ Some n) × CallItem g h n at d es None mid × ChecksAre g h mid items last
+ChecksAre g h first (i ∷ items) last = ⊥
+
 -- ---- assignments
 
 -- the action by the type of the target, whose own type the value has where it is no ordinal and no set
@@ -214,14 +225,17 @@ calls_in s (empty at) = []
 calls_in s (block at ts) = []
 calls_in s (repeat_until at ts e) = []
 calls_in s (cycle at ts) = []
+calls_in s (asserted at k e t) = expression_calls s e
 
 -- what holds of a statement's own item, and of the item after it
 abbrev pub OfOwn : Type 1
 OfOwn = ℕ → Option ℕ → Type 0
 
--- the items of a statement: its calls and its own, or those of its starts
+-- the items of a statement: its calls, a check of what waits, and its own, or those of its starts
 abbrev pub Leads : Ground → Here → Option ℕ → Statement → OfOwn → Option ℕ → Type 0
 Leads g h first (init at ts) own next = StartsAre g h first ts next
+Leads g h first (invoke at d es) own next =
+    (n : ℕ) × (check : Option ℕ) × CallsAre g h first (calls_in h.scope (invoke at d es)) check × ChecksAre g h check (checks_before at h.scope d) (Some n) × own n next
 Leads g h first t own next = (n : ℕ) × CallsAre g h first (calls_in h.scope t) (Some n) × own n next
 
 -- the test after the statements of a `repeat`, whose list stands for these statements once more
@@ -251,6 +265,11 @@ pub record WhileItem (g : Ground) (h : Here) (IsBody : Option ℕ → Type 0) (n
   pub list : IsBody body
   pub calls : CallsAre g h (Some again) (expression_calls h.scope e) (Some n)
   pub item : ItemAt g n at next (code.while_do test body again)
+
+-- what an annotation speaks of
+abbrev pub said_of : AssertionKind → Said
+said_of kinds.Assertion = said.Assertion
+said_of kinds.Invariant = said.Invariant
 
 abbrev pub is_down : Direction → Bool
 is_down To = false
@@ -289,6 +308,8 @@ abbrev mutual
   Own g h (for_do at i e d f t) n next = ForItem g h (λ list. Leads g h list t (Own g h t) None) n at i e d f next
   Own g h (cycle at ss) n next = (list : Option ℕ) × OwnAll g h ss list None × ItemAt g n at next (code.cycle list)
   Own g h (init at ts) n next = ⊥
+  -- The statement stands behind what is said before it.
+  Own g h (asserted at k e t) n next = (c : code.OrdinalExpression) × (mid : Option ℕ) × IsTest h e c × Leads g h mid t (Own g h t) next × ItemAt g n at mid (code.assert_that c (said_of k))
 
   -- a list of statements, from its first item to what comes after it
   pub OwnAll : Ground → Here → Statements → Option ℕ → Option ℕ → Type 0
@@ -303,6 +324,10 @@ abbrev mutual
 
   pub OwnArm : Ground → Here → Arm → code.Arm → Type 0
   OwnArm g h (arm cs t) x = (x.labels ≡ labels_of h.scope cs) × Leads g h x.body t (Own g h t) None
+
+-- the statements of a body and the checks at its end, from the first item
+abbrev pub BodyIs : Ground → Here → Statements → List Item → Option ℕ → Type 0
+BodyIs g h ss checks first = (end : Option ℕ) × OwnAll g h ss first end × ChecksAre g h end checks None
 
 -- a statement, from its first item to what comes after it
 abbrev pub StatementIs : Ground → Here → Option ℕ → Statement → Option ℕ → Type 0

@@ -51,6 +51,8 @@ pub enum Rule {
     C20,
     /// `display` of what is not ordinal.
     C21,
+    /// An annotation calls a routine.
+    C22,
 }
 
 /// Why a program is not accepted. A place is the number of tokens before it.

@@ -15,6 +15,7 @@ use Rattle.cp_slots.specs.declared.place.ComponentPlace.TheVariants as component
 use Rattle.cp_slots.specs.declared.place.ArgumentValue as code_value
 use Rattle.cp_slots.specs.declared.place.ArgumentValue.TheVariants as value
 use Rattle.cp_slots.specs.declared.place.Argument as code_argument
+use Rattle.cp_slots.specs.declared.item.Said.{Said}
 use Rattle.cp_slots.specs.declared.item.ShownKind.{ShownKind}
 use Rattle.cp_slots.specs.declared.item.ResolvedArm as code_arm
 use Rattle.cp_slots.specs.declared.item.Action as code_action
@@ -160,6 +161,7 @@ pub data Action : Type 0 where
   block : Option ℕ → Action
   choose : OrdinalExpression → Option ℕ → Option ℕ → Action
   select : OrdinalExpression → List Arm → Action
+  assert_that : OrdinalExpression → Said → Action
   while_do : OrdinalExpression → Option ℕ → ℕ → Action
   until : OrdinalExpression → Option ℕ → ℕ → Action
   -- variable, least, last, from, to, downwards, list
@@ -180,6 +182,7 @@ action_seen (action.Copy p q size) = copy_cells (place_seen p) (place_seen q) si
 action_seen (action.Block list) = block list
 action_seen (action.If e s t) = choose (expression_seen e) s t
 action_seen (action.Case e arms) = select (expression_seen e) (map arm_seen arms.items)
+action_seen (action.Assert e said) = assert_that (expression_seen e) said
 action_seen (action.While e s again) = while_do (expression_seen e) s again
 action_seen (action.Until e s again) = until (expression_seen e) s again
 action_seen (action.For variable low high from to down s) = for_do variable low high (expression_seen from) (expression_seen to) down s

@@ -2,7 +2,7 @@
 use Rattle.std.specs.Prelude.{IsTrue, ◌≡◌, ℕ, ◌+◌, ◌<◌, ◌≤◌, ◌-◌, List, length, Option, Some, None, slice_index_or}
 use Rattle.cp_slots.specs.declared.place.Argument.{Argument}
 use Rattle.cp_slots.specs.declared.item.Action.{Action}
-use Rattle.cp_slots.specs.declared.item.Action.TheVariants.{Empty, Assign, AssignSet, Copy, Block, If, Case, While, Until, For, Cycle, Call, Start, Delay, Continue, Display}
+use Rattle.cp_slots.specs.declared.item.Action.TheVariants.{Empty, Assign, AssignSet, Copy, Block, If, Case, Assert, While, Until, For, Cycle, Call, Start, Delay, Continue, Display}
 use Rattle.cp_slots.specs.declared.item.ResolvedArm.{ResolvedArm}
 use Rattle.cp_slots.specs.declared.item.Item.{Item}
 use Rattle.cp_slots.specs.declared.tables.ComponentKind.{ComponentKind}
@@ -50,6 +50,7 @@ ActionFits t routine need (Copy target source size) = Unit {0}
 ActionFits t routine need (Block list) = InnerFits t routine need list
 ActionFits t routine need (If test then otherwise) = InnerFits t routine need then × InnerFits t routine need otherwise
 ActionFits t routine need (Case selector arms) = ArmsFit t routine need arms.items
+ActionFits t routine need (Assert test said) = Unit {0}
 -- a loop's list stands above the item where the loop begins again
 ActionFits t routine need (While test body again) = InnerFits t routine need body × Nests t routine need again
 ActionFits t routine need (Until test body again) = InnerFits t routine need body × Nests t routine need again

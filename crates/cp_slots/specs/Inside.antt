@@ -1,7 +1,7 @@
 -- When what an item reads and writes is inside what it names: the permanent cells of its component, its frame, or the cells of a `var` parameter.
 use Rattle.std.specs.Prelude.{ℕ, ◌-◌, ◌+◌, ◌*◌, nat_le, nat_lt, ◌==◌, Bool, true, false, ◌&&◌, if◌then◌else◌, List, [], ◌∷◌, length, map, Option, Some, None, ◌-ℤ◌, slice_index_or, unsigned_abs}
 use Rattle.cp_slots.specs.declared.item.Action.{Action}
-use Rattle.cp_slots.specs.declared.item.Action.TheVariants.{Empty, Assign, AssignSet, Copy, Block, If, Case, While, Until, For, Cycle, Call, Start, Delay, Continue, Display}
+use Rattle.cp_slots.specs.declared.item.Action.TheVariants.{Empty, Assign, AssignSet, Copy, Block, If, Case, Assert, While, Until, For, Cycle, Call, Start, Delay, Continue, Display}
 use Rattle.cp_slots.specs.declared.place.Argument.{Argument}
 use Rattle.cp_slots.specs.declared.place.ArgumentValue.{ArgumentValue}
 use Rattle.cp_slots.specs.declared.place.ArgumentValue.TheVariants as value
@@ -164,6 +164,7 @@ action_inside t r (Copy target source size) = has size (place_room r source) && 
 action_inside t r (Block list) = true
 action_inside t r (If test list other) = expression_inside r test
 action_inside t r (Case selector arms) = expression_inside r selector
+action_inside t r (Assert test said) = expression_inside r test
 action_inside t r (While test body again) = expression_inside r test
 action_inside t r (Until test body again) = expression_inside r test
 action_inside t r (For variable low high from to down body) = has 1 (room_from r variable) && (expression_inside r from && expression_inside r to)

@@ -14,6 +14,13 @@ pub enum ShownKind {
     Constant(u16),
 }
 
+/// What an annotation speaks of: a place in the text, or a component.
+#[derive(Clone, Copy, Drop)]
+pub enum Said {
+    Assertion,
+    Invariant,
+}
+
 /// An arm of a `case`.
 #[derive(Drop)]
 pub struct ResolvedArm {
@@ -55,6 +62,11 @@ pub enum Action {
     Case {
         selector: OrdinalExpression,
         arms: Vec<ResolvedArm>,
+    },
+    /// What an annotation says.
+    Assert {
+        test: OrdinalExpression,
+        said: Said,
     },
     While {
         test: OrdinalExpression,

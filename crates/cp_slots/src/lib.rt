@@ -6,7 +6,7 @@ pub mod place;
 pub mod resolved;
 pub mod tables;
 
-pub use item::{Action, Item, ResolvedArm, ShownKind};
+pub use item::{Action, Item, ResolvedArm, Said, ShownKind};
 pub use place::{
     Argument, ArgumentValue, Arithmetic, Comparison, ComponentPlace, Index, Logic,
     OrdinalExpression, Place, PlaceOrigin, SetExpression, SetOperation,

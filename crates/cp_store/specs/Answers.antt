@@ -15,3 +15,5 @@ answered answer.NoCase = Err error.NoCase
 answered answer.QueueInUse = Err error.QueueInUse
 answered answer.NotInit = Err error.NotInit
 answered answer.InitTwice = Err error.InitTwice
+answered answer.Assertion = Err error.Assertion
+answered answer.Invariant = Err error.Invariant

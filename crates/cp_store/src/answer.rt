@@ -16,6 +16,8 @@ pub enum Evaluation {
     QueueInUse,
     NotInit,
     InitTwice,
+    Assertion,
+    Invariant,
 }
 
 impl Evaluation {
@@ -42,6 +44,8 @@ impl Evaluation {
             ErrorName::QueueInUse => Evaluation::QueueInUse,
             ErrorName::NotInit => Evaluation::NotInit,
             ErrorName::InitTwice => Evaluation::InitTwice,
+            ErrorName::Assertion => Evaluation::Assertion,
+            ErrorName::Invariant => Evaluation::Invariant,
         }
     }
 
@@ -58,7 +62,9 @@ impl Evaluation {
             | Evaluation::NoCase
             | Evaluation::QueueInUse
             | Evaluation::NotInit
-            | Evaluation::InitTwice => Err(self.name()),
+            | Evaluation::InitTwice
+            | Evaluation::Assertion
+            | Evaluation::Invariant => Err(self.name()),
         }
     }
 
@@ -77,6 +83,8 @@ impl Evaluation {
             Evaluation::QueueInUse => ErrorName::QueueInUse,
             Evaluation::NotInit => ErrorName::NotInit,
             Evaluation::InitTwice => ErrorName::InitTwice,
+            Evaluation::Assertion => ErrorName::Assertion,
+            Evaluation::Invariant => ErrorName::Invariant,
         }
     }
 }

@@ -10,4 +10,8 @@ pub enum ErrorName {
     QueueInUse,
     NotInit,
     InitTwice,
+    /// An assertion is false.
+    Assertion,
+    /// An invariant is false.
+    Invariant,
 }

@@ -5,7 +5,7 @@ use Rattle.std.specs.Prelude.{eqb, ◌==◌, ◌||◌, ℤ, pos, slice_set, slic
 use Rattle.std.specs.List.{list_any}
 use Rattle.std.specs.Ordering.{int_eq}
 use Rattle.cp_slots.specs.declared.item.Action.{Action}
-use Rattle.cp_slots.specs.declared.item.Action.TheVariants.{Empty, Assign, AssignSet, Copy, Block, If, Case, While, Until, For, Cycle, Call, Start, Delay, Continue, Display}
+use Rattle.cp_slots.specs.declared.item.Action.TheVariants.{Empty, Assign, AssignSet, Copy, Block, If, Case, Assert, While, Until, For, Cycle, Call, Start, Delay, Continue, Display}
 use Rattle.cp_slots.specs.declared.item.Item.{Item}
 use Rattle.cp_slots.specs.declared.place.Argument.{Argument}
 use Rattle.cp_slots.specs.declared.tables.ComponentKind.{ComponentKind}
@@ -264,6 +264,7 @@ module _ (r : Tables) (m : Machine) (pid q : ℕ) (other : q ≡ pid → ⊥) (h
   act_asleep at item (Case selector arms) es plain =
       evaluated (value_of m pid selector) _ _ (λ e. h.queued) (λ v.
       evaluated (arm_for v arms.items) _ _ (λ e. h.queued) (λ list. going _))
+  act_asleep at item (Assert test said) es plain = evaluated (value_of m pid test) _ _ (λ e. h.queued) (λ v. either (is_true v) _ _ (going _) h.queued)
   act_asleep at item (While test list again) es plain = evaluated (value_of m pid test) _ _ (λ e. h.queued) (λ v. going _)
   act_asleep at item (Until test list again) es plain = evaluated (value_of m pid test) _ _ (λ e. h.queued) (λ v. going _)
   act_asleep at item (For variable low high first last down list) es plain =

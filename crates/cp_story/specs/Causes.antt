@@ -204,6 +204,7 @@ failure_in m pid (action.Assign target e low high) = then_with (value_in m pid e
 failure_in m pid (action.AssignSet target e low high) = then_with (set_in m pid e) (λ s. then_with (address_in m pid target) (λ at. Err cause.Untold))
 failure_in m pid (action.Copy target source size) = then_with (address_in m pid source) (λ from. forgotten (address_in m pid target))
 failure_in m pid (action.If test then_list otherwise) = forgotten (value_in m pid test)
+failure_in m pid (action.Assert test said) = forgotten (value_in m pid test)
 failure_in m pid (action.Case selector arms) = then_with (value_in m pid selector) (λ z. Err (unlabelled selector z))
 failure_in m pid (action.While test body again) = forgotten (value_in m pid test)
 failure_in m pid (action.Until test body again) = forgotten (value_in m pid test)

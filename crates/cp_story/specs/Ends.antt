@@ -6,7 +6,7 @@ use Rattle.cp_run.specs.declared.outcome.OutcomeKind.{OutcomeKind}
 use Rattle.cp_run.specs.declared.outcome.OutcomeKind.TheVariants.{Finished, AllWaiting, RunError, ChoiceLimit, StepLimit, OutputLimit}
 use Rattle.cp_run.specs.Run.{Answer, Ended, Wants, NotReady}
 use Rattle.cp_store.specs.declared.error.ErrorName.{ErrorName}
-use Rattle.cp_store.specs.declared.error.ErrorName.TheVariants.{Overflow, ZeroDivisor, Range, NoCase, QueueInUse, NotInit, InitTwice}
+use Rattle.cp_store.specs.declared.error.ErrorName.TheVariants.{Overflow, ZeroDivisor, Range, NoCase, QueueInUse, NotInit, InitTwice, Assertion, Invariant}
 use Rattle.cp_story.specs.Joined.{joined}
 use Rattle.cp_story.specs.Sentences.{alternatives_text, refused_text, shown_text}
 use Rattle.cp_story.specs.Story.{Decision}
@@ -21,6 +21,8 @@ error_name NoCase = codes "no-case"
 error_name QueueInUse = codes "queue-in-use"
 error_name NotInit = codes "not-init"
 error_name InitTwice = codes "init-twice"
+error_name Assertion = codes "assertion"
+error_name Invariant = codes "invariant"
 
 abbrev pub kind_name : OutcomeKind → List ℕ
 kind_name Finished = codes "finished"
@@ -44,6 +46,8 @@ error_phrase NoCase = codes "run error: no case for the value"
 error_phrase QueueInUse = codes "run error: a second process in a queue"
 error_phrase NotInit = codes "run error: used before its init"
 error_phrase InitTwice = codes "run error: a second init"
+error_phrase Assertion = codes "breaks an assertion"
+error_phrase Invariant = codes "breaks an invariant"
 
 abbrev pub kind_phrase : OutcomeKind → List ℕ
 kind_phrase Finished = codes "all have ended"

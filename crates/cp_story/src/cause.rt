@@ -130,6 +130,7 @@ fn failure_in(state: &State, pid: u8, item: &Item) -> Result<(), Cause>
         Action::If { test, .. } | Action::While { test, .. } | Action::Until { test, .. } => {
             forget(reading.value(test))
         }
+        Action::Assert { test, .. } => forget(reading.value(test)),
         Action::Case { selector, .. } => {
             let value = reading.value(selector)?;
             Err(unlabelled(selector, value))

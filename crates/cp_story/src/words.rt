@@ -359,6 +359,8 @@ pub fn error_words(name: ErrorName) -> &'static str
         ErrorName::QueueInUse => "queue-in-use",
         ErrorName::NotInit => "not-init",
         ErrorName::InitTwice => "init-twice",
+        ErrorName::Assertion => "assertion",
+        ErrorName::Invariant => "invariant",
     }
 }
 
@@ -508,5 +510,7 @@ fn error_phrase(name: ErrorName) -> &'static str
         ErrorName::QueueInUse => "run error: a second process in a queue",
         ErrorName::NotInit => "run error: used before its init",
         ErrorName::InitTwice => "run error: a second init",
+        ErrorName::Assertion => "breaks an assertion",
+        ErrorName::Invariant => "breaks an invariant",
     }
 }

@@ -31,7 +31,7 @@ use Rattle.cp_resolved.proofs.names.Entries.{last_or_before}
 use Rattle.cp_resolved.proofs.names.Headed.{AreAt, at_left, at_right}
 use Rattle.cp_resolved.proofs.names.KeptNames as kept
 use Rattle.cp_resolved.proofs.names.StepsOfRoutines.{begun_systems, body_count, routine_count, routines_count, openings_count, groups_routines, groups_systems}
-use Rattle.cp_story_laws.proofs.CalledRoutines.{HasName, IsCalled, CallsRoutine, IsName, AreEntries, Calling, statements_call}
+use Rattle.cp_story_laws.proofs.CalledRoutines.{HasName, IsCalled, CallsRoutine, IsName, AreEntries, Calling, body_calls}
 
 module _ (os : List Opening) where
   abbrev AreGood : Names → Type 0
@@ -83,13 +83,13 @@ module _ (os : List Opening) where
         items = subst (λ (js : List Item). Each (λ (i : Item). CallsRoutine os i.action) js) (sym is) h.items;
       }
 
-  body_calls : (l : Layer) (b : syntax.Body) → Calling os l → Calling os (body l b)
-  body_calls l b h = let k = statements_call os l b.statements h in record { names = k.names; systems = k.systems; pending = k.pending; items = k.items }
+  body_call : (l : Layer) (b : syntax.Body) (checks : Bool) → Calling os l → Calling os (body l b checks)
+  body_call l b checks h = let k = body_calls os l b.statements checks h in record { names = k.names; systems = k.systems; pending = k.pending; items = k.items }
 
   initial_calls : (l : Layer) (ps : Parameters) (b : syntax.Body) → Calling os l → Calling os (initial_statement l ps b)
   initial_calls l ps b h =
       let k : Layer = with_heading (with_new_frame l) (heading_with [] ps None) in
-      body_calls k b (record { names = h.names; systems = h.systems; pending = h.pending; items = h.items })
+      body_call k b true (record { names = h.names; systems = h.systems; pending = h.pending; items = h.items })
 
   -- ---- routines
 
@@ -113,7 +113,7 @@ module _ (os : List Opening) where
 
     pub routine_calls : IsCalled os (length l.routines) → Calling os l → Calling os (routine l r)
     routine_calls own k =
-        let b = body_calls (routine_begun l r) r.body (same_calls l (routine_begun l r) (begun_systems l r) begun_pending begun_items (begun_names own k.names) k) in
+        let b = body_call (routine_begun l r) r.body r.is_entry (same_calls l (routine_begun l r) (begun_systems l r) begun_pending begun_items (begun_names own k.names) k) in
         record { names = subst AreGood (sym (routine_names l r)) (own, k.names); systems = b.systems; pending = b.pending; items = b.items }
 
   routines_call : (l : Layer) (owner : ℕ) (s : Scope) (rs : List syntax.Routine) → AreAt os (length l.routines) (routine_openings owner s rs) → Calling os l → Calling os (routines l rs)
@@ -196,7 +196,7 @@ module _ (os : List Opening) where
             items = k.items;
           };
           count = (
-              let one : length m.routines ≡ suc (length b.routines) = body_count (with_heading (with_new_frame b) (heading_with [] g.0 None)) d.body in
+              let one : length m.routines ≡ suc (length b.routines) = body_count (with_heading (with_new_frame b) (heading_with [] g.0 None)) d.body true in
               let two = openings_count owner (parts_scope s d) d.routines in
               omega (arith, one, many, begun, two, length-append mine last));
         }

@@ -4,9 +4,10 @@ use Rattle.std.proofs.lemmas.Bool.{leb-true, ltb-true}
 use Rattle.std.proofs.lemmas.Option.{none-some, same_Some}
 use Rattle.std.specs.Str.{bytes_eq}
 use Rattle.cp_tree.specs.Syntax as syntax
+use Rattle.cp_tree.specs.declared.statement.AssertionKind.{AssertionKind}
 use Rattle.cp_tree.specs.declared.statement.Direction.{Direction}
 use Rattle.cp_slots.specs.Code as code
-use Rattle.cp_slots.specs.Code.{Action, Arm, Argument, ComponentPlace, Item, OrdinalExpression, Place}
+use Rattle.cp_slots.specs.Code.{Action, Arm, ComponentPlace, Item, OrdinalExpression, Place}
 use Rattle.cp_symbols.specs.Kinds.{Field}
 use Rattle.cp_symbols.specs.declared.kinds.ArrayType.{ArrayType}
 use Rattle.cp_symbols.specs.declared.kinds.CellType.{CellType}
@@ -19,7 +20,9 @@ use Rattle.cp_layout.specs.Kinds.{field_of, array_of}
 use Rattle.cp_layout.specs.Values.{Value, Designated, a_variable, a_contained, a_component, a_routine, an_entry, a_standard, ordinal_of}
 use Rattle.cp_layout.specs.Layers.{Layer, Frame, Heading, Names, Pending, System, again, added, call_need, find, need_inside, pending_need, settled, settled_all, with_cell, with_room, without_pending}
 use Rattle.cp_layout.specs.LaidExpressions.{begun, begun_as, arguments, arguments_from, component_found, component_of_array, designator, element_found, element_selected, entry_among, entry_found, entry_in, entry_of, expression, field_found, field_selected, first_value, name_at, selector, selectors, with_count}
-use Rattle.cp_layout.specs.LaidStatements.{Target, target_of, assigned_as, assigned, performed, procedure, standard, callee_of, invoked_as, invoked, blocked, cycled, chosen, while_item, until_item, token_of, repeated, arms_need, selected, origin_of, low_of, high_of, is_down, for_item, initial_of, begun_component, Placed, placed_of, started_as, started, starts, statements, statement, arms, one_arm}
+use Rattle.cp_layout.specs.LaidDeclarations.{end_of_body}
+use Rattle.cp_layout.specs.LaidStatements.{Target, target_of, assigned_as, assigned, performed, procedure, checked_by, checked, checked_before, standard, callee_of, invoked_as, invoked, blocked, cycled, chosen, while_item, until_item, token_of, repeated, arms_need, selected, origin_of, low_of, high_of, is_down, for_item, initial_of, begun_component, Placed, placed_of, started_as, started, starts, said_of, assertion, statements, statement, arms, one_arm}
+use Rattle.cp_resolved.specs.ItemsStand.{body_items}
 use Rattle.cp_resolved.specs.Openings.{Opening}
 use Rattle.cp_resolved.specs.Small.{Each}
 use Rattle.cp_resolved.proofs.frames.FrameCells.{each_both as each_append}
@@ -169,12 +172,16 @@ module _ (os : List Opening) where
   settle : (l : Layer) (next : Option ℕ) → Calling l → Calling (settled l next).1
   settle l next h = all_settled (without_pending l) l.pending next h.pending (calling_changed l l.frame [] l.arguments tt h)
 
+  named_called : (l : Layer) (x : List ℕ) (r : ℕ) → Calling l → find x l.names ≡ Some (meaning.Routine r) → IsCalled r
+  named_called l x r h e = subst (λ (o : Option LayoutMeaning). IsGood (begun_as o)) e (begun_good x l.names h.names)
+
   calls : CallSteps Calling IsCalled ⊥ (λ x. ⊥)
   calls =
       record {
         callee = λ l d h b. designator_good l d h;
         counts = counts;
         call = λ l r at c b as' i e h. adds (with_room (with_cell l) r) at (code.call r c b as' (Some (length l.frame.image))) (call_need (with_cell l) r) i (room (with_cell l) r (cell l h));
+        check = λ l r h b e. named_called l syntax.nameless r h e;
       }
 
   -- ---- assignments, calls and starts
@@ -212,9 +219,25 @@ module _ (os : List Opening) where
   unfolding arguments
   handed_calls l r es h = let y = arguments_from l r 0 es in counts y.1 (length y.0) (arguments_walked calls l r 0 es h never)
 
+  checked_by_calls : (l : Layer) (at : ℕ) (o : Option LayoutMeaning) → find syntax.nameless l.names ≡ o → Calling l → Calling (checked_by l at o)
+  unfolding procedure
+  checked_by_calls l at (Some (meaning.Routine r)) e h =
+      let x = arguments l r syntax.no_expressions in
+      adds (with_room x.1 r) at (code.call r code.own false x.0 None) (call_need x.1 r) (named_called l syntax.nameless r h e) (room x.1 r (handed_calls l r syntax.no_expressions h))
+  checked_by_calls l at _ e h = h
+
+  checked_calls : (l : Layer) (at : ℕ) → Calling l → Calling (checked l at)
+  unfolding checked
+  checked_calls l at h = checked_by_calls l at (find syntax.nameless l.names) refl h
+
+  before_calls : (l : Layer) (at : ℕ) (q : PredeclaredRoutine) → Calling l → Calling (checked_before l at q)
+  before_calls l at predeclared.Delay h = checked_calls l at h
+  before_calls l at predeclared.Continue h = checked_calls l at h
+  before_calls l at _ h = h
+
   invoked_as_calls : (l : Layer) (at : ℕ) (d : Designated) (es : syntax.Expressions) → IsGood d → Calling l → Calling (invoked_as l at (callee_of d) es)
   unfolding standard procedure
-  invoked_as_calls l at (a_standard q) es i h = let x = first_value l es in adds x.1 at (performed q x.0) 0 (performs_none q x.0) (first_walked calls l es h never)
+  invoked_as_calls l at (a_standard q) es i h = let x = first_value l es in adds (checked_before x.1 at q) at (performed q x.0) 0 (performs_none q x.0) (before_calls x.1 at q (first_walked calls l es h never))
   invoked_as_calls l at (a_routine r) es i h = let x = arguments l r es in adds (with_room x.1 r) at (code.call r code.own false x.0 None) (call_need x.1 r) i (room x.1 r (handed_calls l r es h))
   invoked_as_calls l at (an_entry c r) es i h = let x = arguments l r es in adds (with_room x.1 r) at (code.call r c true x.0 None) (call_need x.1 r) i (room x.1 r (handed_calls l r es h))
   invoked_as_calls l at _ es i h = adds l at code.nothing 0 tt h
@@ -265,6 +288,10 @@ module _ (os : List Opening) where
       let y = expression (expression l e).1 f in
       list_adds y.1 at (code.for_do (origin_of t.place) (low_of t.value_type) (high_of t.value_type) (ordinal_of (expression l e).0) (ordinal_of y.0) (is_down d) o) (need_inside y.1.items o) tt (value_calls (expression l e).1 f (value_calls l e h))
 
+  assertion_calls : (l : Layer) (at : ℕ) (k : AssertionKind) (e : syntax.Expression) → Calling l → Calling (assertion l at k e)
+  unfolding assertion
+  assertion_calls l at k e h = let x = expression l e in list_adds x.1 at (code.assert_that (ordinal_of x.0) (said_of k)) 0 tt (value_calls l e h)
+
   repeated_calls : (l : Layer) (at : ℕ) (o : Option ℕ) (e : syntax.Expression) (next : Option ℕ) → Calling l → Calling (repeated l at o e next).1
   repeated_calls l at o e next h =
       let y = settled (until_item l (token_of e) e o) next in
@@ -273,15 +300,15 @@ module _ (os : List Opening) where
   mutual
     unfolding statements statement arms one_arm
 
-    pub statements_call : (l : Layer) (ss : syntax.Statements) → Calling l → Calling (statements l ss).1
-    statements_call l syntax.no_statements h = h
-    statements_call l (syntax.more_statements t ts) h = statement_calls (statements l ts).1 t (statements l ts).0 (statements_call l ts h)
+    statements_call : (l : Layer) (ss : syntax.Statements) (after : Option ℕ) → Calling l → Calling (statements l ss after).1
+    statements_call l syntax.no_statements after h = h
+    statements_call l (syntax.more_statements t ts) after h = statement_calls (statements l ts after).1 t (statements l ts after).0 (statements_call l ts after h)
 
     statement_calls : (l : Layer) (t : syntax.Statement) (next : Option ℕ) → Calling l → Calling (statement l t next).1
     statement_calls l (syntax.empty at) next h = settle (added l at code.nothing 0) next (adds l at code.nothing 0 tt h)
     statement_calls l (syntax.assign at d e) next h = settle (assigned l at d e) next (assigned_calls l at d e h)
     statement_calls l (syntax.invoke at d es) next h = settle (invoked l at d es) next (invoked_calls l at d es h)
-    statement_calls l (syntax.block at ss) next h = let x = statements l ss in settle (blocked x.1 at x.0) next (list_adds x.1 at (code.block x.0) (need_inside x.1.items x.0) tt (statements_call l ss h))
+    statement_calls l (syntax.block at ss) next h = let x = statements l ss None in settle (blocked x.1 at x.0) next (list_adds x.1 at (code.block x.0) (need_inside x.1.items x.0) tt (statements_call l ss None h))
     statement_calls l (syntax.if_then at e t) next h = let x = statement l t None in settle (chosen x.1 at e x.0 None) next (chosen_calls x.1 at e x.0 None (statement_calls l t None h))
     statement_calls l (syntax.if_else at e t u) next h =
         let x = statement l t None in
@@ -289,10 +316,11 @@ module _ (os : List Opening) where
         settle (chosen y.1 at e x.0 y.0) next (chosen_calls y.1 at e x.0 y.0 (statement_calls x.1 u None (statement_calls l t None h)))
     statement_calls l (syntax.case_of at e as' q) next h = let x = arms l as' in settle (selected x.1 at e x.0) next (selected_calls x.1 at e x.0 (arms_call l as' h))
     statement_calls l (syntax.while_do at e t) next h = let x = statement l t None in settle (while_item x.1 at e x.0) next (while_calls x.1 at e x.0 (statement_calls l t None h))
-    statement_calls l (syntax.repeat_until at ss e) next h = let x = statements l ss in repeated_calls x.1 at x.0 e next (statements_call l ss h)
+    statement_calls l (syntax.repeat_until at ss e) next h = let x = statements l ss None in repeated_calls x.1 at x.0 e next (statements_call l ss None h)
     statement_calls l (syntax.for_do at i e d f t) next h = let x = statement l t None in settle (for_item x.1 at i.name e d f x.0) next (for_calls x.1 at i.name e d f x.0 (statement_calls l t None h))
-    statement_calls l (syntax.cycle at ss) next h = let x = statements l ss in settle (cycled x.1 at x.0) next (list_adds x.1 at (code.cycle x.0) (need_inside x.1.items x.0) tt (statements_call l ss h))
+    statement_calls l (syntax.cycle at ss) next h = let x = statements l ss None in settle (cycled x.1 at x.0) next (list_adds x.1 at (code.cycle x.0) (need_inside x.1.items x.0) tt (statements_call l ss None h))
     statement_calls l (syntax.init at ts) next h = starts_call l ts next h
+    statement_calls l (syntax.asserted at k e t) next h = let x = statement l t next in settle (assertion x.1 at k e) x.0 (assertion_calls x.1 at k e (statement_calls l t next h))
 
     arms_call : (l : Layer) (as' : syntax.Arms) → Calling l → Calling (arms l as').1
     arms_call l syntax.no_arms h = h
@@ -300,3 +328,12 @@ module _ (os : List Opening) where
 
     arm_calls : (l : Layer) (a : syntax.Arm) → Calling l → Calling (one_arm l a).1
     arm_calls l (syntax.arm labels t) h = statement_calls l t None h
+
+  -- ---- bodies
+
+  ended_calls : (l : Layer) (checks : Bool) → Calling l → Calling (end_of_body l checks).1
+  ended_calls l true h = settle (checked l 0) None (checked_calls l 0 h)
+  ended_calls l false h = settle l None h
+
+  pub body_calls : (l : Layer) (ss : syntax.Statements) (checks : Bool) → Calling l → Calling (body_items l ss checks).1
+  body_calls l ss checks h = let x = end_of_body l checks in statements_call x.1 ss x.0 (ended_calls l checks h)

@@ -3,7 +3,7 @@ use Rattle.std.proofs.Common.{◌≡◌, ◌∙◌, ℕ, ◌<◌, ◌==◌, Bool
 use Rattle.std.specs.Ordering.{int_eq}
 use Rattle.std.specs.Prelude.{ℤ, pos, slice_index_or}
 use Rattle.cp_slots.specs.declared.item.Action.{Action}
-use Rattle.cp_slots.specs.declared.item.Action.TheVariants.{Empty, Assign, AssignSet, Copy, Block, If, Case, While, Until, For, Cycle, Call, Start, Delay, Continue, Display}
+use Rattle.cp_slots.specs.declared.item.Action.TheVariants.{Empty, Assign, AssignSet, Copy, Block, If, Case, Assert, While, Until, For, Cycle, Call, Start, Delay, Continue, Display}
 use Rattle.cp_slots.specs.declared.item.Item.{Item}
 use Rattle.cp_slots.specs.declared.place.Argument.{Argument}
 use Rattle.cp_slots.specs.declared.tables.ComponentKind.{ComponentKind}
@@ -179,6 +179,7 @@ module _ (r : Tables) (os : List Opening) (m : Machine) (pid : ℕ) (there : pid
   act_other at item (Case selector arms) es plain =
       (evaluated_other (value_of m pid selector) _ _ (λ e. refl) (λ v.
       evaluated_other (arm_for v arms.items) _ _ (λ e. refl) (λ list. refl)))
+  act_other at item (Assert test said) es plain = (evaluated_other (value_of m pid test) _ _ (λ e. refl) (λ v. either_other (is_true v) _ _ refl refl))
   act_other at item (While test list again) es plain = (evaluated_other (value_of m pid test) _ _ (λ e. refl) (λ v. refl))
   act_other at item (Until test list again) es plain = (evaluated_other (value_of m pid test) _ _ (λ e. refl) (λ v. refl))
   act_other at item (For variable low high first last down list) es plain =

@@ -1,14 +1,14 @@
 -- What a process is about to do stands on the same line on names and on slots.
 use Rattle.std.proofs.Common.{◌≡◌, ◌∙◌, ℕ, List, [], ◌∷◌, Option, Some, None, ap, sym, refl}
 use Rattle.std.specs.Prelude.{slice_index}
-use Rattle.cp_tree.specs.Syntax.{Tree, Statement, empty, assign, invoke, block, if_then, if_else, case_of, while_do, repeat_until, for_do, cycle, init, Designator, Expression, Expressions}
+use Rattle.cp_tree.specs.Syntax.{Tree, Statement, empty, assign, invoke, block, if_then, if_else, case_of, while_do, repeat_until, for_do, cycle, init, asserted, Designator, Expression, Expressions}
 use Rattle.cp_slots.specs.Tables.{Tables, item_at}
 use Rattle.cp_machine.specs.declared.process.Entry.{Entry}
 use Rattle.cp_machine.specs.declared.process.Entry.TheVariants.{Rest, Successor, Return, InitEnd}
 use Rattle.cp_machine.specs.Machine.{Machine, thread_at}
 use Rattle.cp_meaning.specs.Expressions.{name_of}
 use Rattle.cp_meaning.specs.Scopes.{Meaning, standard_meaning, Standard, delay_procedure, continue_procedure, display_procedure, find}
-use Rattle.cp_meaning.specs.State.{State, Item, statement_item, function_call, start_item, until, successor, return, init_end, end}
+use Rattle.cp_meaning.specs.State.{State, Item, statement_item, function_call, start_item, until}
 use Rattle.cp_meaning.specs.State as named
 use Rattle.cp_meaning.specs.Steps.{at_statement, at_item}
 use Rattle.cp_resolved.specs.Layouts.{Layouts, Here, here}
@@ -48,6 +48,7 @@ module _ (g : Ground) (h : Here) (n : ℕ) (next : Option ℕ) where
   own_line (for_do at i e d f s) k = k.item.line
   own_line (cycle at ss) k = k.2.line
   own_line (init at ts) k = absurd k
+  own_line (asserted at a e s) k = k.4.line
 
   item_line : (i : Item) → ItemIs g h n i next → IsOn (at_item i)
   item_line (statement_item s) k = own_line s k

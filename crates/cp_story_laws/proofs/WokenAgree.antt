@@ -27,7 +27,7 @@ use Rattle.cp_machine.specs.declared.discipline.Signals.{Signals}
 use Rattle.cp_machine.specs.declared.discipline.Signals.TheVariants as signals
 use Rattle.cp_machine.specs.Calls.{continue_at, continue_by, continued_from, continued_in}
 use Rattle.cp_machine.specs.Fits.{LinesFit}
-use Rattle.cp_machine.specs.Machine.{Machine, Thread, is_delayed_at, is_ready, is_ready_status, no_thread, thread_at, with_stack}
+use Rattle.cp_machine.specs.Machine.{Machine, Thread, is_delayed_at, is_ready, no_thread, thread_at, with_stack}
 use Rattle.cp_machine.specs.Memory.{address_of}
 use Rattle.cp_machine.specs.Stack.{from_end, rest_of}
 use Rattle.cp_machine.specs.Statements.{Stepped, fault, with_value}

@@ -133,7 +133,7 @@ character_tells text = decided text (character text) refl (character_found text)
 
 -- ---- pieces
 
-inside_is : (text : List ℕ) (q : ℕ) → inside (q ∷ (text ++ q ∷ [])) ≡ text
+pub inside_is : (text : List ℕ) (q : ℕ) → inside (q ∷ (text ++ q ∷ [])) ≡ text
 inside_is text q =
     let e : suc (length (text ++ q ∷ [])) - 1 - 1 ≡ length text = omega (arith, length-append text (q ∷ [])) in
     rw e (take-append_seam text (q ∷ []))

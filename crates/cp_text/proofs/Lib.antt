@@ -1,4 +1,6 @@
+pub mod AnnotationLaws
 pub mod FoundLaws
+pub mod FrontLaws
 pub mod LexemeLaws
 pub mod NextLaws
 pub mod Numbers

@@ -12,7 +12,7 @@ use Rattle.cp_text.specs.declared.token.Kind.{Kind}
 use Rattle.cp_text.specs.Values.{is_lexeme}
 use Rattle.cp_text.specs.Lexemes.{next, begins_token, kind, with_len, meaning}
 use Rattle.cp_text.specs.Pieces.{first_piece}
-use Rattle.cp_text.specs.Reading.{Stands, NoneStands, IsLexeme, FaultAt, bad_byte, open_comment, open_char, open_too_many, breaks, too_many}
+use Rattle.cp_text.specs.Reading.{Stands, NoneStands, IsLexeme, FaultIn, bad_byte, open_comment, open_char, open_too_many, breaks, too_many}
 use Rattle.cp_text.proofs.FoundLaws.{Unread, Fits}
 use Rattle.cp_text.proofs.FoundLaws as unread
 use Rattle.cp_text.proofs.LexemeLaws.{KindTells, kind_tells, kind_lexeme, kind_blank, kind_breaks, below_eq, above_eq, below_of, above_of}
@@ -50,7 +50,7 @@ unread_char b e (unread.bad_byte one other is) at = absurd (other at)
 unread_char b e (unread.open_comment it is) at = absurd (omega arith)
 unread_char b e (unread.open_char it is) at = is
 
-pub next_fault : (count : ℕ) (text : List ℕ) (e : ScanCause) → FaultAt count text e → next count text ≡ Err e
+pub next_fault : (count : ℕ) (text : List ℕ) (e : ScanCause) → FaultIn count text e → next count text ≡ Err e
 next_fault count text e (bad_byte b more is none not_comment not_char cause) =
     let u = none_is b more (subst NoneStands is none) in
     let known = unread_bad b u.cause u.reason not_comment not_char in
@@ -76,7 +76,7 @@ some_rest : (piece rest : List ℕ) → 0 < length piece → 0 < length (piece +
 some_rest [] rest h = absurd (omega arith)
 some_rest (b ∷ bs) rest h = omega arith
 
-pub fault_somewhere : (count : ℕ) (text : List ℕ) (e : ScanCause) → FaultAt count text e → 0 < length text
+pub fault_somewhere : (count : ℕ) (text : List ℕ) (e : ScanCause) → FaultIn count text e → 0 < length text
 fault_somewhere count text e (bad_byte b more is none not_comment not_char cause) = rw is (omega arith)
 fault_somewhere count text e (open_comment more is none cause) = rw is (omega arith)
 fault_somewhere count text e (open_char more is none below cause) = rw is (omega arith)
@@ -100,7 +100,7 @@ pub record NextPiece (count : ℕ) (text : List ℕ) (k : Option Kind) (n : ℕ)
 
 abbrev pub NextTells : ℕ → List ℕ → Result (Option Kind × ℕ) ScanCause → Type 0
 NextTells count text (Ok p) = NextPiece count text p.0 p.1
-NextTells count text (Err e) = FaultAt count text e
+NextTells count text (Err e) = FaultIn count text e
 
 only_left : (x y : Bool) → (x && y) ≡ false → y ≡ true → x ≡ false
 only_left true y e h = sym h ∙ e

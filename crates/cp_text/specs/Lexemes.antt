@@ -79,6 +79,10 @@ abbrev pub meaning : List ℕ → Result Piece ScanCause → Result (Option Kind
 meaning text (Ok p) = with_len p.len (kind p.shape (take p.len text))
 meaning text (Err e) = Err e
 
+-- no token may begin after this many
+abbrev pub is_full : ℕ → Bool
+is_full count = nat_le 20000 count
+
 -- The piece at the front of a text after `count` tokens: the kind of its token, if it is a lexeme, and its length.
 unfoldable pub next : ℕ → List ℕ → Result (Option Kind × ℕ) ScanCause
-next count text = if nat_le 20000 count && begins_token (first_piece text) then Err TooManyTokens else meaning text (first_piece text)
+next count text = if is_full count && begins_token (first_piece text) then Err TooManyTokens else meaning text (first_piece text)

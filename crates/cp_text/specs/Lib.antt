@@ -1,5 +1,7 @@
+pub mod Annotations
 pub mod Bytes
 pub mod Faults
+pub mod Fronts
 pub mod Kinds
 pub mod Lexemes
 pub mod Lines

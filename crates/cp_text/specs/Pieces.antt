@@ -13,6 +13,7 @@ use Rattle.cp_text.specs.declared.token.Mark.{Mark}
 use Rattle.cp_text.specs.declared.token.Mark.TheVariants as mark
 
 abbrev pub is_in : Class → ℕ → Bool
+is_in class.Separator b = is_separator b
 is_in class.Digit b = is_digit b
 is_in class.Word b = is_word_byte b
 is_in class.Comment b = is_in_comment b

@@ -1,8 +1,9 @@
 -- The reading of a text: its tokens, or its first fault.
 -- A text is cut into pieces from the left. Each piece has the shape of a separator, a comment or a lexeme, and no longer piece could stand in its place.
--- The tokens are the lexemes in order. The fault belongs to the first place where no piece stands, or where the one that stands breaks a rule or begins
+-- The tokens are the lexemes in order. A comment that is an annotation stands for an opening, the tokens of its inner text, which is cut by itself,
+-- and a closing. The fault belongs to the first place where no piece stands, or where the one that stands breaks a rule or begins
 -- a 20,001st token. A text is a list of bytes; 34 is the byte `"`, and 39 is `'`.
-use Rattle.std.specs.Prelude.{◌≡◌, ◌≢◌, ℕ, ◌+◌, ◌<◌, ◌≤◌, Bool, true, false, List, [], ◌∷◌, ◌++◌, length, codes, Contains, Ok, Err, ⊤}
+use Rattle.std.specs.Prelude.{◌≡◌, ◌≢◌, ℕ, suc, ◌+◌, ◌<◌, ◌≤◌, Bool, true, false, List, [], ◌∷◌, ◌++◌, length, codes, Contains, Some, None, Ok, Err, ⊤}
 use Rattle.std.specs.List.{AllPass}
 use Rattle.cp_text.specs.declared.fault.ScanCause.{ScanCause}
 use Rattle.cp_text.specs.declared.fault.ScanCause.TheVariants.{TooLong, BadByte, OpenComment, OpenChar, BadChar, NumberTooLarge, NameTooLong, TooManyTokens}
@@ -14,6 +15,7 @@ use Rattle.cp_text.specs.declared.token.Kind.TheVariants as kind
 use Rattle.cp_text.specs.declared.token.Mark.{Mark}
 use Rattle.cp_text.specs.declared.token.Mark.TheVariants as mark
 use Rattle.cp_text.specs.declared.token.Token.{Token}
+use Rattle.cp_text.specs.Annotations.{Annotated, annotation_by, annotation_of}
 use Rattle.cp_text.specs.Bytes.{is_separator, is_digit, is_letter, is_word_byte, is_in_comment, is_in_character, is_printable, line_feeds}
 use Rattle.cp_text.specs.Faults.{fault_at, Outcome}
 use Rattle.cp_text.specs.Values.{number_of, word_kind, is_lexeme}
@@ -139,28 +141,64 @@ Breaks shape.Name piece cause = (40 < length piece) × (cause ≡ NameTooLong)
 Breaks shape.Character piece cause = IsNoCharacter piece × (cause ≡ BadChar)
 Breaks _ piece cause = ⊥
 
--- These are the tokens of the parts, the first of which begins on this line: the lexemes, each on the line that it begins on.
+-- These are the lexemes of the parts, the first of which begins on this line, each on the line that it begins on.
+pub data AreLexemes : ℕ → List Part → List Token → Type 0 where
+  no_lexeme : {line : ℕ} → AreLexemes line [] []
+  between : {line : ℕ} {p : Part} {ps : List Part} {ts : List Token} → is_lexeme p.shape ≡ false
+      → AreLexemes (line + line_feeds p.text) ps ts → AreLexemes line (p ∷ ps) ts
+  one_lexeme : {line : ℕ} {p : Part} {t : Token} {ps : List Part} {ts : List Token} → IsLexeme p.shape p.text t.kind → t.line ≡ line
+      → AreLexemes (line + line_feeds p.text) ps ts → AreLexemes line (p ∷ ps) (t ∷ ts)
+
+-- an opening or a closing
+abbrev pub token_at : ℕ → Mark → Token
+token_at line m = record { kind = kind.Mark m; line = line }
+
+-- These are the tokens of the parts, the first of which begins on this line: the lexemes, and those of annotations. The inner text of one has no quote,
+-- and so no comment.
 pub data AreTokens : ℕ → List Part → List Token → Type 0 where
   no_more : {line : ℕ} → AreTokens line [] []
-  blank : {line : ℕ} {p : Part} {ps : List Part} {ts : List Token} → is_lexeme p.shape ≡ false
+  blank : {line : ℕ} {p : Part} {ps : List Part} {ts : List Token} → is_lexeme p.shape ≡ false → annotation_by p.shape p.text ≡ None
       → AreTokens (line + line_feeds p.text) ps ts → AreTokens line (p ∷ ps) ts
   lexeme : {line : ℕ} {p : Part} {t : Token} {ps : List Part} {ts : List Token} → IsLexeme p.shape p.text t.kind → t.line ≡ line
       → AreTokens (line + line_feeds p.text) ps ts → AreTokens line (p ∷ ps) (t ∷ ts)
+  annotated : {line : ℕ} {p : Part} {ps : List Part} (a : Annotated) (qs : List Part) (us ts : List Token)
+      → annotation_by p.shape p.text ≡ Some a → a.text ≡ joined qs [] → AreCut qs [] → AreLexemes (line + line_feeds a.before) qs us
+      → AreTokens (line + line_feeds p.text) ps ts
+      → AreTokens line (p ∷ ps) (token_at line a.mark ∷ us ++ token_at (line + line_feeds a.before + line_feeds a.text) mark.Closes ∷ ts)
 
 -- ---- faults
 
--- The fault at the front of a text before which `count` tokens stand. A bad byte and a comment begin no token; a `'` without a closing one does.
-pub data FaultAt (count : ℕ) (text : List ℕ) (cause : ScanCause) : Type 0 where
+-- The fault of a piece at the front of a text before which `count` tokens stand. A bad byte and a comment begin no token; a `'` without a closing one does.
+pub data FaultIn (count : ℕ) (text : List ℕ) (cause : ScanCause) : Type 0 where
   -- where no piece stands
-  bad_byte : (b : ℕ) (more : List ℕ) → text ≡ b ∷ more → NoneStands text → b ≢ 34 → b ≢ 39 → cause ≡ BadByte → FaultAt count text cause
-  open_comment : (more : List ℕ) → text ≡ 34 ∷ more → NoneStands text → cause ≡ OpenComment → FaultAt count text cause
-  open_char : (more : List ℕ) → text ≡ 39 ∷ more → NoneStands text → count < 20000 → cause ≡ OpenChar → FaultAt count text cause
-  open_too_many : (more : List ℕ) → text ≡ 39 ∷ more → NoneStands text → 20000 ≤ count → cause ≡ TooManyTokens → FaultAt count text cause
+  bad_byte : (b : ℕ) (more : List ℕ) → text ≡ b ∷ more → NoneStands text → b ≢ 34 → b ≢ 39 → cause ≡ BadByte → FaultIn count text cause
+  open_comment : (more : List ℕ) → text ≡ 34 ∷ more → NoneStands text → cause ≡ OpenComment → FaultIn count text cause
+  open_char : (more : List ℕ) → text ≡ 39 ∷ more → NoneStands text → count < 20000 → cause ≡ OpenChar → FaultIn count text cause
+  open_too_many : (more : List ℕ) → text ≡ 39 ∷ more → NoneStands text → 20000 ≤ count → cause ≡ TooManyTokens → FaultIn count text cause
   -- where a piece stands
   breaks : (s : Shape) (piece rest : List ℕ) → text ≡ piece ++ rest → Stands s piece rest → count < 20000
-      → Breaks s piece cause → FaultAt count text cause
+      → Breaks s piece cause → FaultIn count text cause
   too_many : (s : Shape) (piece rest : List ℕ) → text ≡ piece ++ rest → Stands s piece rest → 20000 ≤ count
-      → is_lexeme s ≡ true → cause ≡ TooManyTokens → FaultAt count text cause
+      → is_lexeme s ≡ true → cause ≡ TooManyTokens → FaultIn count text cause
+
+-- an annotation stands at the front of the text
+pub record AnnotationAt (text : List ℕ) (a : Annotated) : Type 0 where
+  pub piece : List ℕ
+  pub rest : List ℕ
+  pub whole : text ≡ piece ++ rest
+  pub stands : Stands shape.Comment piece rest
+  pub is : annotation_of piece ≡ Some a
+
+-- The fault at the front of a text that begins on this line, or in the annotation there, and the line of the fault.
+pub data FaultAt (line count : ℕ) (text : List ℕ) (cause : ScanCause) (at : ℕ) : Type 0 where
+  plain : FaultIn count text cause → at ≡ line → FaultAt line count text cause at
+  opening_too_many : (a : Annotated) → AnnotationAt text a → 20000 ≤ count → cause ≡ TooManyTokens → at ≡ line → FaultAt line count text cause at
+  inside : (a : Annotated) (qs : List Part) (us : List Token) (left : List ℕ) → AnnotationAt text a → a.text ≡ joined qs left → AreCut qs left
+      → AreLexemes (line + line_feeds a.before) qs us → suc (count + length us) ≤ 20000 → FaultIn (suc (count + length us)) left cause
+      → at ≡ line + line_feeds a.before + line_feeds (joined qs []) → FaultAt line count text cause at
+  closing_too_many : (a : Annotated) (qs : List Part) (us : List Token) → AnnotationAt text a → a.text ≡ joined qs [] → AreCut qs []
+      → AreLexemes (line + line_feeds a.before) qs us → suc (count + length us) ≡ 20000 → cause ≡ TooManyTokens
+      → at ≡ line + line_feeds a.before + line_feeds a.text → FaultAt line count text cause at
 
 -- ---- texts
 
@@ -185,8 +223,8 @@ pub record AreOfText (ts : List Token) : Type 0 where
 -- the text has this fault
 pub data HasFault (text : List ℕ) (f : ScanFault) : Type 0 where
   too_long : 65535 < length text → f ≡ fault_at 0 TooLong → HasFault text f
-  faulty : (parts : List Part) (ts : List Token) (rest : List ℕ) (cause : ScanCause) → length text ≤ 65535
-      → ReadsUpTo text parts ts rest → FaultAt (length ts) rest cause → f ≡ fault_at (1 + line_feeds (joined parts [])) cause → HasFault text f
+  faulty : (parts : List Part) (ts : List Token) (rest : List ℕ) (cause : ScanCause) (at : ℕ) → length text ≤ 65535
+      → ReadsUpTo text parts ts rest → FaultAt (1 + line_feeds (joined parts [])) (length ts) rest cause at → f ≡ fault_at at cause → HasFault text f
 
 -- the text reads to this
 abbrev pub Reading : List ℕ → Outcome → Type 0

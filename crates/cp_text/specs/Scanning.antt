@@ -6,7 +6,8 @@ use Rattle.cp_text.specs.declared.fault.ScanFault.{ScanFault}
 use Rattle.cp_text.specs.declared.token.Kind.{Kind}
 use Rattle.cp_text.specs.declared.token.Token.{Token}
 use Rattle.cp_text.specs.Faults.{Outcome, fault_at, out_of_memory}
-use Rattle.cp_text.specs.Lexemes.{next}
+use Rattle.cp_text.specs.declared.front.Front.{Front}
+use Rattle.cp_text.specs.Fronts.{front_piece}
 
 abbrev pub fault : ℕ → ScanCause → ScanFault
 fault line Memory = out_of_memory
@@ -19,20 +20,21 @@ added found (Some k) line = found ++ record { kind = k; line = line } ∷ []
 abbrev pub after_line : ℕ → ℕ → ℕ
 after_line b line = if b == 10 then line + 1 else line
 
--- on after the piece at the front, by `go` on the bytes that are left of it and the tokens found
-abbrev pub go_on : ℕ → List Token → (ℕ → List Token → Outcome) → Result (Option Kind × ℕ) ScanCause → Outcome
-go_on line found go (Ok p) = go (p.1 - 1) (added found p.0 line)
+-- on after the piece at the front, by `go` on the bytes that are left of it, those before the closing behind it, and the tokens found
+abbrev pub go_on : ℕ → List Token → (ℕ → Option ℕ → List Token → Outcome) → Result Front ScanCause → Outcome
+go_on line found go (Ok f) = go (f.len - 1) f.left (added found f.kind line)
 go_on line found go (Err e) = Err (fault_at line e)
 
--- What a text reads to after the tokens found. The first number counts the bytes that are left of a piece.
-unfoldable pub scan_from : ℕ → ℕ → List Token → List ℕ → Outcome
-scan_from left line found [] = Ok found
-scan_from (suc left) line found (b ∷ text) = scan_from left (after_line b line) found text
-scan_from zero line found (b ∷ text) = go_on line found (λ left ts. scan_from left (after_line b line) ts text) (next (length found) (b ∷ text))
+-- What a text reads to after the tokens found. The first number counts the bytes that are left of a piece, the second those between it and
+-- the closing of the annotation that it stands in.
+unfoldable pub scan_from : ℕ → Option ℕ → ℕ → List Token → List ℕ → Outcome
+scan_from left ahead line found [] = Ok found
+scan_from (suc left) ahead line found (b ∷ text) = scan_from left ahead (after_line b line) found text
+scan_from zero ahead line found (b ∷ text) = go_on line found (λ left o ts. scan_from left o (after_line b line) ts text) (front_piece (length found) ahead (b ∷ text))
 
 -- the tokens of a text, or its first fault
 unfoldable pub scan : List ℕ → Outcome
-scan text = if nat_lt 65535 (length text) then Err (fault_at 0 TooLong) else scan_from 0 1 [] text
+scan text = if nat_lt 65535 (length text) then Err (fault_at 0 TooLong) else scan_from 0 None 1 [] text
 
 -- what the scanner ensures: this outcome, unless memory is refused
 abbrev pub Scans : Outcome → Outcome → Type 0

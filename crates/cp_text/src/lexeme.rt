@@ -31,11 +31,18 @@ pub fn next(alloc: Global, count: usize, text: &[u8]) -> Result<(Option<Kind>, u
     ensures within { IfOk result (λ p. (1 ≤ p.1) × (p.1 ≤ length text.now)) }
 {
     let found = first_piece(text);
-    if count >= MOST_TOKENS && begins_token(&found) {
+    if is_full(count) && begins_token(&found) {
         return Err(ScanCause::TooManyTokens);
     }
     let Piece { shape, len } = found?;
     Ok((kind(alloc, shape, &text[..len])?, len))
+}
+
+/// Whether no token may begin after `count` others.
+pub fn is_full(count: usize) -> bool
+    ensures { result ≡ spec.is_full count }
+{
+    count >= MOST_TOKENS
 }
 
 fn begins_token(found: &Result<Piece, ScanCause>) -> bool

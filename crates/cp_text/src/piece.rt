@@ -29,7 +29,8 @@ pub struct Piece {
 
 /// The bytes that go on with a piece.
 #[derive(Clone, Copy)]
-enum Class {
+pub enum Class {
+    Separator,
     Digit,
     Word,
     Comment,
@@ -40,6 +41,7 @@ fn is_in(class: Class, b: u8) -> bool
     ensures { result ≡ spec.is_in class b }
 {
     match class {
+        Class::Separator => is_separator(b),
         Class::Digit => b.is_ascii_digit(),
         Class::Word => b.is_ascii_alphanumeric() || b == b'_',
         Class::Comment => b != b'"',
@@ -48,7 +50,7 @@ fn is_in(class: Class, b: u8) -> bool
 }
 
 /// How many bytes of the class stand at the front.
-fn run_len(class: Class, text: &[u8]) -> usize
+pub fn run_len(class: Class, text: &[u8]) -> usize
     ensures value { result ≡ prefix_len (spec.is_in class) text.now }
     ensures within { result ≤ length text.now }
     ensures moves { 0 < length text.now → spec.is_in class (slice_index text.now 0) ≡ true → 0 < result }
@@ -103,7 +105,8 @@ pub fn first_piece(text: &[u8]) -> Result<Piece, ScanCause>
     }
 }
 
-fn is_separator(b: u8) -> bool
+/// A blank, a tab, a carriage return or a line feed.
+pub fn is_separator(b: u8) -> bool
     ensures { result ≡ is_separator b }
 {
     b == b' ' || b == b'\t' || b == b'\r' || b == b'\n'

@@ -1,6 +1,6 @@
 //! From a text to its tokens.
 
-ghost use Rattle.std.specs.Prelude.{◌≡◌, ◌<◌, ◌≤◌, ◌^◌, ◌≢◌, [], length, OnOk, IfErr};
+ghost use Rattle.std.specs.Prelude.{◌≡◌, ◌<◌, ◌≤◌, ◌^◌, ◌≢◌, [], None, length, OnOk, IfErr};
 ghost use Rattle.cp_text.specs.Bytes.{line_feeds};
 ghost use Rattle.cp_text.specs.Reading.{Reading};
 ghost use Rattle.cp_text.specs.Faults.{out_of_memory, Outcome};
@@ -8,7 +8,7 @@ ghost use Rattle.cp_text.specs.Scanning as spec;
 ghost use Rattle.cp_text.specs.Scanning.{Scans};
 
 use crate::fault::{ScanCause, ScanFault};
-use crate::lexeme::next;
+use crate::front::{Front, front_piece};
 use crate::token::{Kind, Token, Tokens};
 use std::alloc::Global;
 
@@ -31,20 +31,27 @@ pub fn scan(alloc: Global, source: &[u8]) -> Result<Tokens, ScanFault>
     pieces(alloc, source)
 }
 
-/// Reads piece by piece.
+/// Reads piece by piece. `left` is how many bytes stand before the closing of the annotation that the piece is in.
 fn pieces(alloc: Global, source: &[u8]) -> Result<Tokens, ScanFault>
     requires { length source.now ≤ 65535 }
-    ensures { Scans (spec.scan_from 0 1 [] source.now) result }
+    ensures { Scans (spec.scan_from 0 None 1 [] source.now) result }
 {
     let mut items = Vec::new(alloc);
     let mut line = 1;
     let mut rest = source;
+    let mut left = None;
     while !rest.is_empty() {
-        let (kind, len) = match next(alloc, items.len(), rest) {
+        let found = match front_piece(alloc, items.len(), left, rest) {
             Ok(found) => found,
             Err(cause) => return Err(fault(line, cause)),
         };
+        let Front {
+            kind,
+            len,
+            left: behind,
+        } = found;
         add(&mut items, kind, line)?;
+        left = behind;
         let (front, after) = rest.split_at(len);
         line += line_feeds(front);
         rest = after;

@@ -44,7 +44,7 @@ impl Name {
     }
 }
 
-/// A reserved word or a sign. `(.` and `[` are one sign, and so are `.)` and `]`; `&` is the word `and`.
+/// A reserved word, a sign, or the opening or the closing of an annotation. `(.` and `[` are one sign, and so are `.)` and `]`; `&` is the word `and`.
 #[derive(Clone, Copy, PartialEq, Eq)]
 pub enum Mark {
     And,
@@ -106,6 +106,12 @@ pub enum Mark {
     Colon,
     Period,
     DoublePeriod,
+    /// The opening of an assertion, from the quote of its comment up to and with the word `assert`.
+    Assert,
+    /// The same of an invariant.
+    Invariant,
+    /// The closing of an annotation: `*)`, separators and the second quote, or that quote alone.
+    Closes,
 }
 
 /// A token's kind, with its value.

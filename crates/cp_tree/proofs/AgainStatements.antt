@@ -1,18 +1,20 @@
 -- The tokens of a statement are read as that statement.
-use Rattle.std.proofs.Common.{◌≡◌, ℕ, zero, suc, ◌+◌, ◌<◌, ◌≤◌, max, Bool, true, false, cond, List, [], ◌∷◌, Option, Some, None, refl, ap, subst, arith}
+use Rattle.std.proofs.Common.{◌≡◌, ℕ, zero, suc, ◌+◌, ◌<◌, ◌≤◌, max, Bool, true, false, cond, List, [], ◌∷◌, Option, Some, None, refl, sym, ap, subst, ◌∙◌, arith}
 use Rattle.cp_text.specs.declared.token.Kind.{Kind}
 use Rattle.cp_text.specs.declared.token.Kind.TheVariants as kind
 use Rattle.cp_text.specs.declared.token.Mark.{Mark}
 use Rattle.cp_text.specs.declared.token.Mark.TheVariants as mark
+use Rattle.cp_tree.specs.declared.statement.AssertionKind.TheVariants.{Assertion}
 use Rattle.cp_tree.specs.declared.statement.Direction.{Direction}
 use Rattle.cp_tree.specs.declared.statement.Direction.TheVariants as directions
 use Rattle.cp_tree.specs.Input as Input
 use Rattle.cp_tree.specs.Input.{Input, Outcome, Parser, ◌>>=◌, pure, same, is_mark, first, first_mark, next, advance, sees, after, expect}
-use Rattle.cp_tree.specs.Syntax.{Expression, Expressions, Designator, designator, Start, Statement, empty, assign, invoke, block, if_then, if_else, case_of, while_do, repeat_until, for_do, cycle, init, Statements, no_statements, more_statements, Arms, no_arms, more_arms, Arm, arm}
-use Rattle.cp_tree.specs.View.{expressions_of, statements_of, arms_of}
+use Rattle.cp_tree.specs.Syntax.{Expression, Expressions, Designator, designator, Start, Statement, empty, assign, invoke, block, if_then, if_else, case_of, while_do, repeat_until, for_do, cycle, init, asserted, Statements, no_statements, more_statements, Arms, no_arms, more_arms, Arm, arm}
+use Rattle.cp_tree.specs.View.{asserted_of, expressions_of, statements_of, arms_of}
 use Rattle.cp_tree.specs.Reading.{behind, separated, ended_list, identifier, constant}
+use Rattle.cp_tree.specs.ReadingAnnotations.{annotations_with}
 use Rattle.cp_tree.specs.ReadingExpressions.{expression, designator_with, arguments_with}
-use Rattle.cp_tree.specs.ReadingStatements.{if_of, direction, labels, start_with, init_with, named_with, if_with, while_with, for_with, repeat_with, block_with, cycle_with, arm_with, case_with, statement_by, statement_with, statement, statements_at}
+use Rattle.cp_tree.specs.ReadingStatements.{if_of, direction, labels, start_with, init_with, named_with, if_with, while_with, for_with, repeat_with, block_with, cycle_with, arm_with, case_with, statement_by, plain_with, statement_with, statement, statements_at}
 use Rattle.cp_tree.specs.Spelling.{direction_mark, put_optional, put_all, put_behind, put_constant, put_expression, put_arguments, put_designator, put_start, put_statement, put_more_statements, put_more_arms, put_arm}
 use Rattle.cp_tree.specs.SpellingIndexed.{Begins}
 use Rattle.cp_tree.specs.SpellingLevel.{expression_depth, designator_depth, deepest, start_depth, statement_depth}
@@ -22,6 +24,8 @@ use Rattle.cp_tree.proofs.FoundStatements.{statement_shape, more_statements_shap
 use Rattle.cp_tree.proofs.Grows.{grows_start, grows_statement, grows_arm}
 use Rattle.cp_tree.proofs.Lands.{on, Lands, lands_then, lands_map, LandsOn, LandsAll, before, expect_lands, eaten, not_eaten, class, Stops, land_one, land_two, land_three, land_four, land_seven}
 use Rattle.cp_tree.proofs.LandsLists.{IsApart, IsApartLed, follows, behind_lands, behind_ends, separated_lands, ended_of, ended_lands}
+use Rattle.cp_tree.proofs.FoundAnnotations.{put_annotation, asserted_put, asserted_ends}
+use Rattle.cp_tree.proofs.AgainAnnotations.{annotations_land, tests_of, plain_of, is_plain, plain_plain, asserted_back, asserted_apart, asserted_deep, plain_deep}
 use Rattle.cp_tree.proofs.AgainConstants.{NoComma, identifier_lands, labels_before, labels_land}
 use Rattle.cp_tree.proofs.AgainExpressions.{expressions_list, expressions_back, expression_before, arguments_before, designator_before, arguments_land, designator_lands, arguments_follow, expression_lands}
 use Rattle.cp_tree.proofs.AgainTypes.{is_sign, constant_sign, colon_no_comma}
@@ -282,12 +286,12 @@ module _ (total b : ℕ) (expression : Parser Expression) (inner : Parser Statem
       land_three total b (b < statement_depth s) (arm cs s) (labels_before total) (mark_shape mark.Colon) (statement_before total) (separated mark.Comma constant) (expect mark.Colon) inner (λ cs u s. arm cs s) cs tt s (labels_land total b cs) (expect_lands total b mark.Colon tt) (below s)
       n ks placed ((indexed.0.0, colon_no_comma (put_statement s ks)), (tt, ((indexed.0.1, λ e. indexed.1.1), indexed.1.0))) (λ d. omega arith) refl
 
-  -- Where this statement stands, it is read.
+  -- Where this statement stands without assertions, it is read.
   abbrev Given : Statement → Type 0
-  Given s = LandsOn total (suc b) (statement_before total) (statement_with expression inner) s
+  Given s = LandsOn total (suc b) (statement_before total) (plain_with expression inner) s
 
   block_given : (at : ℕ) (ss : List Statement) → Given (block at (statements_of ss))
-  unfolding statement_with next advance block_with
+  unfolding plain_with next advance block_with
   block_given at ss n ks placed indexed =
       let same_at : n ≡ at = omega (arith, indexed.0.0.0) in
       let s = block at (statements_of ss) in
@@ -295,7 +299,7 @@ module _ (total b : ℕ) (expression : Parser Expression) (inner : Parser Statem
       (n + 1) ks (omega arith) ((indexed.0.0.1, end_closes ks), tt) (λ d. omega arith) (ap (λ a. block a (statements_of ss)) same_at)
 
   cycle_given : (at : ℕ) (ss : List Statement) → Given (cycle at (statements_of ss))
-  unfolding statement_with next advance cycle_with
+  unfolding plain_with next advance cycle_with
   cycle_given at ss n ks placed indexed =
       let same_at : n ≡ at = omega (arith, indexed.0.0.0) in
       let s = cycle at (statements_of ss) in
@@ -303,7 +307,7 @@ module _ (total b : ℕ) (expression : Parser Expression) (inner : Parser Statem
       (n + 1) ks (omega arith) ((indexed.0.0.1, end_closes ks), tt) (λ d. omega arith) (ap (λ a. cycle a (statements_of ss)) same_at)
 
   repeat_given : (at : ℕ) (ss : List Statement) (e : Expression) → Given (repeat_until at (statements_of ss) e)
-  unfolding statement_with next advance repeat_with
+  unfolding plain_with next advance repeat_with
   repeat_given at ss e n ks placed indexed =
       let same_at : n ≡ at = omega (arith, indexed.0.0.0) in
       let s = repeat_until at (statements_of ss) e in
@@ -311,7 +315,7 @@ module _ (total b : ℕ) (expression : Parser Expression) (inner : Parser Statem
       (n + 1) ks (omega arith) ((indexed.0.0.1, until_closes (put_expression e ks)), (tt, (indexed.0.0.2, end_stops 0 ks indexed.1))) (λ d. omega arith) (ap (λ a. repeat_until a (statements_of ss) e) same_at)
 
   case_given : (at : ℕ) (e : Expression) (bs : List Arm) (c : Bool) → Given (case_of at e (arms_of bs) c)
-  unfolding statement_with next advance case_with
+  unfolding plain_with next advance case_with
   case_given at e bs c n ks placed indexed =
       let same_at : n ≡ at = omega (arith, indexed.0.0.0) in
       let s = case_of at e (arms_of bs) c in
@@ -326,48 +330,93 @@ module _ (total b : ℕ) (expression : Parser Expression) (inner : Parser Statem
   empty_lands D n at (kind.Mark mark.Until ∷ ks) placed indexed ends = let same_at : n ≡ at = omega arith in (ap empty same_at, refl, placed)
   empty_lands D n at _ placed indexed ends = absurd cc
 
-  pub statement_with_lands : (s : Statement) → Given s
-  unfolding statement_with next advance if_with while_with for_with init_with
-  statement_with_lands (empty at) n ks placed indexed = empty_lands (suc b < 1) n at ks placed indexed.0.0 indexed.1
-  statement_with_lands (assign at (designator i ss) e) n ks placed indexed = assign_lands total b expression law at (designator i ss) e n ks placed indexed
-  statement_with_lands (invoke at (designator i ss) es) n ks placed indexed =
+  plain_lands : (s : Statement) → is_plain s ≡ true → Given s
+  unfolding plain_with next advance if_with while_with for_with init_with
+  plain_lands (empty at) plain n ks placed indexed = empty_lands (suc b < 1) n at ks placed indexed.0.0 indexed.1
+  plain_lands (assign at (designator i ss) e) plain n ks placed indexed = assign_lands total b expression law at (designator i ss) e n ks placed indexed
+  plain_lands (invoke at (designator i ss) es) plain n ks placed indexed =
       subst (λ (es : Expressions). Given (invoke at (designator i ss) es)) (expressions_back es) (λ n ks placed indexed. invoke_lands total b expression law at (designator i ss) (expressions_list es) n ks placed indexed) n ks placed indexed
-  statement_with_lands (block at ss) n ks placed indexed = subst (λ (ss : Statements). Given (block at ss)) (statements_back ss) (block_given at (statements_list ss)) n ks placed indexed
-  statement_with_lands (if_then at e s) n ks placed indexed =
+  plain_lands (block at ss) plain n ks placed indexed = subst (λ (ss : Statements). Given (block at ss)) (statements_back ss) (block_given at (statements_list ss)) n ks placed indexed
+  plain_lands (if_then at e s) plain n ks placed indexed =
       let same_at : n ≡ at = omega (arith, indexed.0.0.0) in
       land_four total b (suc b < suc (max (expression_depth e) (statement_depth s))) (if_then at e s) (expression_before total) (mark_shape mark.Then) (statement_before total) (else_before total) expression (expect mark.Then) inner (behind mark.Else inner) (λ e u s o. if_of n e s o) e tt s None
       (law e) (expect_lands total b mark.Then tt) (below s) (else_lands None)
       (n + 1) ks (omega arith) ((indexed.0.0.1, omega arith), (tt, (((indexed.0.0.2, λ o. indexed.0.1 refl), indexed.1), indexed.0.1 refl))) (λ d. omega arith) (ap (λ a. if_then a e s) same_at)
-  statement_with_lands (if_else at e s t) n ks placed indexed =
+  plain_lands (if_else at e s t) plain n ks placed indexed =
       let same_at : n ≡ at = omega (arith, indexed.0.0.0) in
       let closed = indexed.0.0.4 in
       land_four total b (suc b < suc (max (expression_depth e) (max (statement_depth s) (statement_depth t)))) (if_else at e s t) (expression_before total) (mark_shape mark.Then) (statement_before total) (else_before total) expression (expect mark.Then) inner (behind mark.Else inner) (λ e u s o. if_of n e s o) e tt s (Some t)
       (law e) (expect_lands total b mark.Then tt) (below s) (else_lands (Some t))
       (n + 1) ks (omega arith) ((indexed.0.0.1, omega arith), (tt, (((indexed.0.0.2, λ o. absurd (cc (closed))), refl), ((indexed.0.0.3, indexed.0.1), indexed.1)))) (λ d. omega arith) (ap (λ a. if_else a e s t) same_at)
-  statement_with_lands (case_of at e bs c) n ks placed indexed = subst (λ (bs : Arms). Given (case_of at e bs c)) (arms_back bs) (case_given at e (arms_list bs) c) n ks placed indexed
-  statement_with_lands (while_do at e s) n ks placed indexed =
+  plain_lands (case_of at e bs c) plain n ks placed indexed = subst (λ (bs : Arms). Given (case_of at e bs c)) (arms_back bs) (case_given at e (arms_list bs) c) n ks placed indexed
+  plain_lands (while_do at e s) plain n ks placed indexed =
       let same_at : n ≡ at = omega (arith, indexed.0.0.0) in
       land_three total b (suc b < suc (max (expression_depth e) (statement_depth s))) (while_do at e s) (expression_before total) (mark_shape mark.Do) (statement_before total) expression (expect mark.Do) inner (λ e u s. while_do n e s) e tt s (law e) (expect_lands total b mark.Do tt) (below s)
       (n + 1) ks (omega arith) ((indexed.0.0.1, omega arith), (tt, ((indexed.0.0.2, indexed.0.1), indexed.1))) (λ d. omega arith) (ap (λ a. while_do a e s) same_at)
-  statement_with_lands (repeat_until at ss e) n ks placed indexed = subst (λ (ss : Statements). Given (repeat_until at ss e)) (statements_back ss) (repeat_given at (statements_list ss) e) n ks placed indexed
-  statement_with_lands (for_do at i e d f s) n ks placed indexed =
+  plain_lands (repeat_until at ss e) plain n ks placed indexed = subst (λ (ss : Statements). Given (repeat_until at ss e)) (statements_back ss) (repeat_given at (statements_list ss) e) n ks placed indexed
+  plain_lands (for_do at i e d f s) plain n ks placed indexed =
       let same_at : n ≡ at = omega (arith, indexed.0.0.0) in
       land_seven total b (suc b < suc (max (expression_depth e) (max (expression_depth f) (statement_depth s)))) (for_do at i e d f s)
       (identifier_shape total) (mark_shape mark.Becomes) (expression_before total) direction_shape (expression_before total) (mark_shape mark.Do) (statement_before total)
       identifier (expect mark.Becomes) expression direction expression (expect mark.Do) inner (λ i u e d f v s. for_do n i e d f s) i tt e d f tt s
       (identifier_lands total b i) (expect_lands total b mark.Becomes tt) (law e) (direction_lands total b d) (law f) (expect_lands total b mark.Do tt) (below s)
       (n + 1) ks (omega arith) (indexed.0.0.1, (tt, ((indexed.0.0.2, direction_stops d (put_expression f (kind.Mark mark.Do ∷ put_statement s ks))), (tt, ((indexed.0.0.3, omega arith), (tt, ((indexed.0.0.4, indexed.0.1), indexed.1))))))) (λ d. omega arith) (ap (λ a. for_do a i e d f s) same_at)
-  statement_with_lands (cycle at ss) n ks placed indexed = subst (λ (ss : Statements). Given (cycle at ss)) (statements_back ss) (cycle_given at (statements_list ss)) n ks placed indexed
-  statement_with_lands (init at ss) n ks placed indexed =
+  plain_lands (cycle at ss) plain n ks placed indexed = subst (λ (ss : Statements). Given (cycle at ss)) (statements_back ss) (cycle_given at (statements_list ss)) n ks placed indexed
+  plain_lands (init at ss) plain n ks placed indexed =
       let same_at : n ≡ at = omega (arith, indexed.0.0.0) in
       land_one total b (suc b < suc (deepest start_depth ss)) (init at ss) (starts_before total) (separated mark.Comma (start_with expression)) (λ ss. init n ss) ss (starts_land total b expression law ss)
       (n + 1) ks (omega arith) (indexed.0.0.1, (end_stops 3 ks indexed.1, end_no_comma (first_mark ks) indexed.1)) (λ d. omega arith) (ap (λ a. init a ss) same_at)
+  plain_lands (asserted at k e s) plain n ks placed indexed = absurd cc
+
+  ends_no_assert : (o : Option Mark) → ends_statement o ≡ true → is_mark mark.Assert o ≡ false
+  unfolding same
+  ends_no_assert (Some mark.Semicolon) e = refl
+  ends_no_assert _ e = cc
+
+  plain_no_assert : (s : Statement) (ks : List Kind) → is_plain s ≡ true → Ends ks → is_mark mark.Assert (first_mark (put_statement s ks)) ≡ false
+  unfolding same
+  plain_no_assert (empty at) ks plain ends = ends_no_assert (first_mark ks) ends
+  plain_no_assert (assign at (designator i ss) e) ks plain ends = refl
+  plain_no_assert (invoke at (designator i ss) es) ks plain ends = refl
+  plain_no_assert (asserted at k e s) ks plain ends = absurd cc
+  plain_no_assert _ ks plain ends = refl
+
+  asserted_lands : (es : List Expression) (s : Statement) → is_plain s ≡ true → LandsOn total (suc b) (statement_before total) (statement_with expression inner) (asserted_of Assertion es s)
+  unfolding statement_with
+  asserted_lands es s plain n ks placed indexed =
+      let whole = asserted_of Assertion es s in
+      let E = suc b < statement_depth (asserted_of Assertion es s) in
+      let rest = put_statement s ks in
+      let e = asserted_put Assertion es s ks in
+      let parts = asserted_apart total es s ks indexed.0.0 in
+      let here : Begins total n (put_all (put_annotation mark.Assert) es rest) = subst (λ (ts : List Kind). Begins total n ts) e placed in
+      subst (λ (ts : List Kind). Lands total E whole ks ((annotations_with expression mark.Assert >>= (λ es. plain_with expression inner >>= (λ s. pure (asserted_of Assertion es s)))) (on n ts))) (sym e)
+      (lands_then total (b < deepest expression_depth es) E (annotations_with expression mark.Assert (on n (put_all (put_annotation mark.Assert) es rest))) (λ es. plain_with expression inner >>= (λ s. pure (asserted_of Assertion es s))) es rest whole ks
+      (annotations_land total b expression law mark.Assert es n rest here (parts.0, plain_no_assert s ks plain indexed.1)) (λ d. asserted_deep Assertion es s b d) (λ k q.
+      lands_then total (suc b < statement_depth s) E (plain_with expression inner (on k rest)) (λ s. pure (asserted_of Assertion es s)) s ks whole ks
+      (plain_lands s plain k ks q ((parts.1, λ o. indexed.0.1 (asserted_ends Assertion es s ∙ o)), indexed.1)) (λ d. let less = plain_deep Assertion es s in omega (arith, d, less)) (λ l r. (refl, refl, r))))
+
+  pub statement_with_lands : LandsAll total (suc b) (statement_before total) (statement_with expression inner)
+  statement_with_lands s n ks placed indexed =
+      subst (λ (t : Statement). Begins total n (put_statement t ks) → (statement_before total).indexed t ks → Lands total (suc b < statement_depth t) t ks (statement_with expression inner (on n (put_statement t ks)))) (asserted_back total s ks indexed.0.0)
+      (asserted_lands (tests_of s) (plain_of s) (plain_plain s) n ks) placed indexed
 
 -- ---- the recursion
 
 at_least_one : (s : Statement) → 0 < statement_depth s
 at_least_one (empty at) = omega arith
-at_least_one _ = omega arith
+at_least_one (assign at d e) = omega arith
+at_least_one (invoke at d es) = omega arith
+at_least_one (block at ss) = omega arith
+at_least_one (if_then at e s) = omega arith
+at_least_one (if_else at e s t) = omega arith
+at_least_one (case_of at e bs semicolon) = omega arith
+at_least_one (while_do at e s) = omega arith
+at_least_one (repeat_until at ss e) = omega arith
+at_least_one (for_do at i e d f s) = omega arith
+at_least_one (cycle at ss) = omega arith
+at_least_one (init at ss) = omega arith
+at_least_one (asserted at k e s) = omega arith
 
 pub statement_lands : (total b : ℕ) → LandsAll total b (statement_before total) (statement b)
 unfolding statement

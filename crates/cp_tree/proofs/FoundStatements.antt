@@ -1,23 +1,26 @@
 -- What is read of a statement is spelled so.
-use Rattle.std.proofs.Common.{◌≡◌, ℕ, zero, suc, ◌+◌, true, false, cond, List, [], ◌∷◌, Option, Some, None, refl, sym, ap, ◌∙◌, arith}
+use Rattle.std.proofs.Common.{◌≡◌, ℕ, zero, suc, ◌+◌, true, false, cond, List, ◌∷◌, Option, Some, None, refl, sym, ap, ◌∙◌, arith}
 use Rattle.cp_text.specs.declared.token.Kind.{Kind}
 use Rattle.cp_text.specs.declared.token.Kind.TheVariants as kind
 use Rattle.cp_text.specs.declared.token.Mark.TheVariants as mark
+use Rattle.cp_tree.specs.declared.statement.AssertionKind.TheVariants.{Assertion}
 use Rattle.cp_tree.specs.declared.statement.Direction.{Direction}
 use Rattle.cp_tree.specs.Input.{Input, Outcome, Parser, ◌>>=◌, pure, sees, after, advance, same, is_mark, first, first_mark, next, expect}
 use Rattle.cp_tree.specs.Input as Input
 use Rattle.cp_tree.specs.Syntax.{Expression, Designator, Start, Statement, empty, assign, invoke, block, case_of, while_do, repeat_until, for_do, cycle, init, Arm, arm}
-use Rattle.cp_tree.specs.View.{expressions_of, statements_of, arms_of}
+use Rattle.cp_tree.specs.View.{asserted_of, expressions_of, statements_of, arms_of}
 use Rattle.cp_tree.specs.Reading.{behind, some, separated, ended_list, identifier, constant}
+use Rattle.cp_tree.specs.ReadingAnnotations.{annotations_with}
 use Rattle.cp_tree.specs.ReadingExpressions.{expression, designator_with, arguments_with}
-use Rattle.cp_tree.specs.ReadingStatements.{if_of, direction_by, direction, labels, start_with, init_with, named_with, if_with, while_with, for_with, repeat_with, block_with, cycle_with, arm_with, case_with, statement_by, statement_with, statement, statements_at}
+use Rattle.cp_tree.specs.ReadingStatements.{if_of, direction_by, direction, labels, start_with, init_with, named_with, if_with, while_with, for_with, repeat_with, block_with, cycle_with, arm_with, case_with, statement_by, plain_with, statement_with, statement, statements_at}
 use Rattle.cp_tree.specs.Spelling.{direction_mark, put_start, put_statement, put_statements, put_more_statements, put_arms, put_more_arms, put_arm}
 use Rattle.cp_tree.specs.SpellingIndexed.{Begins, ends_open, IsIndexedStart, IsIndexedStatement, AreIndexedStatements, AreIndexedMoreStatements, AreIndexedArms, AreIndexedMoreArms, IsIndexedArm}
 use Rattle.cp_tree.specs.SpellingLevel.{start_depth, statement_depth, statements_depth, arms_depth, arm_depth}
 use Rattle.cp_tree.proofs.Shapes.{Shape, mark_shape, pair_of, behind_of, all_of, separated_of}
-use Rattle.cp_tree.proofs.Steps.{Found, found_then, At, begins, Taken, Takes, takes_deep, Passed, sees_passes, expect_takes, joined, found_one, found_two, found_three, found_four, found_seven}
+use Rattle.cp_tree.proofs.Steps.{Found, found_then, At, begins, took_onto, Taken, Takes, takes_deep, Passed, sees_passes, expect_takes, joined, found_one, found_two, found_three, found_four, found_seven}
 use Rattle.cp_tree.proofs.FoundLists.{made_of, made_after, IsBuilt, IsBuiltLed, all_built, separated_built, behind_passed, separated_takes, ended_of, ended_takes}
 use Rattle.cp_tree.proofs.FoundConstants.{identifier_shape, identifier_takes, labels_shape, labels_take}
+use Rattle.cp_tree.proofs.FoundAnnotations.{annotation_shape, annotations_take, asserted_put, asserted_ends, asserted_indexed, asserted_shallow}
 use Rattle.cp_tree.proofs.FoundExpressions.{expression_shape, arguments_shape, designator_shape, arguments_take, designator_takes, expression_takes}
 
 -- ---- shapes
@@ -236,9 +239,28 @@ module _ (total b : ℕ) (expression : Parser Expression) (inner : Parser Statem
   statement_by_found at (kind.Mark mark.Init ∷ ks) placed = init_found total b expression law (record { at = at; rest = kind.Mark mark.Init ∷ ks }) (record { at = at + 1; rest = ks }) placed (record { rest = refl; placed = omega arith })
   statement_by_found at ks placed = empty_found (record { at = at; rest = ks }) placed
 
+  plain_takes : Takes total (suc b) (statement_shape total) (plain_with expression inner)
+  unfolding plain_with next
+  plain_takes i placed = statement_by_found i.at i.rest placed
+
+  -- the assertions before a statement, and then it
+  asserted_taken : (i k j : Input) (es : List Expression) (s : Statement) → Taken total b (all_of (annotation_shape total mark.Assert)) i es k → Made k s j → Made i (asserted_of Assertion es s) j
+  asserted_taken i k j es s p q =
+      let one = took_onto b (all_of (annotation_shape total mark.Assert)) i.rest es k.rest (put_statement s j.rest) p.0 q.0.spelled in
+      let last = q.0 in (
+        record {
+          spelled = one.spelled ∙ sym (asserted_put Assertion es s j.rest);
+          indexed = (asserted_indexed total es s j.rest one.indexed last.indexed.0, λ e. last.indexed.1 (sym (asserted_ends Assertion es s) ∙ e));
+          shallow = asserted_shallow Assertion es s b one.shallow last.shallow;
+        },
+        q.1,
+      )
+
   pub statement_with_takes : Takes total (suc b) (statement_shape total) (statement_with expression inner)
-  unfolding statement_with next
-  statement_with_takes i placed = statement_by_found i.at i.rest placed
+  unfolding statement_with
+  statement_with_takes i placed =
+      found_then total (Taken total b (all_of (annotation_shape total mark.Assert)) i) (Made i) (annotations_with expression mark.Assert i) (λ es. plain_with expression inner >>= (λ s. pure (asserted_of Assertion es s))) (annotations_take total b expression law mark.Assert i placed) (λ es k p.
+      found_then total (Made k) (Made i) (plain_with expression inner k) (λ s. pure (asserted_of Assertion es s)) (plain_takes k p.1) (λ s j q. asserted_taken i k j es s p q))
 
 pub statement_takes : (total b : ℕ) → Takes total b (statement_shape total) (statement b)
 unfolding statement

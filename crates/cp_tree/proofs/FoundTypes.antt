@@ -1,5 +1,5 @@
 -- What is read of a type is spelled so.
-use Rattle.std.proofs.Common.{◌≡◌, ℕ, zero, suc, ◌+◌, true, false, cond, List, [], ◌∷◌, Some, None, refl, ap, ◌∙◌, arith}
+use Rattle.std.proofs.Common.{◌≡◌, ℕ, zero, suc, ◌+◌, true, false, cond, List, ◌∷◌, None, refl, arith}
 use Rattle.cp_text.specs.declared.token.Kind.{Kind}
 use Rattle.cp_text.specs.declared.token.Kind.TheVariants as kind
 use Rattle.cp_text.specs.declared.token.Mark.TheVariants as mark

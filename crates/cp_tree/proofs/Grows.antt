@@ -9,8 +9,8 @@ use Rattle.cp_tree.specs.declared.constant.Sign.{Sign}
 use Rattle.cp_tree.specs.declared.constant.Constant.{Constant}
 use Rattle.cp_tree.specs.declared.constant.ConstantKind.{ConstantKind}
 use Rattle.cp_tree.specs.declared.constant.ConstantKind.TheVariants as constant_kind
-use Rattle.cp_tree.specs.Syntax.{Expression, alone, related, Sum, sum, Terms, no_terms, more_terms, Term, term, Factors, no_factors, more_factors, Factor, number, character, named, group, negated, set_of, Expressions, no_expressions, more_expressions, Designator, designator, Selectors, no_selectors, more_selectors, Selector, field, index, Start, Statement, empty, assign, invoke, block, if_then, if_else, case_of, while_do, repeat_until, for_do, cycle, init, Statements, no_statements, more_statements, Arms, no_arms, more_arms, Arm, arm, Simple, type_name, enumeration, subrange, TypeTerm, simple, array_of, set_type, record_of, FieldGroups, no_fields, more_fields, FieldGroup, fields, ConstantDefinition, TypeDefinition, VariableGroup, Part, constants, types, variables, Group, ParameterGroup, RoutineKind, procedure, function, Routine, Body, System, Definition, type_definition, system_definition, SystemDefinition, ProgramPart, program_constants, program_types, program_variables}
-use Rattle.cp_tree.specs.Spelling.{relation_mark, direction_mark, put_optional, put_behind, put_all, put_separated, put_identifier, put_names, put_sign, put_constant_kind, put_constant, put_expression, put_sum, put_terms, put_term, put_factors, put_factor, put_arguments, put_expressions, put_more_expressions, put_designator, put_selectors, put_selector, put_start, put_statement, put_statements, put_more_statements, put_arms, put_more_arms, put_arm, put_simple, put_type, put_field_groups, put_more_field_groups, put_field_group, put_constant_definition, put_type_definition, put_variable_group, put_part, put_group, put_parameter_group, put_parameters, put_body, put_routine_kind, put_routine, put_system, put_definition, put_system_definition, put_program_part}
+use Rattle.cp_tree.specs.Syntax.{Expression, alone, related, Sum, sum, Terms, no_terms, more_terms, Term, term, Factors, no_factors, more_factors, Factor, named, group, negated, set_of, Expressions, no_expressions, more_expressions, Designator, designator, Selectors, no_selectors, more_selectors, Selector, field, index, Start, Statement, empty, assign, invoke, block, if_then, if_else, case_of, while_do, repeat_until, for_do, cycle, init, asserted, Statements, no_statements, more_statements, Arms, no_arms, more_arms, Arm, arm, Simple, type_name, enumeration, subrange, TypeTerm, simple, array_of, set_type, record_of, FieldGroups, no_fields, more_fields, FieldGroup, fields, ConstantDefinition, TypeDefinition, VariableGroup, Part, constants, types, variables, Group, ParameterGroup, RoutineKind, procedure, function, invariants, Routine, Body, System, Definition, type_definition, system_definition, SystemDefinition, ProgramPart, program_constants, program_types, program_variables}
+use Rattle.cp_tree.specs.Spelling.{relation_mark, direction_mark, put_optional, put_behind, put_all, put_separated, put_identifier, put_names, put_sign, put_constant_kind, put_constant, put_expression, put_sum, put_terms, put_term, put_factors, put_factor, put_arguments, put_expressions, put_more_expressions, put_designator, put_selectors, put_selector, put_start, put_statement, put_statements, put_more_statements, put_arms, put_more_arms, put_arm, put_simple, put_type, put_field_groups, put_more_field_groups, put_field_group, put_constant_definition, put_type_definition, put_variable_group, put_part, put_group, put_parameter_group, put_parameters, put_body, put_routine_kind, is_nameless, put_named_routine, put_routine_by, put_routine, put_system, put_definition, put_system_definition, put_program_part}
 
 -- ---- what several rules share
 
@@ -121,6 +121,7 @@ mutual
   grows_statement (for_do at i e d f s) rest = omega (arith, grows_expression e (kind.Mark (direction_mark d) ∷ put_expression f (kind.Mark mark.Do ∷ put_statement s rest)), grows_expression f (kind.Mark mark.Do ∷ put_statement s rest), grows_statement s rest)
   grows_statement (cycle at ss) rest = omega (arith, grows_statements ss (kind.Mark mark.End ∷ rest))
   grows_statement (init at ss) rest = omega (arith, grows_separated mark.Comma put_start grows_start ss rest)
+  grows_statement (asserted at k e s) rest = omega (arith, grows_expression e (kind.Mark mark.Closes ∷ put_statement s rest), grows_statement s rest)
 
   pub grows_statements : (x : Statements) (rest : List Kind) → length rest ≤ length (put_statements x rest)
   grows_statements no_statements rest = omega arith
@@ -190,9 +191,17 @@ grows_body b rest = omega (arith, grows_statements b.statements (kind.Mark mark.
 pub grows_routine_kind : (x : RoutineKind) (rest : List Kind) → length rest ≤ length (put_routine_kind x rest)
 grows_routine_kind (procedure gs) rest = omega (arith, grows_parameters put_parameter_group grows_parameter_group gs rest)
 grows_routine_kind (function gs i) rest = omega (arith, grows_parameters put_group grows_group gs (kind.Mark mark.Colon ∷ put_identifier i rest))
+grows_routine_kind invariants rest = omega arith
+
+pub grows_named_routine : (x : Routine) (rest : List Kind) → length rest ≤ length (put_named_routine x rest)
+grows_named_routine r rest = omega (arith, grows_optional mark.Entry r.is_entry (put_identifier r.name (put_routine_kind r.kind (kind.Mark mark.Semicolon ∷ put_all put_part r.parts (put_body r.body (kind.Mark mark.Semicolon ∷ rest))))), grows_routine_kind r.kind (kind.Mark mark.Semicolon ∷ put_all put_part r.parts (put_body r.body (kind.Mark mark.Semicolon ∷ rest))), grows_all put_part grows_part r.parts (put_body r.body (kind.Mark mark.Semicolon ∷ rest)), grows_body r.body (kind.Mark mark.Semicolon ∷ rest))
+
+grows_routine_by : (c : Bool) (x : Routine) (rest : List Kind) → length rest ≤ length (put_routine_by c x rest)
+grows_routine_by true r rest = grows_statements r.body.statements rest
+grows_routine_by false r rest = grows_named_routine r rest
 
 pub grows_routine : (x : Routine) (rest : List Kind) → length rest ≤ length (put_routine x rest)
-grows_routine r rest = omega (arith, grows_optional mark.Entry r.is_entry (put_identifier r.name (put_routine_kind r.kind (kind.Mark mark.Semicolon ∷ put_all put_part r.parts (put_body r.body (kind.Mark mark.Semicolon ∷ rest))))), grows_routine_kind r.kind (kind.Mark mark.Semicolon ∷ put_all put_part r.parts (put_body r.body (kind.Mark mark.Semicolon ∷ rest))), grows_all put_part grows_part r.parts (put_body r.body (kind.Mark mark.Semicolon ∷ rest)), grows_body r.body (kind.Mark mark.Semicolon ∷ rest))
+grows_routine r rest = grows_routine_by (is_nameless r.kind) r rest
 
 pub grows_system : (x : System) (rest : List Kind) → length rest ≤ length (put_system x rest)
 grows_system s rest = omega (arith, grows_parameters put_group grows_group s.parameters (put_optional mark.Semicolon s.has_semicolon (put_all put_part s.parts (put_all put_routine s.routines (put_body s.body rest)))), grows_optional mark.Semicolon s.has_semicolon (put_all put_part s.parts (put_all put_routine s.routines (put_body s.body rest))), grows_all put_part grows_part s.parts (put_all put_routine s.routines (put_body s.body rest)), grows_all put_routine grows_routine s.routines (put_body s.body rest), grows_body s.body rest)
@@ -225,8 +234,8 @@ exceeds_part (constants at ds) rest = omega (arith, grows_all put_constant_defin
 exceeds_part (types at ds) rest = omega (arith, grows_all put_type_definition grows_type_definition ds rest)
 exceeds_part (variables at gs) rest = omega (arith, grows_all put_variable_group grows_variable_group gs rest)
 
-pub exceeds_routine : (x : Routine) (rest : List Kind) → length rest < length (put_routine x rest)
-exceeds_routine r rest = omega (arith, grows_optional mark.Entry r.is_entry (put_identifier r.name (put_routine_kind r.kind (kind.Mark mark.Semicolon ∷ put_all put_part r.parts (put_body r.body (kind.Mark mark.Semicolon ∷ rest))))), grows_routine_kind r.kind (kind.Mark mark.Semicolon ∷ put_all put_part r.parts (put_body r.body (kind.Mark mark.Semicolon ∷ rest))), grows_all put_part grows_part r.parts (put_body r.body (kind.Mark mark.Semicolon ∷ rest)), grows_body r.body (kind.Mark mark.Semicolon ∷ rest))
+pub exceeds_named_routine : (x : Routine) (rest : List Kind) → length rest < length (put_named_routine x rest)
+exceeds_named_routine r rest = omega (arith, grows_optional mark.Entry r.is_entry (put_identifier r.name (put_routine_kind r.kind (kind.Mark mark.Semicolon ∷ put_all put_part r.parts (put_body r.body (kind.Mark mark.Semicolon ∷ rest))))), grows_routine_kind r.kind (kind.Mark mark.Semicolon ∷ put_all put_part r.parts (put_body r.body (kind.Mark mark.Semicolon ∷ rest))), grows_all put_part grows_part r.parts (put_body r.body (kind.Mark mark.Semicolon ∷ rest)), grows_body r.body (kind.Mark mark.Semicolon ∷ rest))
 
 pub exceeds_system_definition : (x : SystemDefinition) (rest : List Kind) → length rest < length (put_system_definition x rest)
 exceeds_system_definition d rest = omega (arith, grows_definition d.value (kind.Mark mark.Semicolon ∷ rest))

@@ -12,7 +12,7 @@ use Rattle.cp_tree.specs.declared.fault.ParseFault.TheVariants.{Unexpected, Outs
 use Rattle.cp_tree.specs.declared.tree.Tree as tree_tree
 use Rattle.cp_tree.specs.Answer.{is_left_out, answer_of, answer, Answers}
 use Rattle.cp_tree.specs.Read as read
-use Rattle.cp_tree.specs.Input.{Input, Outcome, Parser, ◌>>=◌, expect, start_of}
+use Rattle.cp_tree.specs.Input.{Outcome, Parser, ◌>>=◌, expect, start_of}
 use Rattle.cp_tree.specs.Syntax.{Routine, Body, ProgramPart, Program}
 use Rattle.cp_tree.specs.View.{program_view}
 use Rattle.cp_tree.specs.Reading.{many}
@@ -38,10 +38,10 @@ program_lands p indexed =
     let made : List ProgramPart → List Routine → Body → ℕ → Program = λ ps rs d at. record { parts = ps; routines = rs; body = d; period = at } in
     let end : List ProgramPart → List Routine → Body → Parser Program = λ ps rs d m. (expect mark.Period >>= (λ u n. ended (made ps rs d m.at) n n.rest)) m in
     lands_then total (50 < deepest program_part_depth p.parts) D (many program_part_item (on 0 (spell p))) (λ ps. routines >>= (λ rs. body >>= (λ d. end ps rs d))) p.parts most p []
-    (program_parts_land total p.parts 0 most (omega arith) (indexed.0, routines_start total p.routines last refl)) (λ d. omega arith) (λ k here.
-    lands_then total (50 < deepest routine_depth p.routines) D (routines (on k most)) (λ rs. body >>= (λ d. end p.parts rs d)) p.routines last p [] (routines_land total p.routines k last here (indexed.1, refl)) (λ d. omega arith) (λ l q.
-    lands_then total (50 < body_depth p.body) D (body (on l last)) (end p.parts p.routines) p.body period p [] (body_lands total p.body l period q indexed.2) (λ d. omega arith) (λ m r.
-    let same_period : m ≡ p.period = omega (arith, indexed.3) in
+    (program_parts_land total p.parts 0 most (omega arith) (indexed.0, routines_start total p.routines last indexed.1 refl)) (λ d. omega arith) (λ k here.
+    lands_then total (50 < deepest routine_depth p.routines) D (routines (on k most)) (λ rs. body >>= (λ d. end p.parts rs d)) p.routines last p [] (routines_land total p.routines k last here ((indexed.1, indexed.2), refl)) (λ d. omega arith) (λ l q.
+    lands_then total (50 < body_depth p.body) D (body (on l last)) (end p.parts p.routines) p.body period p [] (body_lands total p.body l period q indexed.3) (λ d. omega arith) (λ m r.
+    let same_period : m ≡ p.period = omega (arith, indexed.4) in
     lands_then total (50 < 0) D (expect mark.Period (on m period)) (λ u n. ended (made p.parts p.routines p.body m) n n.rest) tt [] p [] (expect_lands total 50 mark.Period tt m [] r tt) (λ d. absurd (omega arith)) (λ n s.
     (ap (made p.parts p.routines p.body) same_period, refl, s)))))
 

@@ -1,8 +1,10 @@
+pub mod AgainAnnotations
 pub mod AgainConstants
 pub mod AgainDeclarations
 pub mod AgainExpressions
 pub mod AgainStatements
 pub mod AgainTypes
+pub mod FoundAnnotations
 pub mod FoundConstants
 pub mod FoundDeclarations
 pub mod FoundExpressions

@@ -5,6 +5,7 @@ use Rattle.cp_text.specs.declared.token.Kind.{Kind}
 use Rattle.std.proofs.lemmas.List.{length-map}
 use Rattle.cp_text.specs.declared.token.Token.{Token}
 use Rattle.cp_text.specs.Kinds.{kinds}
+use Rattle.cp_text.specs.Reading.{AreOfText}
 use Rattle.cp_tree.specs.Input.{Input, first, move}
 
 pub first_drop : (ks : List Kind) (at : ℕ) → slice_get ks at ≡ first (drop at ks)
@@ -32,3 +33,6 @@ stays ks at h = rest_stays ks at at h
 
 pub moves : (ts : List Token) (at : ℕ) → at < length ts → move at (drop at (kinds ts)) ≡ record { at = at + 1; rest = drop (at + 1) (kinds ts) }
 moves ts at h = moves_of (kinds ts) at (rw length-map h)
+
+pub few_tokens : (ts : List Token) → AreOfText ts → length ts ≤ 20000
+few_tokens ts text = text.reads.reads.few

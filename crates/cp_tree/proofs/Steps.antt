@@ -1,5 +1,5 @@
 -- The steps that every rule is made of: what they take from the tokens.
-use Rattle.std.proofs.Common.{◌≡◌, ℕ, ◌≤◌, true, false, cond, List, [], ◌∷◌, Option, Some, None, Ok, Err, refl, ap, subst, arith, rules}
+use Rattle.std.proofs.Common.{◌≡◌, ℕ, ◌≤◌, true, false, cond, List, ◌∷◌, Option, Some, None, Ok, Err, refl, ap, subst, arith, rules}
 use denote.Enum.Bare.{same_true}
 use Rattle.cp_text.specs.contracts.token.Mark.{the_type}
 use Rattle.cp_text.specs.declared.token.Kind.{Kind}

@@ -3,6 +3,7 @@ pub mod Input
 pub mod Place
 pub mod Read
 pub mod Reading
+pub mod ReadingAnnotations
 pub mod ReadingDeclarations
 pub mod ReadingExpressions
 pub mod ReadingStatements

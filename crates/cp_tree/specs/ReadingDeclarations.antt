@@ -1,5 +1,5 @@
 -- Reading declarations and programs.
-use Rattle.std.specs.Prelude.{ℕ, if◌then◌else◌, List, [], ◌∷◌, Option, Some, None, Ok}
+use Rattle.std.specs.Prelude.{ℕ, ◌+◌, false, if◌then◌else◌, List, [], ◌∷◌, Option, Some, None, Ok}
 use Rattle.cp_text.specs.declared.token.Kind.{Kind}
 use Rattle.cp_text.specs.declared.token.Mark.{Mark}
 use Rattle.cp_text.specs.declared.token.Mark.TheVariants as mark
@@ -7,10 +7,12 @@ use Rattle.cp_tree.specs.declared.declaration.SystemKind.{SystemKind}
 use Rattle.cp_tree.specs.declared.declaration.SystemKind.TheVariants as systems
 use Rattle.cp_tree.specs.Input.{Input, Outcome, Parser, ◌>>=◌, ◌>>◌, pure, refuse, place, peek_mark, skip, eat, expect}
 use Rattle.cp_tree.specs.Reading.{many, many_after, some, separated, where_named, identifier, identifiers, constant}
+use Rattle.cp_tree.specs.ReadingAnnotations.{annotations_at}
 use Rattle.cp_tree.specs.ReadingStatements.{statements_at}
 use Rattle.cp_tree.specs.ReadingTypes.{type_term}
-use Rattle.cp_tree.specs.Syntax.{ConstantDefinition, TypeDefinition, VariableGroup, Part, constants, types, variables, Group, ParameterGroup, RoutineKind, procedure, function, Routine, Body, System, Definition, type_definition, system_definition, SystemDefinition, ProgramPart, program_constants, program_types, program_variables, Program}
-use Rattle.cp_tree.specs.View.{statements_of}
+use Rattle.cp_tree.specs.declared.statement.AssertionKind.TheVariants.{Invariant}
+use Rattle.cp_tree.specs.Syntax.{Expression, Statement, empty, no_statements, more_statements, nameless, ConstantDefinition, TypeDefinition, VariableGroup, Part, constants, types, variables, Group, ParameterGroup, RoutineKind, procedure, function, invariants, Routine, Body, System, Definition, type_definition, system_definition, SystemDefinition, ProgramPart, program_constants, program_types, program_variables, Program}
+use Rattle.cp_tree.specs.View.{asserted_of, statements_of}
 
 -- the level of the innermost nodes
 abbrev pub max_level : ℕ
@@ -127,8 +129,54 @@ routine_item = do
   m ← peek_mark
   routine_by at m
 
+-- these routines, and those that come next
+unfoldable pub routines_after : List Routine → Parser (List Routine)
+routines_after found = many_after found routine_item
+
 unfoldable pub routines : Parser (List Routine)
-routines = many routine_item
+routines = routines_after []
+
+-- ---- invariants
+
+-- invariants before the empty statement
+abbrev pub said : List Expression → ℕ → Statement
+said es end = asserted_of Invariant es (empty end)
+
+-- the routine without a name, of this statement
+abbrev pub nameless_routine : ℕ → Statement → Routine
+nameless_routine at s =
+    record { at = at; is_entry = false; name = record { at = at; name = nameless }; kind = invariants; parts = []; body = record { at = at + 1; statements = more_statements s no_statements } }
+
+abbrev pub nameless_of : ℕ → List Expression → ℕ → Option Routine
+nameless_of at [] end = None
+nameless_of at (e ∷ es) end = Some (nameless_routine at (said (e ∷ es) end))
+
+-- the routine of the invariants that come next
+unfoldable pub stated : Parser (Option Routine)
+stated = do
+  at ← place
+  es ← annotations_at mark.Invariant max_level
+  end ← place
+  pure (nameless_of at es end)
+
+-- A process says none.
+abbrev pub invariants_by : SystemKind → Parser (Option Routine)
+invariants_by systems.Process = pure None
+invariants_by systems.Class = stated
+invariants_by systems.Monitor = stated
+
+unfoldable pub invariants_of : SystemKind → Parser (Option Routine)
+invariants_of kind = invariants_by kind
+
+abbrev pub as_list : Option Routine → List Routine
+as_list None = []
+as_list (Some r) = r ∷ []
+
+-- the routines of a system type, of which the invariants of a class or a monitor are the first
+unfoldable pub system_routines : SystemKind → Parser (List Routine)
+system_routines kind = do
+  nameless ← invariants_of kind
+  routines_after (as_list nameless)
 
 -- ---- system types
 
@@ -137,7 +185,7 @@ system_with kind at = do
   gs ← parenthesised group_item
   has_semicolon ← eat mark.Semicolon
   ps ← parts
-  rs ← routines
+  rs ← system_routines kind
   b ← body
   pure (record { at = at; kind = kind; parameters = gs; has_semicolon = has_semicolon; parts = ps; routines = rs; body = b })
 

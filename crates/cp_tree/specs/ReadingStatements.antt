@@ -5,13 +5,15 @@ use Rattle.cp_text.specs.declared.token.Kind.TheVariants as kind
 use Rattle.cp_text.specs.declared.token.Mark.{Mark}
 use Rattle.cp_text.specs.declared.token.Mark.TheVariants as mark
 use Rattle.cp_tree.specs.declared.constant.Constant.{Constant}
+use Rattle.cp_tree.specs.declared.statement.AssertionKind.TheVariants.{Assertion}
 use Rattle.cp_tree.specs.declared.statement.Direction.{Direction}
 use Rattle.cp_tree.specs.declared.statement.Direction.TheVariants as directions
 use Rattle.cp_tree.specs.Input.{Parser, ◌>>=◌, ◌>>◌, pure, refuse, deep, place, peek, peek_mark, skip, eat, expect}
 use Rattle.cp_tree.specs.Reading.{behind, separated, ended_list, identifier, constant}
+use Rattle.cp_tree.specs.ReadingAnnotations.{annotations_with}
 use Rattle.cp_tree.specs.ReadingExpressions.{expression, designator_with, arguments_with}
 use Rattle.cp_tree.specs.Syntax.{Expression, Start, Statement, empty, assign, invoke, block, if_then, if_else, case_of, while_do, repeat_until, for_do, cycle, init, Arm, arm}
-use Rattle.cp_tree.specs.View.{expressions_of, statements_of, arms_of}
+use Rattle.cp_tree.specs.View.{asserted_of, expressions_of, statements_of, arms_of}
 
 abbrev pub if_of : ℕ → Expression → Statement → Option Statement → Statement
 if_of at e s None = if_then at e s
@@ -125,11 +127,18 @@ module _ (expression : Parser Expression) (inner : Parser Statement) where
   statement_by at (Some (kind.Mark m)) = statement_by_mark at m
   statement_by at None = pure (empty at)
 
-  unfoldable pub statement_with : Parser Statement
-  statement_with = do
+  -- without the assertions before it
+  unfoldable pub plain_with : Parser Statement
+  plain_with = do
     at ← place
     k ← peek
     statement_by at k
+
+  unfoldable pub statement_with : Parser Statement
+  statement_with = do
+    es ← annotations_with expression mark.Assert
+    s ← plain_with
+    pure (asserted_of Assertion es s)
 
 unfoldable pub statement : ℕ → Parser Statement
 statement zero = deep
@@ -138,6 +147,9 @@ statement (suc b) = statement_with (expression b) (statement b)
 -- the rules where the expressions and statements inside have at most b levels
 unfoldable pub statement_at : ℕ → Parser Statement
 statement_at b = statement_with (expression b) (statement b)
+
+unfoldable pub plain_at : ℕ → Parser Statement
+plain_at b = plain_with (expression b) (statement b)
 
 -- the statement after a word, as `do`
 unfoldable pub statement_after : Mark → ℕ → Parser Statement

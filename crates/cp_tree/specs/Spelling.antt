@@ -17,11 +17,13 @@ use Rattle.cp_tree.specs.declared.expression.Addition.{Addition}
 use Rattle.cp_tree.specs.declared.expression.Addition.TheVariants as additions
 use Rattle.cp_tree.specs.declared.expression.Multiplication.{Multiplication}
 use Rattle.cp_tree.specs.declared.expression.Multiplication.TheVariants as multiplications
+use Rattle.cp_tree.specs.declared.statement.AssertionKind.{AssertionKind}
+use Rattle.cp_tree.specs.declared.statement.AssertionKind.TheVariants as said
 use Rattle.cp_tree.specs.declared.statement.Direction.{Direction}
 use Rattle.cp_tree.specs.declared.statement.Direction.TheVariants as directions
 use Rattle.cp_tree.specs.declared.declaration.SystemKind.{SystemKind}
 use Rattle.cp_tree.specs.declared.declaration.SystemKind.TheVariants as system_kinds
-use Rattle.cp_tree.specs.Syntax.{Expression, alone, related, Sum, sum, Terms, no_terms, more_terms, Term, term, Factors, no_factors, more_factors, Factor, number, character, named, group, negated, set_of, Expressions, no_expressions, more_expressions, Designator, designator, Selectors, no_selectors, more_selectors, Selector, field, index, Start, Statement, empty, assign, invoke, block, if_then, if_else, case_of, while_do, repeat_until, for_do, cycle, init, Statements, no_statements, more_statements, Arms, no_arms, more_arms, Arm, arm, Simple, type_name, enumeration, subrange, TypeTerm, simple, array_of, set_type, record_of, FieldGroups, no_fields, more_fields, FieldGroup, fields, ConstantDefinition, TypeDefinition, VariableGroup, Part, constants, types, variables, Group, ParameterGroup, RoutineKind, procedure, function, Routine, Body, System, Definition, type_definition, system_definition, SystemDefinition, ProgramPart, program_constants, program_types, program_variables, Program}
+use Rattle.cp_tree.specs.Syntax.{Expression, alone, related, Sum, sum, Terms, no_terms, more_terms, Term, term, Factors, no_factors, more_factors, Factor, number, character, named, group, negated, set_of, Expressions, no_expressions, more_expressions, Designator, designator, Selectors, no_selectors, more_selectors, Selector, field, index, Start, Statement, empty, assign, invoke, block, if_then, if_else, case_of, while_do, repeat_until, for_do, cycle, init, asserted, Statements, no_statements, more_statements, Arms, no_arms, more_arms, Arm, arm, Simple, type_name, enumeration, subrange, TypeTerm, simple, array_of, set_type, record_of, FieldGroups, no_fields, more_fields, FieldGroup, fields, ConstantDefinition, TypeDefinition, VariableGroup, Part, constants, types, variables, Group, ParameterGroup, RoutineKind, procedure, function, invariants, Routine, Body, System, Definition, type_definition, system_definition, SystemDefinition, ProgramPart, program_constants, program_types, program_variables, Program}
 
 -- ---- words and signs
 
@@ -52,6 +54,10 @@ multiplication_mark multiplications.And = mark.And
 abbrev pub direction_mark : Direction → Mark
 direction_mark directions.To = mark.To
 direction_mark directions.Downto = mark.Downto
+
+abbrev pub opening_mark : AssertionKind → Mark
+opening_mark said.Assertion = mark.Assert
+opening_mark said.Invariant = mark.Invariant
 
 abbrev pub system_mark : SystemKind → Mark
 system_mark system_kinds.Class = mark.Class
@@ -169,12 +175,13 @@ abbrev pub put_start : Start → List Kind → List Kind
 put_start s rest = put_designator s.target (put_arguments s.arguments rest)
 
 abbrev mutual
-  -- stat = (nothing) | desig ":=" expr | desig ["(" args ")"] | "begin" stats "end"
+  -- stat = {assertion} (nothing) | desig ":=" expr | desig ["(" args ")"] | "begin" stats "end"
   --      | "if" expr "then" stat ["else" stat]
   --      | "case" expr "of" arm {";" arm} [";"] "end"
   --      | "while" expr "do" stat | "repeat" stats "until" expr
   --      | "for" name ":=" expr ("to"|"downto") expr "do" stat
   --      | "cycle" stats "end" | "init" start {"," start}
+  -- assertion = "assert" expr closing
   pub put_statement : Statement → List Kind → List Kind
   put_statement (empty at) rest = rest
   put_statement (assign at d e) rest = put_designator d (kind.Mark mark.Becomes ∷ put_expression e rest)
@@ -188,6 +195,7 @@ abbrev mutual
   put_statement (for_do at i e d f s) rest = kind.Mark mark.For ∷ put_identifier i (kind.Mark mark.Becomes ∷ put_expression e (kind.Mark (direction_mark d) ∷ put_expression f (kind.Mark mark.Do ∷ put_statement s rest)))
   put_statement (cycle at ss) rest = kind.Mark mark.Cycle ∷ put_statements ss (kind.Mark mark.End ∷ rest)
   put_statement (init at ss) rest = kind.Mark mark.Init ∷ put_separated mark.Comma put_start ss rest
+  put_statement (asserted at k e s) rest = kind.Mark (opening_mark k) ∷ put_expression e (kind.Mark mark.Closes ∷ put_statement s rest)
 
   -- stats = stat {";" stat}
   pub put_statements : Statements → List Kind → List Kind
@@ -284,17 +292,33 @@ put_body b rest = kind.Mark mark.Begin ∷ put_statements b.statements (kind.Mar
 abbrev pub routine_mark : RoutineKind → Mark
 routine_mark (procedure gs) = mark.Procedure
 routine_mark (function gs i) = mark.Function
+routine_mark invariants = mark.Invariant
 
 abbrev pub put_routine_kind : RoutineKind → List Kind → List Kind
 put_routine_kind (procedure gs) rest = put_parameters put_parameter_group gs rest
 put_routine_kind (function gs i) rest = put_parameters put_group gs (kind.Mark mark.Colon ∷ put_identifier i rest)
+put_routine_kind invariants rest = rest
 
 -- routine = "procedure" ["entry"] name ["(" vgroup {";" vgroup} ")"] ";" {part} body ";"
 --         | "function" ["entry"] name ["(" group {";" group} ")"] ":" name ";" {part} body ";"
-abbrev pub put_routine : Routine → List Kind → List Kind
-put_routine r rest = kind.Mark (routine_mark r.kind) ∷ put_optional mark.Entry r.is_entry (put_identifier r.name (put_routine_kind r.kind (kind.Mark mark.Semicolon ∷ put_all put_part r.parts (put_body r.body (kind.Mark mark.Semicolon ∷ rest)))))
+abbrev pub put_named_routine : Routine → List Kind → List Kind
+put_named_routine r rest = kind.Mark (routine_mark r.kind) ∷ put_optional mark.Entry r.is_entry (put_identifier r.name (put_routine_kind r.kind (kind.Mark mark.Semicolon ∷ put_all put_part r.parts (put_body r.body (kind.Mark mark.Semicolon ∷ rest)))))
 
--- system = ("class"|"monitor"|"process") ["(" group {";" group} ")"] [";"] {part} {routine} body
+abbrev pub is_nameless : RoutineKind → Bool
+is_nameless (procedure gs) = false
+is_nameless (function gs i) = false
+is_nameless invariants = true
+
+-- The nameless routine is spelled by the invariants alone.
+abbrev pub put_routine_by : Bool → Routine → List Kind → List Kind
+put_routine_by true r rest = put_statements r.body.statements rest
+put_routine_by false r rest = put_named_routine r rest
+
+abbrev pub put_routine : Routine → List Kind → List Kind
+put_routine r rest = put_routine_by (is_nameless r.kind) r rest
+
+-- system = ("class"|"monitor"|"process") ["(" group {";" group} ")"] [";"] {part} {invariant} {routine} body
+-- invariant = "invariant" expr closing
 abbrev pub put_system : System → List Kind → List Kind
 put_system s rest = kind.Mark (system_mark s.kind) ∷ put_parameters put_group s.parameters (put_optional mark.Semicolon s.has_semicolon (put_all put_part s.parts (put_all put_routine s.routines (put_body s.body rest))))
 

@@ -8,8 +8,11 @@ use Rattle.cp_tree.specs.declared.constant.Identifier.{Identifier}
 use Rattle.cp_tree.specs.declared.constant.Constant.{Constant}
 use Rattle.cp_tree.specs.declared.constant.ConstantKind.{ConstantKind}
 use Rattle.cp_tree.specs.declared.constant.ConstantKind.TheVariants as constant_kind
-use Rattle.cp_tree.specs.Syntax.{Expression, alone, related, Sum, sum, Terms, no_terms, more_terms, Term, term, Factors, no_factors, more_factors, Factor, number, character, named, group, negated, set_of, Expressions, no_expressions, more_expressions, Designator, designator, Selectors, no_selectors, more_selectors, Selector, field, index, Start, Statement, empty, assign, invoke, block, if_then, if_else, case_of, while_do, repeat_until, for_do, cycle, init, Statements, no_statements, more_statements, Arms, no_arms, more_arms, Arm, arm, Simple, type_name, enumeration, subrange, TypeTerm, simple, array_of, set_type, record_of, FieldGroups, no_fields, more_fields, FieldGroup, fields, ConstantDefinition, TypeDefinition, VariableGroup, Part, constants, types, variables, Group, ParameterGroup, RoutineKind, procedure, function, Routine, Body, System, Definition, type_definition, system_definition, SystemDefinition, ProgramPart, program_constants, program_types, program_variables, Program}
-use Rattle.cp_tree.specs.Spelling.{relation_mark, direction_mark, put_optional, put_behind, put_all, put_identifier, put_sign, put_constant, put_expression, put_sum, put_terms, put_term, put_factors, put_factor, put_arguments, put_expressions, put_more_expressions, put_designator, put_selectors, put_start, put_statement, put_more_statements, put_arms, put_more_arms, put_simple, put_type, put_more_field_groups, put_constant_definition, put_type_definition, put_variable_group, put_part, put_group, put_parameter_group, put_body, put_routine_kind, put_routine, put_system, put_definition, put_system_definition, put_program_part, spell}
+use Rattle.cp_tree.specs.declared.statement.AssertionKind.TheVariants as said
+use Rattle.cp_tree.specs.declared.declaration.SystemKind.{SystemKind}
+use Rattle.cp_tree.specs.declared.declaration.SystemKind.TheVariants as systems
+use Rattle.cp_tree.specs.Syntax.{nameless, Expression, alone, related, Sum, sum, Terms, no_terms, more_terms, Term, term, Factors, no_factors, more_factors, Factor, number, character, named, group, negated, set_of, Expressions, no_expressions, more_expressions, Designator, designator, Selectors, no_selectors, more_selectors, Selector, field, index, Start, Statement, empty, assign, invoke, block, if_then, if_else, case_of, while_do, repeat_until, for_do, cycle, init, asserted, Statements, no_statements, more_statements, Arms, no_arms, more_arms, Arm, arm, Simple, type_name, enumeration, subrange, TypeTerm, simple, array_of, set_type, record_of, FieldGroups, no_fields, more_fields, FieldGroup, fields, ConstantDefinition, TypeDefinition, VariableGroup, Part, constants, types, variables, Group, ParameterGroup, RoutineKind, procedure, function, invariants, Routine, Body, System, Definition, type_definition, system_definition, SystemDefinition, ProgramPart, program_constants, program_types, program_variables, Program}
+use Rattle.cp_tree.specs.Spelling.{relation_mark, direction_mark, put_optional, put_behind, put_all, put_identifier, put_sign, put_constant, put_expression, put_sum, put_terms, put_term, put_factors, put_factor, put_arguments, put_expressions, put_more_expressions, put_designator, put_selectors, put_start, put_statement, put_statements, put_more_statements, put_arms, put_more_arms, put_simple, put_type, put_more_field_groups, put_constant_definition, put_type_definition, put_variable_group, put_part, put_group, put_parameter_group, put_body, put_routine_kind, is_nameless, put_named_routine, put_routine, put_system, put_definition, put_system_definition, put_program_part, spell}
 
 -- A node's number is the count of tokens before it. This is said from the end: the number, and the tokens from the
 -- node on, make up all tokens. So each definition has, as the spelling does, the tokens that follow as its last argument.
@@ -30,6 +33,7 @@ ends_open (repeat_until at ss e) = false
 ends_open (for_do at i e d f s) = ends_open s
 ends_open (cycle at ss) = false
 ends_open (init at ss) = false
+ends_open (asserted at k e s) = ends_open s
 
 -- ---- lists: of an element are given its tokens, and what is asked of it before its rest
 
@@ -143,6 +147,7 @@ module _ (total : ℕ) where
     IsIndexedStatement (for_do at i e d f s) rest = Begins total at (put_statement (for_do at i e d f s) rest) × IsIndexedIdentifier i (kind.Mark mark.Becomes ∷ put_expression e (kind.Mark (direction_mark d) ∷ put_expression f (kind.Mark mark.Do ∷ put_statement s rest))) × IsIndexedExpression e (kind.Mark (direction_mark d) ∷ put_expression f (kind.Mark mark.Do ∷ put_statement s rest)) × IsIndexedExpression f (kind.Mark mark.Do ∷ put_statement s rest) × IsIndexedStatement s rest
     IsIndexedStatement (cycle at ss) rest = Begins total at (put_statement (cycle at ss) rest) × AreIndexedStatements ss (kind.Mark mark.End ∷ rest)
     IsIndexedStatement (init at ss) rest = Begins total at (put_statement (init at ss) rest) × AreSeparatedIndexed mark.Comma put_start IsIndexedStart ss rest
+    IsIndexedStatement (asserted at k e s) rest = (k ≡ said.Assertion) × Begins total at (put_expression e (kind.Mark mark.Closes ∷ put_statement s rest)) × IsIndexedExpression e (kind.Mark mark.Closes ∷ put_statement s rest) × IsIndexedStatement s rest
 
     -- at least one
     pub AreIndexedStatements : Statements → List Kind → Type 0
@@ -216,22 +221,67 @@ module _ (total : ℕ) where
   abbrev pub IsIndexedBody : Body → List Kind → Type 0
   IsIndexedBody b rest = Begins total b.at (put_body b rest) × AreIndexedStatements b.statements (kind.Mark mark.End ∷ rest)
 
+  -- invariants before the empty statement
+  abbrev pub AreIndexedInvariants : Statement → List Kind → Type 0
+  AreIndexedInvariants (empty at) rest = Begins total at rest
+  AreIndexedInvariants (asserted at k e s) rest = (k ≡ said.Invariant) × Begins total at (put_expression e (kind.Mark mark.Closes ∷ put_statement s rest)) × IsIndexedExpression e (kind.Mark mark.Closes ∷ put_statement s rest) × AreIndexedInvariants s rest
+  AreIndexedInvariants s rest = ⊥
+
+  -- at least one
+  abbrev pub IsIndexedInvariantBody : Statements → List Kind → Type 0
+  IsIndexedInvariantBody (more_statements (asserted at k e s) no_statements) rest = AreIndexedInvariants (asserted at k e s) rest
+  IsIndexedInvariantBody ss rest = ⊥
+
   abbrev pub IsIndexedRoutineKind : RoutineKind → List Kind → Type 0
   IsIndexedRoutineKind (procedure gs) rest = AreParametersIndexed put_parameter_group IsIndexedParameterGroup gs rest
   IsIndexedRoutineKind (function gs i) rest = AreParametersIndexed put_group IsIndexedGroup gs (kind.Mark mark.Colon ∷ put_identifier i rest) × IsIndexedIdentifier i rest
+  IsIndexedRoutineKind invariants rest = ⊥
 
-  abbrev pub IsIndexedRoutine : Routine → List Kind → Type 0
-  IsIndexedRoutine r rest = Begins total r.at (put_routine r rest)
+  abbrev pub IsIndexedNamedRoutine : Routine → List Kind → Type 0
+  IsIndexedNamedRoutine r rest = Begins total r.at (put_named_routine r rest)
       × IsIndexedIdentifier r.name (put_routine_kind r.kind (kind.Mark mark.Semicolon ∷ put_all put_part r.parts (put_body r.body (kind.Mark mark.Semicolon ∷ rest))))
       × IsIndexedRoutineKind r.kind (kind.Mark mark.Semicolon ∷ put_all put_part r.parts (put_body r.body (kind.Mark mark.Semicolon ∷ rest)))
       × AreAllIndexed put_part IsIndexedPart r.parts (put_body r.body (kind.Mark mark.Semicolon ∷ rest))
       × IsIndexedBody r.body (kind.Mark mark.Semicolon ∷ rest)
+
+  -- the routine without a name: of it nothing is written but the invariants, and all else is as it must be
+  pub record IsIndexedNamelessRoutine (r : Routine) (rest : List Kind) : Type 0 where
+    pub begins : Begins total r.at (put_statements r.body.statements rest)
+    pub not_entry : r.is_entry ≡ false
+    pub name : r.name ≡ record { at = r.at; name = nameless }
+    pub no_parts : r.parts ≡ []
+    pub body : r.body.at ≡ r.at + 1
+    pub said : IsIndexedInvariantBody r.body.statements rest
+
+  abbrev pub IsIndexedRoutineBy : Bool → Routine → List Kind → Type 0
+  IsIndexedRoutineBy true r rest = IsIndexedNamelessRoutine r rest
+  IsIndexedRoutineBy false r rest = IsIndexedNamedRoutine r rest
+
+  abbrev pub IsIndexedRoutine : Routine → List Kind → Type 0
+  IsIndexedRoutine r rest = IsIndexedRoutineBy (is_nameless r.kind) r rest
+
+  -- no routine is without a name
+  abbrev pub AreNamed : List Routine → Type 0
+  AreNamed [] = Unit {0}
+  AreNamed (r ∷ rs) = (is_nameless r.kind ≡ false) × AreNamed rs
+
+  abbrev pub may_say : SystemKind → Bool
+  may_say systems.Class = true
+  may_say systems.Monitor = true
+  may_say systems.Process = false
+
+  -- of a class or a monitor the first may be
+  abbrev pub AreNamedBy : Bool → List Routine → Type 0
+  AreNamedBy false rs = AreNamed rs
+  AreNamedBy true [] = Unit {0}
+  AreNamedBy true (r ∷ rs) = AreNamed rs
 
   abbrev pub IsIndexedSystem : System → List Kind → Type 0
   IsIndexedSystem s rest = Begins total s.at (put_system s rest)
       × AreParametersIndexed put_group IsIndexedGroup s.parameters (put_optional mark.Semicolon s.has_semicolon (put_all put_part s.parts (put_all put_routine s.routines (put_body s.body rest))))
       × AreAllIndexed put_part IsIndexedPart s.parts (put_all put_routine s.routines (put_body s.body rest))
       × AreAllIndexed put_routine IsIndexedRoutine s.routines (put_body s.body rest)
+      × AreNamedBy (may_say s.kind) s.routines
       × IsIndexedBody s.body rest
 
   abbrev pub IsIndexedDefinition : Definition → List Kind → Type 0
@@ -250,6 +300,7 @@ module _ (total : ℕ) where
   abbrev pub IsIndexedProgram : Program → Type 0
   IsIndexedProgram p = AreAllIndexed put_program_part IsIndexedProgramPart p.parts (put_all put_routine p.routines (put_body p.body (kind.Mark mark.Period ∷ [])))
       × AreAllIndexed put_routine IsIndexedRoutine p.routines (put_body p.body (kind.Mark mark.Period ∷ []))
+      × AreNamed p.routines
       × IsIndexedBody p.body (kind.Mark mark.Period ∷ [])
       × Begins total p.period (kind.Mark mark.Period ∷ [])
 

@@ -1,6 +1,7 @@
 -- The levels of a tree's nodes: one more than the nearest statement, expression, factor after `not` or type around it.
-use Rattle.std.specs.Prelude.{◌≤◌, ℕ, suc, max, List, [], ◌∷◌}
-use Rattle.cp_tree.specs.Syntax.{Expression, alone, related, Sum, sum, Terms, no_terms, more_terms, Term, term, Factors, no_factors, more_factors, Factor, number, character, named, group, negated, set_of, Expressions, no_expressions, more_expressions, Designator, designator, Selectors, no_selectors, more_selectors, Selector, field, index, Start, Statement, empty, assign, invoke, block, if_then, if_else, case_of, while_do, repeat_until, for_do, cycle, init, Statements, no_statements, more_statements, Arms, no_arms, more_arms, Arm, arm, TypeTerm, simple, array_of, set_type, record_of, FieldGroups, no_fields, more_fields, FieldGroup, fields, TypeDefinition, VariableGroup, Part, constants, types, variables, Routine, Body, System, Definition, type_definition, system_definition, SystemDefinition, ProgramPart, program_constants, program_types, program_variables, Program}
+use Rattle.std.specs.Prelude.{◌≤◌, ℕ, suc, max, Bool, true, false, List, [], ◌∷◌}
+use Rattle.cp_tree.specs.Syntax.{Expression, alone, related, Sum, sum, Terms, no_terms, more_terms, Term, term, Factors, no_factors, more_factors, Factor, number, character, named, group, negated, set_of, Expressions, no_expressions, more_expressions, Designator, designator, Selectors, no_selectors, more_selectors, Selector, field, index, Start, Statement, empty, assign, invoke, block, if_then, if_else, case_of, while_do, repeat_until, for_do, cycle, init, asserted, Statements, no_statements, more_statements, Arms, no_arms, more_arms, Arm, arm, TypeTerm, simple, array_of, set_type, record_of, FieldGroups, no_fields, more_fields, FieldGroup, fields, TypeDefinition, VariableGroup, Part, constants, types, variables, Routine, Body, System, Definition, type_definition, system_definition, SystemDefinition, ProgramPart, program_constants, program_types, program_variables, Program}
+use Rattle.cp_tree.specs.Spelling.{is_nameless}
 use Rattle.cp_tree.specs.SpellingIndexed.{IsIndexed}
 
 -- Each number is the greatest level in a node, where the node stands at level 1, or has no level of its own and stands
@@ -70,6 +71,8 @@ abbrev mutual
   statement_depth (for_do at i e d f s) = suc (max (expression_depth e) (max (expression_depth f) (statement_depth s)))
   statement_depth (cycle at ss) = suc (statements_depth ss)
   statement_depth (init at ss) = suc (deepest start_depth ss)
+  -- An assertion has no level of its own: its expression is one deeper than the statement.
+  statement_depth (asserted at k e s) = max (suc (expression_depth e)) (statement_depth s)
 
   pub statements_depth : Statements → ℕ
   statements_depth no_statements = 0
@@ -111,8 +114,21 @@ part_depth (variables at gs) = deepest variable_group_depth gs
 abbrev pub body_depth : Body → ℕ
 body_depth b = statements_depth b.statements
 
+-- Invariants stand in no statement.
+abbrev pub invariant_depth : Statement → ℕ
+invariant_depth (asserted at k e s) = max (expression_depth e) (invariant_depth s)
+invariant_depth s = 0
+
+abbrev pub invariants_depth : Statements → ℕ
+invariants_depth no_statements = 0
+invariants_depth (more_statements s ss) = max (invariant_depth s) (invariants_depth ss)
+
+abbrev pub routine_depth_by : Bool → Routine → ℕ
+routine_depth_by true r = invariants_depth r.body.statements
+routine_depth_by false r = max (deepest part_depth r.parts) (body_depth r.body)
+
 abbrev pub routine_depth : Routine → ℕ
-routine_depth r = max (deepest part_depth r.parts) (body_depth r.body)
+routine_depth r = routine_depth_by (is_nameless r.kind) r
 
 abbrev pub system_depth : System → ℕ
 system_depth s = max (deepest part_depth s.parts) (max (deepest routine_depth s.routines) (body_depth s.body))

@@ -1,12 +1,13 @@
 -- The syntax of programs, as plain data: what every later definition speaks of.
 -- The number in a node counts the tokens before it. A name is the list of its letters' codes, in lower case.
-use Rattle.std.specs.Prelude.{ℕ, Bool, List, Option}
+use Rattle.std.specs.Prelude.{ℕ, Bool, List, [], ◌∷◌, Option}
 use Rattle.cp_tree.specs.declared.constant.Identifier.{Identifier}
 use Rattle.cp_tree.specs.declared.constant.Sign.{Sign}
 use Rattle.cp_tree.specs.declared.constant.Constant.{Constant}
 use Rattle.cp_tree.specs.declared.expression.Relation.{Relation}
 use Rattle.cp_tree.specs.declared.expression.Addition.{Addition}
 use Rattle.cp_tree.specs.declared.expression.Multiplication.{Multiplication}
+use Rattle.cp_tree.specs.declared.statement.AssertionKind.{AssertionKind}
 use Rattle.cp_tree.specs.declared.statement.Direction.{Direction}
 use Rattle.cp_tree.specs.declared.declaration.SystemKind.{SystemKind}
 
@@ -76,6 +77,8 @@ mutual
     for_do : ℕ → Identifier → Expression → Direction → Expression → Statement → Statement
     cycle : ℕ → Statements → Statement
     init : ℕ → List Start → Statement
+    -- what is said before a statement; the number is that of the expression
+    asserted : ℕ → AssertionKind → Expression → Statement → Statement
 
   pub data Statements : Type 0 where
     no_statements : Statements
@@ -141,6 +144,12 @@ pub record ParameterGroup : Type 0 where
 pub data RoutineKind : Type 0 where
   procedure : List ParameterGroup → RoutineKind
   function : List Group → Identifier → RoutineKind
+  -- The invariants of a block are one routine, without a name; its body says each before the empty statement.
+  invariants : RoutineKind
+
+-- The name in the place of one; 58 is `:`, so no lexeme has it.
+abbrev pub nameless : List ℕ
+nameless = 58 ∷ []
 
 pub record Body : Type 0 where
   pub at : ℕ

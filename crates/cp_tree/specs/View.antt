@@ -10,6 +10,7 @@ use Rattle.cp_tree.specs.declared.expression.Factor as tree_factor
 use Rattle.cp_tree.specs.declared.expression.Designator as tree_designator
 use Rattle.cp_tree.specs.declared.expression.Selector as tree_selector
 use Rattle.cp_tree.specs.declared.expression.FactorKind.TheOpen.{FactorKind-F, Selector-F, Designator-F, Expression-F, Factor-F, Sum-F, Term-F}
+use Rattle.cp_tree.specs.declared.statement.AssertionKind.{AssertionKind}
 use Rattle.cp_tree.specs.declared.statement.Statement as tree_statement
 use Rattle.cp_tree.specs.declared.statement.Arm as tree_arm
 use Rattle.cp_tree.specs.declared.statement.Start as tree_start
@@ -40,7 +41,7 @@ use Rattle.cp_tree.specs.declared.declaration.ProgramPart as tree_program_part
 use Rattle.cp_tree.specs.declared.declaration.ProgramPartKind.{ProgramPartKind}
 use Rattle.cp_tree.specs.declared.declaration.ProgramPartKind.TheVariants as program_part_kind
 use Rattle.cp_tree.specs.declared.declaration.Program as tree_program
-use Rattle.cp_tree.specs.Syntax.{Expression, alone, related, Sum, sum, Terms, no_terms, more_terms, Term, term, Factors, no_factors, more_factors, Factor, number, character, named, group, negated, set_of, Expressions, no_expressions, more_expressions, Designator, designator, Selectors, no_selectors, more_selectors, Selector, field, index, Start, Statement, empty, assign, invoke, block, if_then, if_else, case_of, while_do, repeat_until, for_do, cycle, init, Statements, no_statements, more_statements, Arms, no_arms, more_arms, Arm, arm, Simple, type_name, enumeration, subrange, TypeTerm, simple, array_of, set_type, record_of, FieldGroups, no_fields, more_fields, FieldGroup, fields, ConstantDefinition, TypeDefinition, VariableGroup, Part, constants, types, variables, Group, ParameterGroup, RoutineKind, procedure, function, Routine, Body, System, Definition, type_definition, system_definition, SystemDefinition, ProgramPart, program_constants, program_types, program_variables, Program}
+use Rattle.cp_tree.specs.Syntax.{Expression, alone, related, Sum, sum, Terms, no_terms, more_terms, Term, term, Factors, no_factors, more_factors, Factor, number, character, named, group, negated, set_of, Expressions, no_expressions, more_expressions, Designator, designator, Selectors, no_selectors, more_selectors, Selector, field, index, Start, Statement, empty, assign, invoke, block, if_then, if_else, case_of, while_do, repeat_until, for_do, cycle, init, asserted, Statements, no_statements, more_statements, Arms, no_arms, more_arms, Arm, arm, Simple, type_name, enumeration, subrange, TypeTerm, simple, array_of, set_type, record_of, FieldGroups, no_fields, more_fields, FieldGroup, fields, ConstantDefinition, TypeDefinition, VariableGroup, Part, constants, types, variables, Group, ParameterGroup, RoutineKind, procedure, function, invariants, Routine, Body, System, Definition, type_definition, system_definition, SystemDefinition, ProgramPart, program_constants, program_types, program_variables, Program}
 
 -- ---- expressions
 
@@ -131,6 +132,15 @@ abbrev pub statements_of : List Statement → Statements
 statements_of [] = no_statements
 statements_of (s ∷ ss) = more_statements s (statements_of ss)
 
+abbrev pub expression_at : Expression → ℕ
+expression_at (alone at a) = at
+expression_at (related at a r b) = at
+
+-- a statement with what is said before it
+abbrev pub asserted_of : AssertionKind → List Expression → Statement → Statement
+asserted_of k [] s = s
+asserted_of k (e ∷ es) s = asserted (expression_at e) k e (asserted_of k es s)
+
 abbrev pub arms_of : List Arm → Arms
 arms_of [] = no_arms
 arms_of (a ∷ as') = more_arms a (arms_of as')
@@ -148,6 +158,7 @@ statement_kind_step (StatementKind-F.Repeat ss e) = λ at. repeat_until at (stat
 statement_kind_step (StatementKind-F.For i e d f s) = λ at. for_do at i (expression_view e) d (expression_view f) s.value
 statement_kind_step (StatementKind-F.Cycle ss) = λ at. cycle at (statements_of ss.items)
 statement_kind_step (StatementKind-F.Init ss) = λ at. init at (map start_view ss.items)
+statement_kind_step (StatementKind-F.Asserted k es s) = λ at. asserted_of k (expressions_view es.items) s.value
 
 abbrev pub arm_step : Arm-F (ℕ → Statement) Arm Statement → Arm
 arm_step a = arm a.labels.items a.body
@@ -230,6 +241,7 @@ parameter_group_view g = record { at = g.at; is_var = g.is_var; group = group_vi
 abbrev pub routine_kind_view : tree_routine_kind.RoutineKind → RoutineKind
 routine_kind_view (routine_kind.Procedure gs) = procedure (map parameter_group_view gs.items)
 routine_kind_view (routine_kind.Function gs i) = function (map group_view gs.items) i
+routine_kind_view routine_kind.Invariants = invariants
 
 abbrev pub body_view : tree_body.Body → Body
 body_view b = record { at = b.at; statements = statements_of (statements_view b.statements.items) }

@@ -1,6 +1,6 @@
 //! A place among the tokens.
 
-ghost use Rattle.std.specs.Prelude.{◌≡◌, length};
+ghost use Rattle.std.specs.Prelude.{◌≡◌, ◌≤◌, length};
 ghost use Rattle.std.specs.Option.{option_copied};
 ghost use Rattle.cp_tree.specs.Input as spec;
 ghost use Rattle.cp_tree.specs.Input.{Reads};
@@ -38,7 +38,8 @@ impl<'a> Cursor<'a> {
 
     /// The number of tokens before the next.
     pub fn at(&self) -> usize
-        ensures { result ≡ self.now.at }
+        ensures value { result ≡ self.now.at }
+        ensures few { result ≤ 20000 }
     {
         self.at
     }
@@ -67,7 +68,7 @@ impl<'a> Cursor<'a> {
         }
     }
 
-    #[tactic(auto, using(crate::proofs::Places::moves, crate::proofs::Places::stays), unfolding(crate::specs::Input::advance))]
+    #[tactic(auto, using(crate::proofs::Places::moves, crate::proofs::Places::stays, crate::proofs::Places::few_tokens), unfolding(crate::specs::Input::advance))]
     pub fn advance(&mut self)
         ensures { self.new ≡ spec.advance self.old }
     {

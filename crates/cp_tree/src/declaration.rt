@@ -57,6 +57,8 @@ pub enum RoutineKind {
     Procedure(Vec<ParameterGroup>),
     /// Parameters and the name of the result's type.
     Function(Vec<Group>, Identifier),
+    /// The invariants of a block, which are a routine without a name.
+    Invariants,
 }
 
 #[derive(Drop)]

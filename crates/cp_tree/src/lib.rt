@@ -8,6 +8,7 @@ pub mod expression;
 pub mod fault;
 mod held;
 pub mod parser;
+mod read_annotation;
 mod read_constant;
 mod read_expression;
 mod read_part;
@@ -31,6 +32,7 @@ pub use expression::{
 };
 pub use fault::ParseFault;
 pub use parser::parse;
-pub use statement::{Arm, Direction, Start, Statement, StatementKind};
+pub use read_annotation::NAMELESS;
+pub use statement::{Arm, AssertionKind, Direction, Start, Statement, StatementKind};
 pub use tree::Tree;
 pub use types::{FieldGroup, Simple, SimpleKind, Type, TypeKind};

@@ -4,17 +4,19 @@ ghost use Rattle.std.specs.Prelude.{◌≡◌, map, option_map};
 ghost use Rattle.cp_tree.specs.Input.{Reads};
 ghost use Rattle.cp_tree.specs.Reading as lists;
 ghost use Rattle.cp_tree.specs.ReadingDeclarations as spec;
-ghost use Rattle.cp_tree.specs.View.{system_view, definition_view, system_definition_view, program_part_view, program_view};
+ghost use Rattle.cp_tree.specs.View.{routine_view, system_view, definition_view, system_definition_view, program_part_view, program_view};
 
 use crate::cursor::Cursor;
 use crate::declaration::{
-    Definition, Program, ProgramPart, ProgramPartKind, System, SystemDefinition, SystemKind,
+    Definition, Program, ProgramPart, ProgramPartKind, Routine, System, SystemDefinition,
+    SystemKind,
 };
 use crate::fault::ParseFault;
 use crate::held::{value_before, value_with};
+use crate::read_annotation::invariants;
 use crate::read_constant::identifier;
 use crate::read_part::{MOST_LEVELS, constant_definitions, parts, variable_groups};
-use crate::read_routine::{body, groups, routines};
+use crate::read_routine::{body, groups, routines, routines_after};
 use crate::read_type::type_term;
 use cp_text::Mark;
 use std::alloc::Global;
@@ -31,7 +33,7 @@ fn system(
     let parameters = groups(alloc, cursor)?;
     let has_semicolon = cursor.eat(Mark::Semicolon);
     let parts = parts(alloc, cursor)?;
-    let routines = routines(alloc, cursor)?;
+    let routines = system_routines(alloc, cursor, kind)?;
     let body = body(alloc, cursor)?;
     Ok(System {
         at,
@@ -42,6 +44,25 @@ fn system(
         routines,
         body,
     })
+}
+
+// The routines of a system type, of which the invariants of a class or a monitor are the first.
+#[tactic(auto, unfolding(crate::specs::ReadingDeclarations::system_routines))]
+fn system_routines(
+    alloc: Global,
+    cursor: &mut Cursor<'_>,
+    kind: SystemKind,
+) -> Result<Vec<Routine>, ParseFault>
+    ensures { Reads (λ v. map routine_view v.items) (spec.system_routines kind cursor.old) result cursor.new }
+{
+    match invariants(alloc, cursor, kind)? {
+        Some(nameless) => {
+            let mut found = Vec::new(alloc);
+            found.push(nameless)?;
+            routines_after(alloc, cursor, found)
+        }
+        None => routines_after(alloc, cursor, Vec::new(alloc)),
+    }
 }
 
 fn system_kind_of(mark: Option<Mark>) -> Option<SystemKind>

@@ -181,11 +181,22 @@ fn routine(alloc: Global, cursor: &mut Cursor<'_>) -> Result<Option<Routine>, Pa
 }
 
 /// The routines that come next.
-#[tactic(auto, using(crate::proofs::Turns::turns), unfolding(crate::specs::ReadingDeclarations::routines))]
+#[tactic(auto, unfolding(crate::specs::ReadingDeclarations::routines))]
 pub fn routines(alloc: Global, cursor: &mut Cursor<'_>) -> Result<Vec<Routine>, ParseFault>
     ensures { Reads (λ v. map routine_view v.items) (spec.routines cursor.old) result cursor.new }
 {
-    let mut found = Vec::new(alloc);
+    routines_after(alloc, cursor, Vec::new(alloc))
+}
+
+/// These routines, and those that come next.
+#[tactic(auto, using(crate::proofs::Turns::turns), unfolding(crate::specs::ReadingDeclarations::routines_after))]
+pub fn routines_after(
+    alloc: Global,
+    cursor: &mut Cursor<'_>,
+    mut found: Vec<Routine>,
+) -> Result<Vec<Routine>, ParseFault>
+    ensures { Reads (λ v. map routine_view v.items) (spec.routines_after (map routine_view found.items) cursor.old) result cursor.new }
+{
     for _turn in 0..cursor.tokens_left() {
         match routine(alloc, cursor)? {
             Some(routine) => found.push(routine)?,

@@ -11,9 +11,10 @@ use crate::constant::Constant;
 use crate::cursor::Cursor;
 use crate::fault::ParseFault;
 use crate::held::{in_box, value_before, value_with};
+use crate::read_annotation::{annotations, asserted};
 use crate::read_constant::{constant, identifier};
 use crate::read_expression::{arguments, designator, expression};
-use crate::statement::{Arm, Direction, Start, Statement, StatementKind};
+use crate::statement::{Arm, AssertionKind, Direction, Start, Statement, StatementKind};
 use cp_text::{Kind, Mark};
 use std::alloc::Global;
 
@@ -35,13 +36,45 @@ pub fn statement(
 
 // A statement whose inner ones have at most `budget` levels.
 #[cycle(statement)]
-#[tactic(auto, unfolding(crate::specs::ReadingStatements::statement_at, crate::specs::ReadingStatements::statement_with, crate::specs::ReadingStatements::named_at, crate::specs::ReadingStatements::init_at, crate::specs::ReadingStatements::block_at, crate::specs::ReadingStatements::if_at, crate::specs::ReadingStatements::case_at, crate::specs::ReadingStatements::while_at, crate::specs::ReadingStatements::repeat_at, crate::specs::ReadingStatements::for_at, crate::specs::ReadingStatements::cycle_at))]
+#[tactic(auto, using(crate::proofs::Views::asserted_none), unfolding(crate::specs::ReadingStatements::statement_at, crate::specs::ReadingStatements::statement_with, crate::specs::ReadingAnnotations::annotations_with, crate::specs::ReadingAnnotations::annotations_at, crate::specs::ReadingAnnotations::annotation_at, crate::specs::ReadingStatements::plain_at))]
 fn statement_within(
     alloc: Global,
     cursor: &mut Cursor<'_>,
     budget: usize,
 ) -> Result<Statement, ParseFault>
     ensures { Reads statement_view (spec.statement_at budget cursor.old) result cursor.new }
+{
+    let at = cursor.at();
+    let tests = annotations(alloc, cursor, Mark::Assert, budget)?;
+    if tests.is_empty() {
+        return plain_statement(alloc, cursor, budget);
+    }
+    let (tests, inner) = value_with(tests, plain_in_box(alloc, cursor, budget))?;
+    Ok(asserted(at, AssertionKind::Assertion, tests, inner))
+}
+
+// The same without the assertions before it, in a box.
+#[cycle(statement)]
+fn plain_in_box(
+    alloc: Global,
+    cursor: &mut Cursor<'_>,
+    budget: usize,
+) -> Result<Box<Statement>, ParseFault>
+    ensures { Reads (λ s. statement_view s.value) (spec.plain_at budget cursor.old) result cursor.new }
+{
+    let inner = plain_statement(alloc, cursor, budget)?;
+    in_box(alloc, inner)
+}
+
+// The same without the assertions before it.
+#[cycle(statement)]
+#[tactic(auto, unfolding(crate::specs::ReadingStatements::plain_at, crate::specs::ReadingStatements::plain_with, crate::specs::ReadingStatements::named_at, crate::specs::ReadingStatements::init_at, crate::specs::ReadingStatements::block_at, crate::specs::ReadingStatements::if_at, crate::specs::ReadingStatements::case_at, crate::specs::ReadingStatements::while_at, crate::specs::ReadingStatements::repeat_at, crate::specs::ReadingStatements::for_at, crate::specs::ReadingStatements::cycle_at))]
+fn plain_statement(
+    alloc: Global,
+    cursor: &mut Cursor<'_>,
+    budget: usize,
+) -> Result<Statement, ParseFault>
+    ensures { Reads statement_view (spec.plain_at budget cursor.old) result cursor.new }
 {
     match cursor.peek() {
         Some(Kind::Name(_)) => assignment_or_call(alloc, cursor, budget),

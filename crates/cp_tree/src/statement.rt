@@ -10,6 +10,13 @@ pub enum Direction {
     Downto,
 }
 
+/// Whose truth an annotation says: that of a place in the text, or that of a component.
+#[derive(Clone, Copy, PartialEq, Eq)]
+pub enum AssertionKind {
+    Assertion,
+    Invariant,
+}
+
 #[cycle(statement)]
 #[derive(Drop)]
 pub struct Statement {
@@ -32,6 +39,8 @@ pub enum StatementKind {
     For(Identifier, Expression, Direction, Expression, Box<Statement>),
     Cycle(Vec<Statement>),
     Init(Vec<Start>),
+    /// A statement with what is said before it, in order of writing; the node begins with the first opening.
+    Asserted(AssertionKind, Vec<Expression>, Box<Statement>),
 }
 
 /// An arm of a `case`: its labels, of which there is at least one, and its statement.

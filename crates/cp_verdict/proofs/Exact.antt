@@ -5,7 +5,7 @@ use Rattle.std.specs.Int.{is_negative}
 use Rattle.std.proofs.lemmas.Bool.{eqb-true, le-ltb}
 use lib.Pointwise.{pointwise}
 use Rattle.cp_store.specs.declared.error.ErrorName.{ErrorName}
-use Rattle.cp_store.specs.declared.error.ErrorName.TheVariants.{Overflow, ZeroDivisor, Range, NoCase, QueueInUse, NotInit, InitTwice}
+use Rattle.cp_store.specs.declared.error.ErrorName.TheVariants.{Overflow, ZeroDivisor, Range, NoCase, QueueInUse, NotInit, InitTwice, Assertion, Invariant}
 use Rattle.cp_machine.specs.declared.shown.Shown.{Shown}
 use Rattle.cp_machine.specs.declared.shown.Shown.TheVariants.{Integer, Char, Truth, Constant}
 use Rattle.cp_run.specs.Table.{each}
@@ -23,7 +23,9 @@ error_of (suc (suc zero)) = Range
 error_of (suc (suc (suc zero))) = NoCase
 error_of (suc (suc (suc (suc zero)))) = QueueInUse
 error_of (suc (suc (suc (suc (suc zero))))) = NotInit
-error_of (suc (suc (suc (suc (suc (suc n)))))) = InitTwice
+error_of (suc (suc (suc (suc (suc (suc zero)))))) = InitTwice
+error_of (suc (suc (suc (suc (suc (suc (suc zero))))))) = Assertion
+error_of (suc (suc (suc (suc (suc (suc (suc (suc n)))))))) = Invariant
 
 error_back : (e : ErrorName) → error_of (number_of e) ≡ e
 unfolding error_of

@@ -34,7 +34,7 @@ claim_is w c h = elim (stands claims w c h) [ inl e ↦ e.0 ∙ ap claim_text (s
 
 pub error_is : (w : List ℕ) (name : ErrorName) → meant_by errors w ≡ Some name → w ≡ error_text name
 error_is w name h =
-    elim (stands errors w name h) [ inl e ↦ by e.0 e.1 | inr a ↦ elim a [ inl e ↦ by e.0 e.1 | inr b ↦ elim b [ inl e ↦ by e.0 e.1 | inr c ↦ elim c [ inl e ↦ by e.0 e.1 | inr d ↦ elim d [ inl e ↦ by e.0 e.1 | inr f ↦ elim f [ inl e ↦ by e.0 e.1 | inr g ↦ elim g [ inl e ↦ by e.0 e.1 | inr none ↦ absurd none ] ] ] ] ] ] ]
+    elim (stands errors w name h) [ inl e ↦ by e.0 e.1 | inr a ↦ elim a [ inl e ↦ by e.0 e.1 | inr b ↦ elim b [ inl e ↦ by e.0 e.1 | inr c ↦ elim c [ inl e ↦ by e.0 e.1 | inr d ↦ elim d [ inl e ↦ by e.0 e.1 | inr f ↦ elim f [ inl e ↦ by e.0 e.1 | inr g ↦ elim g [ inl e ↦ by e.0 e.1 | inr i ↦ elim i [ inl e ↦ by e.0 e.1 | inr j ↦ elim j [ inl e ↦ by e.0 e.1 | inr none ↦ absurd none ] ] ] ] ] ] ] ] ]
   where
     by : {n : ErrorName} → w ≡ error_text n → name ≡ n → w ≡ error_text name
     by e k = e ∙ ap error_text (sym k)

@@ -102,6 +102,8 @@ kind_read s (Error error.NoCase) b = refl
 kind_read s (Error error.QueueInUse) b = refl
 kind_read s (Error error.NotInit) b = refl
 kind_read s (Error error.InitTwice) b = refl
+kind_read s (Error error.Assertion) b = refl
+kind_read s (Error error.Invariant) b = refl
 
 kind_whole : (s : State) (kind : KindPattern) (b : Words) → Follows b → read (Some (at s (place_of kind))) b ≡ read (Some (at s (Whole (Ends kind None)))) b
 kind_whole s Finished b f = after_kind_whole s Finished b f

@@ -2,7 +2,7 @@
 use Rattle.std.specs.Prelude.{ℕ, List, Bool, true, false, not, ◌&&◌, map, Option, None, Some, string_bytes}
 use Rattle.std.specs.List.{list_any, list_all}
 use Rattle.cp_store.specs.declared.error.ErrorName.{ErrorName}
-use Rattle.cp_store.specs.declared.error.ErrorName.TheVariants.{Overflow, ZeroDivisor, Range, NoCase, QueueInUse, NotInit, InitTwice}
+use Rattle.cp_store.specs.declared.error.ErrorName.TheVariants.{Overflow, ZeroDivisor, Range, NoCase, QueueInUse, NotInit, InitTwice, Assertion, Invariant}
 use Rattle.cp_machine.specs.declared.shown.Shown.{Shown}
 use Rattle.cp_run.specs.declared.outcome.Outcome.{Outcome}
 use Rattle.cp_run.specs.declared.outcome.OutcomeKind.{OutcomeKind}
@@ -27,6 +27,8 @@ is_same_error NoCase NoCase = true
 is_same_error QueueInUse QueueInUse = true
 is_same_error NotInit NotInit = true
 is_same_error InitTwice InitTwice = true
+is_same_error Assertion Assertion = true
+is_same_error Invariant Invariant = true
 is_same_error wanted name = false
 
 abbrev pub is_of_kind : KindPattern → OutcomeKind → Bool

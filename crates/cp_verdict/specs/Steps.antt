@@ -44,7 +44,7 @@ beginnings =
 
 abbrev pub errors : List (List ℕ × ErrorName)
 errors =
-    (codes "overflow", error.Overflow) ∷ (codes "zero-divisor", error.ZeroDivisor) ∷ (codes "range", error.Range) ∷ (codes "no-case", error.NoCase) ∷ (codes "queue-in-use", error.QueueInUse) ∷ (codes "not-init", error.NotInit) ∷ (codes "init-twice", error.InitTwice) ∷ []
+    (codes "overflow", error.Overflow) ∷ (codes "zero-divisor", error.ZeroDivisor) ∷ (codes "range", error.Range) ∷ (codes "no-case", error.NoCase) ∷ (codes "queue-in-use", error.QueueInUse) ∷ (codes "not-init", error.NotInit) ∷ (codes "init-twice", error.InitTwice) ∷ (codes "assertion", error.Assertion) ∷ (codes "invariant", error.Invariant) ∷ []
 
 -- what stands before a parenthesis at the end
 abbrev pub before_closing : List ℕ → Option (List ℕ)

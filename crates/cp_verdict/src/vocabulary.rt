@@ -43,6 +43,8 @@ pub fn error_of(word: &str) -> Option<ErrorName>
         "queue-in-use" => Some(ErrorName::QueueInUse),
         "not-init" => Some(ErrorName::NotInit),
         "init-twice" => Some(ErrorName::InitTwice),
+        "assertion" => Some(ErrorName::Assertion),
+        "invariant" => Some(ErrorName::Invariant),
         _ => None,
     }
 }

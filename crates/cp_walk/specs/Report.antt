@@ -7,7 +7,7 @@ use Rattle.cp_natural.specs.Decimal.{number_text}
 use Rattle.cp_machine.specs.declared.shown.Shown.{Shown}
 use Rattle.cp_machine.specs.declared.shown.Shown.TheVariants.{Integer, Char, Truth, Constant}
 use Rattle.cp_store.specs.declared.error.ErrorName.{ErrorName}
-use Rattle.cp_store.specs.declared.error.ErrorName.TheVariants.{Overflow, ZeroDivisor, Range, NoCase, QueueInUse, NotInit, InitTwice}
+use Rattle.cp_store.specs.declared.error.ErrorName.TheVariants.{Overflow, ZeroDivisor, Range, NoCase, QueueInUse, NotInit, InitTwice, Assertion, Invariant}
 use Rattle.cp_run.specs.declared.outcome.Outcome.{Outcome}
 use Rattle.cp_run.specs.declared.outcome.OutcomeKind.{OutcomeKind}
 use Rattle.cp_run.specs.declared.outcome.OutcomeKind.TheVariants.{Finished, AllWaiting, RunError, ChoiceLimit, StepLimit, OutputLimit}
@@ -31,6 +31,8 @@ number_of NoCase = 3
 number_of QueueInUse = 4
 number_of NotInit = 5
 number_of InitTwice = 6
+number_of Assertion = 7
+number_of Invariant = 8
 
 abbrev pub kind_numbers : OutcomeKind → List ℕ
 kind_numbers Finished = 0 ∷ []

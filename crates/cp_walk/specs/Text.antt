@@ -2,7 +2,7 @@
 use Rattle.std.specs.Prelude.{ℕ, List, [], ◌∷◌, ◌++◌, ◌&&◌, not, ◌==◌, nat_le, slice_index_or, decimal, codes, if◌then◌else◌}
 use Rattle.std.specs.Fmt.{signed_decimal}
 use Rattle.cp_store.specs.declared.error.ErrorName.{ErrorName}
-use Rattle.cp_store.specs.declared.error.ErrorName.TheVariants.{Overflow, ZeroDivisor, Range, NoCase, QueueInUse, NotInit, InitTwice}
+use Rattle.cp_store.specs.declared.error.ErrorName.TheVariants.{Overflow, ZeroDivisor, Range, NoCase, QueueInUse, NotInit, InitTwice, Assertion, Invariant}
 use Rattle.cp_machine.specs.declared.shown.Shown.{Shown}
 use Rattle.cp_machine.specs.declared.shown.Shown.TheVariants.{Integer, Char, Truth, Constant}
 use Rattle.cp_run.specs.declared.outcome.Outcome.{Outcome}
@@ -48,6 +48,8 @@ error_text NoCase = codes "no-case"
 error_text QueueInUse = codes "queue-in-use"
 error_text NotInit = codes "not-init"
 error_text InitTwice = codes "init-twice"
+error_text Assertion = codes "assertion"
+error_text Invariant = codes "invariant"
 
 abbrev pub kind_text : OutcomeKind → List ℕ
 kind_text Finished = codes "finished"

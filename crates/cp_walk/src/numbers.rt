@@ -22,6 +22,8 @@ fn number_of(name: ErrorName) -> u32
         ErrorName::QueueInUse => 4,
         ErrorName::NotInit => 5,
         ErrorName::InitTwice => 6,
+        ErrorName::Assertion => 7,
+        ErrorName::Invariant => 8,
     }
 }
 

@@ -129,6 +129,8 @@ pub fn error_name(name: ErrorName) -> &'static str
         ErrorName::QueueInUse => "queue-in-use",
         ErrorName::NotInit => "not-init",
         ErrorName::InitTwice => "init-twice",
+        ErrorName::Assertion => "assertion",
+        ErrorName::Invariant => "invariant",
     }
 }
 

@@ -4,13 +4,14 @@ use Rattle.cp_at_once_laws.proofs.Words.{Identifier, Direction, SystemKind, Name
 use Rattle.cp_at_once_laws.proofs.Words.{SystemMeaning, system_of, value, target_value, first_value, meaning_here, routine_called, stays, delays, continues, Doing}
 use Rattle.cp_at_once_laws.proofs.Words.{status_at, Typed, same_integer, checked, status_set}
 use Rattle.cp_tree.specs.declared.declaration.SystemKind.TheVariants as system_kind
-use Rattle.cp_tree.specs.Syntax.{Expression, Expressions, Designator, Start, Statement, assign, invoke, if_then, if_else, case_of, while_do, for_do, Program}
+use Rattle.cp_tree.specs.Syntax.{Expression, Expressions, Designator, Start, Statement, assign, invoke, if_then, if_else, case_of, while_do, for_do, asserted, Program}
 use Rattle.cp_meaning.specs.Outcome.{ErrorName, Outcome, ◌>>=◌, not_init, init_twice}
 use Rattle.cp_meaning.specs.Scopes.{Meaning, constant_meaning, type_meaning, local_variable, permanent_variable, routine_meaning, standard_meaning, delay_procedure, continue_procedure, display_procedure}
 use Rattle.cp_meaning.specs.State.{Holder, in_call, in_component, Place, Environment, ComponentStatus, uninitialised, initialising, initialised, Component, component_at, CallKind, local_routine, entry_routine, Call, callers, Item, statement_item, function_call, start_item, until, successor, return, init_end, end, is_entry_kind}
 use Rattle.cp_meaning.specs.Places.{View, Target, with_content, content_of, value_held, with_permanents, environment_of, with_environment_of, target_named, value_at, stored, component_there}
 use Rattle.cp_meaning.specs.Values.{with_part}
 use Rattle.cp_meaning.specs.Lifting.{items_of}
+use Rattle.cp_meaning.specs.Operations.{is_true}
 use Rattle.cp_meaning.specs.Calls.{bound, opened, is_initialised, is_uninitialised, entered_as, with_move, with_items, entered, called_as, called, with_status, initial, initialised_in, started_as, started_at, started}
 use Rattle.cp_meaning.specs.LocalRules.{becomes, assigned, arm_for, is_beyond, next_value, goes_on_with, queue_free, delayed_in, after_return, continued_from, in_place_of, argument_of, invoked, does, with_result, leaving_move, return_move, returned, finished, takes}
 use Rattle.cp_meaning.proofs.LocalLaw.{initialised_told, uninitialised_told}
@@ -284,6 +285,7 @@ module _ (own ln : ℕ → Bool) (xs : List Component) where
     does_reads (for_do at i e d f s) items =
         bind_reads (value b e) (value a e) _ _ (value_same own ln xs p c calls cs size held e) (λ x. bind_reads (value b f) (value a f) _ _ (value_same own ln xs p c calls cs size held f) (λ y.
         if_reads (is_beyond d (number_of x.value) (number_of y.value)) _ _ _ _ (λ l. refl) (next_reads at i (number_of x.value) d (number_of y.value) s items)))
+    does_reads (asserted at k e s) items = bind_reads (value b e) (value a e) _ _ (value_same own ln xs p c calls cs size held e) (λ x. if_reads (is_true x) _ _ _ _ (λ l. refl) (λ l. refl))
     does_reads _ items = λ l. refl
 
     -- the component whose initial statement ends is its own

@@ -1,7 +1,7 @@
 -- What the frames of a process may name stays there.
 use Rattle.std.proofs.Common.{◌≡◌, ℕ, zero, suc, ◌+◌, ◌^◌, ◌<◌, ◌≤◌, ◌∙◌, List, [], ◌∷◌, length, Option, Some, None, ap, sym, refl, subst, arith, get_or-set_other}
 use Rattle.cp_machine.proofs.Words.{ℤ, pos, slice_set, slice_index_or, length-set, Tables, routine_at, IsSound, Argument, Bound, Address, Permanent, Local}
-use Rattle.cp_machine.proofs.Words.{Frame, SetValue, Entry, Rest, Successor, Return, InitEnd, Status, Ready, AtGate, Delayed, Discipline, First, Any, StackFits, with_memory}
+use Rattle.cp_machine.proofs.Words.{Frame, SetValue, Entry, Rest, Successor, Return, InitEnd, Status, Ready, AtGate, Delayed, First, Any, StackFits, with_memory}
 use Rattle.cp_machine.proofs.Words.{set_written, admitted, admitted_at, IsBehind, FrameReaches, StackReaches, ThreadReaches, rest_of, from_end, put_value, put_in_frame}
 use Rattle.cp_machine.proofs.Words.{bound_in_frame, bound_in_component, Memory, cell_at, moved, nowhere, onward, put_number, put_copy, referred}
 use Rattle.cp_store.specs.declared.argument.Bound.TheVariants.{Scalar, Set, Copy, Reference, Component}

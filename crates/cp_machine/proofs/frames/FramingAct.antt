@@ -5,7 +5,7 @@ use Rattle.cp_machine.proofs.Words.{CallFits, ActionFits, IsOf, IsTyped, Names, 
 use Rattle.cp_machine.proofs.Words.{ErrorName, Address, SetValue, bound_in_component, put_number, put_copy, ranged, is_true, and_left, and_right, Entry, Rest, Successor}
 use Rattle.cp_machine.proofs.Words.{Return, InitEnd, Ready, Ended, MOST_SHOWN, EntryFits, StackFits, MachineFits, size_of, StackReaches, rest_of, from_end, act, take_top}
 use Rattle.cp_machine.proofs.Words.{step_at, action_inside, component_inside, arguments_inside, binds_from, result_inside, Empty, Assign, AssignSet, Copy, Block, If}
-use Rattle.cp_machine.proofs.Words.{Case, While, Until, For, Cycle, Call, Start, Delay, Continue, Display, Machine, Thread, thread_at, no_thread, phase_at}
+use Rattle.cp_machine.proofs.Words.{Case, Assert, While, Until, For, Cycle, Call, Start, Delay, Continue, Display, Machine, Thread, thread_at, no_thread, phase_at}
 use Rattle.cp_machine.proofs.Words.{is_initialised, is_uninitialised, is_unstarted, with_stack, Stepped, arm_for, is_beyond, next_value, succeeded, with_value, gone_on}
 use Rattle.cp_slots.specs.declared.tables.ComponentKind.TheVariants as kind
 use Rattle.cp_store.specs.declared.memory.Address.TheVariants as address
@@ -146,6 +146,8 @@ module _ (r : Tables) (m : Machine) (pid : ℕ) (lt : pid < length m.threads) (s
     acts (Case selector arms) a =
         value_good r (value_of m pid selector) _ _ (λ e. framed) (λ v is.
         value_good r (arm_for v arms.items) _ _ (λ e. framed) (λ list is. with_entries _ (with_rest list next next_below)))
+    acts (Assert test said) a =
+        value_good r (value_of m pid test) _ _ (λ e. framed) (λ v is. either_good r (is_true v) _ _ going framed)
     acts (While test list again) a =
         value_good r (value_of m pid test) _ _ (λ e. framed) (λ v is. with_entries _ (either_below (is_true v) _ _ (with_rest list (Rest again ∷ es) below) next_below))
     acts (Until test list again) a =

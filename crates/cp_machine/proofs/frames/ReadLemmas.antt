@@ -6,7 +6,7 @@ use Rattle.cp_machine.proofs.Words.{ActionFits, InnerFits, Tables, RoutineView, 
 use Rattle.cp_machine.proofs.Words.{Memory, memory_of, nowhere, onward, Entry, ProcessState, State, Machine, Thread, machine_of, no_thread, thread_at, under, with_stack}
 use Rattle.cp_machine.proofs.Words.{address_of, memory_at, origin_of, origin_address, EntryFits, HasRoom, IsStateOf, IsTaken}
 use Rattle.cp_slots.specs.Inside.{SET_CELLS, action_inside, expression_inside, has, place_room, room_from, set_inside}
-use Rattle.cp_slots.specs.declared.item.Action.TheVariants.{Empty, Assign, AssignSet, Copy, Block, If, Case, While, Until, For, Cycle, Call, Start, Delay, Continue, Display}
+use Rattle.cp_slots.specs.declared.item.Action.TheVariants.{Empty, Assign, AssignSet, Copy, Block, If, Case, Assert, While, Until, For, Cycle, Call, Start, Delay, Continue, Display}
 use Rattle.cp_slots.specs.declared.place.PlaceOrigin.TheVariants as origin
 use Rattle.cp_store.specs.Inside as store
 use Rattle.cp_store.proofs.Reaches.{and_left, and_right, has_fewer, have_cells}
@@ -99,6 +99,7 @@ ActionReads m pid (AssignSet target value low high) = CanReadSet m pid value × 
 ActionReads m pid (Copy target source size) = CanReach m pid source size × CanReach m pid target size
 ActionReads m pid (If test list other) = CanRead m pid test
 ActionReads m pid (Case selector arms) = CanRead m pid selector
+ActionReads m pid (Assert test said) = CanRead m pid test
 ActionReads m pid (While test body again) = CanRead m pid test
 ActionReads m pid (Until test body again) = CanRead m pid test
 ActionReads m pid (For variable low high from to down body) = CanName m pid variable 1 × CanRead m pid from × CanRead m pid to

@@ -1,6 +1,6 @@
 -- What the kernel does keeps each line the line of those at its gate.
 use Rattle.std.proofs.Common.{◌≡◌, ◌∙◌, ℕ, suc, ◌<◌, ◌≤◌, ◌⊎◌, inl, inr, List, [], ◌∷◌, ◌++◌, length, Option, Some, None, true, false, eqb, ap, sym, refl, subst, arith, length-append}
-use Rattle.cp_machine.proofs.Words.{IfSome, pos, slice_index_or, slice_set, IsDistinct, Discipline, First, Any, Status, Unstarted, Ready, AtGate, Delayed, LinesFit, admitted}
+use Rattle.cp_machine.proofs.Words.{IfSome, pos, slice_index_or, slice_set, IsDistinct, First, Any, Status, Unstarted, Ready, AtGate, Delayed, LinesFit, admitted}
 use Rattle.cp_machine.specs.declared.discipline.Gates.{Gates}
 use Rattle.cp_machine.proofs.Words.{admitted_at, without, let_in, let_in_by, first_in, one_in, freed, goes_in, entered, entered_by, delayed, continued, resumed, waits_in}
 use Rattle.cp_machine.specs.declared.discipline.Signals.{Signals}

@@ -1,6 +1,6 @@
 -- What the kernel does keeps what is known of components.
 use Rattle.std.proofs.Common.{◌≡◌, ◌∙◌, ℕ, ◌+◌, ◌<◌, List, [], ◌∷◌, length, Option, Some, None, true, false, ap, sym, refl, subst, arith}
-use Rattle.cp_machine.proofs.Words.{pos, slice_index_or, slice_set, length-set, IsOf, Tables, component_at, parameter_at, ComponentKind, Memory, Frame, Discipline}
+use Rattle.cp_machine.proofs.Words.{pos, slice_index_or, slice_set, length-set, IsOf, Tables, component_at, parameter_at, ComponentKind, Memory, Frame}
 use Rattle.cp_machine.proofs.Words.{First, Any, Entry, Rest, Successor, Return, InitEnd, Status, Ready, AtGate, Delayed, Phase, Uninitialised, LinesFit, with_memory}
 use Rattle.cp_machine.proofs.Words.{admitted, admitted_at, AreBound, EndsBegun, ExecutesAs, HasBegunAs, StackExecutes}
 use Rattle.std.proofs.lemmas.List.Quantifiers.{position-Some}

@@ -4,7 +4,7 @@ use Rattle.cp_machine.proofs.Words.{ℤ, ◌==◌, int_eq, component_inside, Act
 use Rattle.cp_machine.proofs.Words.{Item, ComponentPlace, FindsComponent, Memory, put_copy, put_number, is_true, ranged, Frame, Entry, Rest, Successor, Return, InitEnd}
 use Rattle.cp_machine.proofs.Words.{Ended, Initialised, MOST_SHOWN, left, EntryFits, LinesFit, MachineFits, StackFits, Machine, is_ready, thread_at, with_stack, Executes}
 use Rattle.cp_machine.proofs.Words.{FrameReaches, ThreadReaches, rest_of, arm_for, is_beyond, next_value, succeeded, act, step_at, take_top}
-use Rattle.cp_slots.specs.declared.item.Action.TheVariants.{Empty, Assign, AssignSet, Copy, Block, If, Case, While, Until, For, Cycle, Call, Start, Delay, Continue, Display}
+use Rattle.cp_slots.specs.declared.item.Action.TheVariants.{Empty, Assign, AssignSet, Copy, Block, If, Case, Assert, While, Until, For, Cycle, Call, Start, Delay, Continue, Display}
 use Rattle.cp_store.specs.Sets as sets
 use Rattle.cp_machine.specs.Memory.{address_of, arguments_of, component_of, memory_at, set_of, set_written, value_of, with_memory}
 use Rattle.cp_machine.proofs.frames.Covered.{frame_reaches}
@@ -47,6 +47,8 @@ module _ (r : Tables) (m : Machine) (pid : ℕ) (typed : IsTyped r) (fits : Mach
   act_going at item (Case selector arms) es n s =
       value_going r (value_of m pid selector) _ _ (λ e. h) (λ v of_v.
       value_going r (arm_for v arms.items) _ _ (λ e. h) (λ list of_list. goes _ (above list (rest_of item.next es) (above item.next es s))))
+  act_going at item (Assert test said) es n s =
+      value_going r (value_of m pid test) _ _ (λ e. h) (λ v of_v. either_going r (is_true v) _ _ (λ e. goes _ (above item.next es s)) h)
   act_going at item (While test list again) es n s =
       value_going r (value_of m pid test) _ _ (λ e. h) (λ v of_v. goes _ (either_runs r m pid _ (is_true v) _ _ (above list (Rest again ∷ es) s) (above item.next es s)))
   act_going at item (Until test list again) es n s =

@@ -4,7 +4,7 @@ use Rattle.cp_machine.proofs.Words.{ℤ, ◌==◌, int_eq, Tables, item_at, comp
 use Rattle.cp_machine.proofs.Words.{is_true, Entry, Rest, Successor, Return, InitEnd, Ended, Initialised, MOST_SHOWN, StackFits, MachineFits, EntryFits}
 use Rattle.cp_machine.proofs.Words.{Machine, thread_at, with_stack, value_of, set_of, address_of, component_of, arguments_of, rest_of, arm_for, is_beyond}
 use Rattle.cp_machine.proofs.Words.{next_value, succeeded, local, fault, with_value, act, take_top, step_at}
-use Rattle.cp_slots.specs.declared.item.Action.TheVariants.{Empty, Assign, AssignSet, Copy, Block, If, Case, While, Until, For, Cycle, Call, Start, Delay, Continue, Display}
+use Rattle.cp_slots.specs.declared.item.Action.TheVariants.{Empty, Assign, AssignSet, Copy, Block, If, Case, Assert, While, Until, For, Cycle, Call, Start, Delay, Continue, Display}
 use Rattle.cp_store.specs.Sets as sets
 use Rattle.cp_machine.proofs.rooms.Keeping.{Fit, value_fits, either_fits, either_stack, stack_fits, phase_fits, output_fits, memory_fits, left_fits}
 use Rattle.cp_machine.proofs.rooms.KernelFits.{status_fits, let_in_fits}
@@ -52,6 +52,7 @@ module _ (r : Tables) (m : Machine) (pid : ℕ) (lt : pid < length m.threads) (s
       arms_fit : (v : ℤ) (o : Result (Option ℕ) ErrorName) → arm_for v arms.items ≡ o → Fit r (with_value o (fault m pid (item_at r at).line) (λ list. local (with_stack m pid (rest_of list (rest_of (item_at r at).next es)))))
       arms_fit v (Err e) is = h
       arms_fit v (Ok list) is = stack_fits r m pid _ (with_list list (arm_is (InnerFits r (thread_at m.threads pid).frame.routine (item_at r at).need) v arms.items a list is)) h
+  act_fits (Assert test said) a = value_fits r (value_of m pid test) _ _ (λ e. h) (λ v. either_fits r (is_true v) _ _ going h)
   act_fits (While test list again) a =
       value_fits r (value_of m pid test) _ _ (λ e. h) (λ v. stack_fits r m pid _ (either_stack r _ (is_true v) _ _ (with_again list again a.0 a.1) (next_fits r m pid lt sound h at es s n)) h)
   act_fits (Until test list again) a =

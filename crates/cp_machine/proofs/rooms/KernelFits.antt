@@ -1,6 +1,6 @@
 -- What the kernel does keeps each process inside what was reserved for it.
 use Rattle.std.proofs.Common.{◌≡◌, ℕ, ◌<◌, ◌∙◌, List, [], ◌∷◌, Option, Some, None, length, arith}
-use Rattle.cp_machine.proofs.Words.{ℤ, IfSome, pos, slice_set, length-set, Tables, Discipline, First, Any, Status, Ready, AtGate, Delayed, MachineFits}
+use Rattle.cp_machine.proofs.Words.{ℤ, IfSome, pos, slice_set, length-set, Tables, First, Any, Status, Ready, AtGate, Delayed, MachineFits}
 use Rattle.cp_machine.proofs.Words.{ThreadFits, admitted, admitted_at, without}
 use Rattle.cp_machine.proofs.ListLemmas.{each_set}
 use Rattle.cp_machine.specs.declared.discipline.Gates.{Gates}

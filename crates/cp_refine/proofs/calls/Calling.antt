@@ -15,6 +15,7 @@ use Rattle.cp_machine.specs.Statements as statements
 use Rattle.cp_meaning.specs.State as named
 use Rattle.cp_meaning.specs.State.{ready, at_gate, Status, Environment, CallKind, local_routine, entry_routine, Call, Item, return, Process, State, has_entry, is_entry_kind}
 use Rattle.cp_meaning.specs.Kernel as meaning
+use Rattle.cp_meaning.specs.Calls.{last_checks}
 use Rattle.cp_meaning.specs.Kernel.{local_event, enter_event, is_anybody_inside}
 use Rattle.cp_refine.specs.Represents.{StackIs, ProcessIs, Runs, monitor_left, CallIs, CallsHold, MonitorIs, frames_of, own_memory, Represents}
 use Rattle.cp_refine.proofs.assignments.Assigning.{set_set}
@@ -22,7 +23,7 @@ use Rattle.cp_refine.proofs.control.Control.{Goes, StepIs}
 use Rattle.cp_refine.proofs.calls.FramesBelow.{lie_lower, frames_lie, calls_below}
 use Rattle.cp_refine.proofs.gates.Gates as gates
 use Rattle.cp_refine.proofs.gates.Gates.{OwnNumbers, HasCalled, nobody_inside, somebody_inside}
-use Rattle.cp_refine.proofs.control.Lists.{all_items, stack_rest, frames_rest}
+use Rattle.cp_refine.proofs.control.Lists.{body_items, stack_rest, frames_rest}
 use Rattle.cp_refine.proofs.control.Moving.{set_here, stands_ready, goes_ready}
 use Rattle.cp_refine.proofs.calls.NewFrame.{CanOpen, bound_memory, binds_all, holds_new}
 use Rattle.cp_refine.proofs.control.Running.{calls_alike}
@@ -68,7 +69,7 @@ module _ (g : Ground) (p : Program) (l : Layouts) (s : State) (m : Machine) (q :
   new_call c = record { component = d; kind = c; scope = meaning_of.scope; environment = e ++ least_of meaning_of.variables ++ least_result meaning_of.result }
 
   abbrev pub new_process : Status → CallKind → Process
-  new_process u c = record { component = before.component; status = u; calls = new_call c ∷ before.calls; items = items_of_all meaning_of.scope meaning_of.body ++ return o ∷ zs }
+  new_process u c = record { component = before.component; status = u; calls = new_call c ∷ before.calls; items = items_of_all meaning_of.scope meaning_of.body ++ last_checks meaning_of.checks meaning_of.scope ++ return o ∷ zs }
 
   abbrev memory : Memory
   memory = bound_memory g p l frames (memory_at m q) frame can.opens e xs bs given
@@ -96,10 +97,10 @@ module _ (g : Ground) (p : Program) (l : Layouts) (s : State) (m : Machine) (q :
       (call_is c, holds_new g p l frames (memory_at m q) frame can.opens e xs bs given (new_call c) (environment_is c), callers_hold)
 
   stack_stands : (c : CallKind) (monitor : Option ℕ) → monitor ≡ monitor_left g.tables (new_call c) c (component_at g.tables d).kind →
-      StackIs g p l frame (new_call c ∷ before.calls) (items_of_all meaning_of.scope meaning_of.body ++ return o ∷ zs) (rest_of (routine_at g.tables number).body (Return thread.frame slot monitor ∷ rest))
+      StackIs g p l frame (new_call c ∷ before.calls) (items_of_all meaning_of.scope meaning_of.body ++ last_checks meaning_of.checks meaning_of.scope ++ return o ∷ zs) (rest_of (routine_at g.tables number).body (Return thread.frame slot monitor ∷ rest))
   stack_stands c monitor left =
-      stack_rest g p l frame (new_call c ∷ before.calls) (routine_at g.tables number).body (items_of_all meaning_of.scope meaning_of.body) (return o ∷ zs) (Return thread.frame slot monitor ∷ rest)
-      (all_items g (here p l number) (routine_at g.tables number).body None meaning_of.body (can.routines number can.known).body)
+      stack_rest g p l frame (new_call c ∷ before.calls) (routine_at g.tables number).body (items_of_all meaning_of.scope meaning_of.body ++ last_checks meaning_of.checks meaning_of.scope) (return o ∷ zs) (Return thread.frame slot monitor ∷ rest)
+      (body_items g (here p l number) (routine_at g.tables number).body meaning_of.body meaning_of.checks (can.routines number can.known).body)
       (new_call c, before.calls, o, zs, refl, refl, (refl, goes, left), is)
 
   pub runs_new : (u : Status) (c : CallKind) (monitor : Option ℕ) → monitor ≡ monitor_left g.tables (new_call c) c (component_at g.tables d).kind → Runs g p l (new_process u c) (new_thread monitor)
@@ -130,14 +131,14 @@ module _ (g : Ground) (p : Program) (l : Layouts) (s : State) (m : Machine) (q :
   Outside c = (n j : ℕ) → (component_at g.tables n).kind ≡ kind.Monitor j → (is_entry_kind c && d == n) ≡ false
 
   stands_new : (c : CallKind) (monitor : Option ℕ) → monitor ≡ monitor_left g.tables (new_call c) c (component_at g.tables d).kind → ProcessIs g p l q (new_process ready c) (new_thread monitor)
-  stands_new c monitor left = stands_ready g p l s m q k.rep k.there k.was k.was_slot (new_call c ∷ before.calls) (items_of_all meaning_of.scope meaning_of.body ++ return o ∷ zs) (new_thread monitor) refl (runs_new ready c monitor left)
+  stands_new c monitor left = stands_ready g p l s m q k.rep k.there k.was k.was_slot (new_call c ∷ before.calls) (items_of_all meaning_of.scope meaning_of.body ++ last_checks meaning_of.checks meaning_of.scope ++ return o ∷ zs) (new_thread monitor) refl (runs_new ready c monitor left)
 
   pub called_outside : (line : ℕ) (c : CallKind) → Outside c → monitor_left g.tables (new_call c) c (component_at g.tables d).kind ≡ None →
       StepIs g p l q line (record { state = record s { processes = slice_set s.processes q (new_process ready c) }; event = local_event }) (statements.local (calls.called g.tables m q number d xs bs slot None rest))
   called_outside line c out none =
       record {
         state = subst (λ w. Represents g p l (record s { processes = slice_set s.processes q (new_process ready c) }) w) (sym (machine_is None))
-            (goes_ready g p l s m q k.rep k.there k.was k.was_slot (new_call c ∷ before.calls) (items_of_all meaning_of.scope meaning_of.body ++ return o ∷ zs) (new_thread None) refl (runs_new ready c None (sym none))
+            (goes_ready g p l s m q k.rep k.there k.was k.was_slot (new_call c ∷ before.calls) (items_of_all meaning_of.scope meaning_of.body ++ last_checks meaning_of.checks meaning_of.scope ++ return o ∷ zs) (new_thread None) refl (runs_new ready c None (sym none))
             (λ n j f. ap (λ b. b || has_entry n before.calls) (out n j f)));
         event = refl;
       }
@@ -177,20 +178,20 @@ module _ (g : Ground) (p : Program) (l : Layouts) (s : State) (m : Machine) (q :
 
     -- who is inside on names is the holder
     by_holder : (w : Option ℕ) → first_inside d s.processes ≡ w →
-        Represents g p l (meaning.entering (is_anybody_inside d s.processes) s q d (record { calls = new_call entry_routine ∷ before.calls; items = items_of_all meaning_of.scope meaning_of.body ++ return o ∷ zs; components = s.components; move = enters d })) (machine.entered_by w (with_thread m q (new_thread (Some j))) q j)
+        Represents g p l (meaning.entering (is_anybody_inside d s.processes) s q d (record { calls = new_call entry_routine ∷ before.calls; items = items_of_all meaning_of.scope meaning_of.body ++ last_checks meaning_of.checks meaning_of.scope ++ return o ∷ zs; components = s.components; move = enters d })) (machine.entered_by w (with_thread m q (new_thread (Some j))) q j)
     by_holder None free =
         subst (λ b. Represents g p l (meaning.entering b s q d doing) (machine.entered_by None (with_thread m q (new_thread (Some j))) q j)) (sym (nobody_inside d s.processes free))
         (gates.enters_free g p l s m q (new_process ready entry_routine) (new_thread (Some j)) d j k.rep own monitor known there_component k.there k.was k.was_slot (has_called ready) free refl (stands_new entry_routine (Some j) left))
       where
         doing : Doing
-        doing = record { calls = new_call entry_routine ∷ before.calls; items = items_of_all meaning_of.scope meaning_of.body ++ return o ∷ zs; components = s.components; move = enters d }
+        doing = record { calls = new_call entry_routine ∷ before.calls; items = items_of_all meaning_of.scope meaning_of.body ++ last_checks meaning_of.checks meaning_of.scope ++ return o ∷ zs; components = s.components; move = enters d }
     by_holder (Some r) busy =
         subst (λ b. Represents g p l (meaning.entering b s q d doing) (machine.entered_by (Some r) (with_thread m q (new_thread (Some j))) q j)) (sym (somebody_inside d r s.processes busy))
         (subst (λ w. Represents g p l (meaning.entering true s q d doing) w) (sym machine_waits)
         (gates.enters_busy g p l s m q (new_process (at_gate d) entry_routine) waiting_thread d j k.rep own monitor known there_component k.there k.was k.was_slot (has_called (at_gate d)) r busy refl stands_waiting))
       where
         doing : Doing
-        doing = record { calls = new_call entry_routine ∷ before.calls; items = items_of_all meaning_of.scope meaning_of.body ++ return o ∷ zs; components = s.components; move = enters d }
+        doing = record { calls = new_call entry_routine ∷ before.calls; items = items_of_all meaning_of.scope meaning_of.body ++ last_checks meaning_of.checks meaning_of.scope ++ return o ∷ zs; components = s.components; move = enters d }
 
         machine_waits : machine.entered_by (Some r) (with_thread m q (new_thread (Some j))) q j ≡ record m { threads = slice_set m.threads q waiting_thread; monitors = slice_set m.monitors j (record { holder = Some r; line = (monitor_at m j).line ++ q ∷ [] }) }
         machine_waits =
@@ -201,11 +202,11 @@ module _ (g : Ground) (p : Program) (l : Layouts) (s : State) (m : Machine) (q :
     holder_same = (subst (MonitorIs s m d) monitor (k.rep.monitors d there_component)).1
 
     pub called_monitor : (line : ℕ) →
-        StepIs g p l q line (record { state = meaning.entering (is_anybody_inside d s.processes) s q d (record { calls = new_call entry_routine ∷ before.calls; items = items_of_all meaning_of.scope meaning_of.body ++ return o ∷ zs; components = s.components; move = enters d }); event = enter_event })
+        StepIs g p l q line (record { state = meaning.entering (is_anybody_inside d s.processes) s q d (record { calls = new_call entry_routine ∷ before.calls; items = items_of_all meaning_of.scope meaning_of.body ++ last_checks meaning_of.checks meaning_of.scope ++ return o ∷ zs; components = s.components; move = enters d }); event = enter_event })
         (record { machine = machine.entered (calls.called g.tables m q number d xs bs slot (Some j) rest) q j; event = event.Kernel event_call.Enter })
     called_monitor line =
         record {
-          state = subst (λ w. Represents g p l (meaning.entering (is_anybody_inside d s.processes) s q d (record { calls = new_call entry_routine ∷ before.calls; items = items_of_all meaning_of.scope meaning_of.body ++ return o ∷ zs; components = s.components; move = enters d })) (machine.entered w q j)) (sym (machine_is (Some j)))
+          state = subst (λ w. Represents g p l (meaning.entering (is_anybody_inside d s.processes) s q d (record { calls = new_call entry_routine ∷ before.calls; items = items_of_all meaning_of.scope meaning_of.body ++ last_checks meaning_of.checks meaning_of.scope ++ return o ∷ zs; components = s.components; move = enters d })) (machine.entered w q j)) (sym (machine_is (Some j)))
               (by_holder (monitor_at m j).holder (sym holder_same));
           event = refl;
         }

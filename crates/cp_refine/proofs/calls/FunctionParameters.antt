@@ -1,7 +1,7 @@
 -- The parameters of functions are no `var` parameters.
 use Rattle.cp_refine.proofs.Words.{some_same, ◌≡◌, ◌∙◌, false, List, [], ◌∷◌, ◌++◌, Option, Some, None, ap, sym, refl, subst, Name, Ty, array_over, component_of, system_of, Each}
 use Rattle.cp_refine.proofs.Words.{Meaning, local_variable, permanent_variable, routine_meaning, Scope, find, since, last_field}
-use Rattle.cp_tree.specs.Syntax.{Designator, designator, Group, RoutineKind, procedure, function, Routine, Program}
+use Rattle.cp_tree.specs.Syntax.{Designator, designator, Group, RoutineKind, procedure, function, invariants, Routine, Program}
 use Rattle.cp_meaning.specs.Declarations.{type_named, names_of, Parameter, Heading, parameters_named, with_group, with_groups, heading_of, result_of, RoutineMeaning, routine_in}
 use Rattle.cp_meaning.specs.Expressions.{routine_of_system, routine_of_type, routine_meant, routine_called}
 
@@ -22,6 +22,7 @@ groups_values m h (g ∷ gs) v = groups_values m (with_group m false h g) gs (va
 
 heading_values : (s u : Scope) (k : RoutineKind) → (result_of u k ≡ None → ⊥) → Each IsValue (heading_of s k).parameters
 heading_values s u (procedure gs) some = absurd (some refl)
+heading_values s u invariants some = absurd (some refl)
 heading_values s u (function gs i) some = groups_values local_variable (record { parameters = []; scope = s }) gs tt
 
 -- a routine that is found is one that is declared

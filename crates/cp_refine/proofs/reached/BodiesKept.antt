@@ -4,19 +4,20 @@ use Rattle.cp_refine.proofs.Words.{◌&&◌, ◌||◌, Identifier, Direction, Sy
 use Rattle.cp_refine.proofs.Words.{number_of, waiting_in, RoutineMeaning, system_of, first_components, same_integer, is_true, checked, items_of, items_of_all}
 use Rattle.cp_refine.proofs.Words.{until_items, Layouts, initial_meaning, Move, enters, stays, delays, continues, starts, ends, Doing}
 use Rattle.cp_tree.specs.declared.declaration.SystemKind.TheVariants as system_kind
-use Rattle.cp_tree.specs.Syntax.{Expressions, Designator, Start, Statement, assign, invoke, block, if_then, if_else, case_of, while_do, repeat_until, for_do, cycle, Arms, no_arms, more_arms, arm, Program, Statements}
+use Rattle.cp_tree.specs.Syntax.{Expressions, Designator, Start, Statement, assign, invoke, block, if_then, if_else, case_of, while_do, repeat_until, for_do, cycle, asserted, nameless, no_expressions, Arms, no_arms, more_arms, arm, Program, Statements}
 use Rattle.cp_meaning.specs.Scopes.{Meaning, constant_meaning, type_meaning, local_variable, permanent_variable, routine_meaning, standard_meaning, delay_procedure, continue_procedure, display_procedure, Scope, find}
 use Rattle.cp_meaning.specs.State.{Holder, in_call, in_component, Place, Environment, Component, component_at, no_component, CallKind, initial_statement, local_routine, entry_routine, Call, callers, is_entry_kind, has_entry, Item, statement_item, function_call, start_item, until, successor, return, init_end, end}
 use Rattle.cp_meaning.specs.Places.{View, Target, target_named, value_at, stored, this_call, this_component, plain_place, component_there, with_environment, with_call_environment, with_environment_of}
 use Rattle.cp_meaning.specs.Expressions.{value, target_value, first_value, meaning_here, routine_called, name_of}
-use Rattle.cp_meaning.specs.Calls.{bound, opened, is_initialised, is_uninitialised, entered_as, with_move, with_items, entered, called_as, called, initial, initialised_in, started_as, started}
+use Rattle.cp_meaning.specs.Lifting.{is_routine_meant, has_invariants, check_statement, check_items}
+use Rattle.cp_meaning.specs.Calls.{last_checks, bound, opened, is_initialised, is_uninitialised, entered_as, with_move, with_items, entered, called_as, called, initial, initialised_in, started_as, started}
 use Rattle.cp_meaning.specs.LocalRules.{scope_here, becomes, assigned, arm_for, has_label, is_beyond, goes_on_with, queue_free, delayed_in, after_return, continued_from, in_place_of, argument_of, invoked, does, outer, with_result, leaving_move, return_move, returned, finished, takes}
 use Rattle.cp_meaning.proofs.Frames.{at_set, Frame, frames, Descends, ItemsFit as FramesFit}
 use Rattle.cp_meaning.proofs.Good.{or_right}
-use Rattle.cp_refine.specs.Bodies.{IsAmong, IsAmongArms, IsWithin, inside, ItemStands, AllStand}
+use Rattle.cp_refine.specs.Bodies.{IsAmong, IsAmongArms, IsWithin, inside, check_name, ItemStands, AllStand}
 use Rattle.cp_refine.specs.RoutinesKnown.{Traits, scope_of, body_of, CalledAs, RoutinesKnown, KindFits, QuietAbove, CallsFit, ItemsFit, StandsInBodies}
 use Rattle.cp_refine.proofs.assignments.Assigning.{entries_kept}
-use Rattle.cp_refine.proofs.reached.BodyItems.{statement_stands, all_stand, body_stands, until_stands, stand_append}
+use Rattle.cp_refine.proofs.reached.BodyItems.{statement_stands, all_stand, checked_stands, until_stands, stand_append}
 
 -- ---- lists of items
 
@@ -194,8 +195,8 @@ module _ (p : Program) (l : Layouts) (f : Traits) (known : RoutinesKnown p l f) 
         stands = record {
           numbers = k ∷ n ∷ ns;
           executes = (record { scope = ap (λ (m : RoutineMeaning). m.scope) same; kind = fit }, quiet, fits);
-          remains = subst (λ (m : RoutineMeaning). ItemsFit l (k ∷ n ∷ ns) (items_of_all m.scope m.body ++ return o ∷ items)) (sym same)
-              (fit_append l k (n ∷ ns) (items_of_all (scope_of l k) (body_of l k)) (return o ∷ items) (body_stands (scope_of l k) (body_of l k)) (subst (λ (m : RoutineMeaning). m.result ≡ None → o ≡ None) same gives, rest));
+          remains = subst (λ (m : RoutineMeaning). ItemsFit l (k ∷ n ∷ ns) (items_of_all m.scope m.body ++ last_checks m.checks m.scope ++ return o ∷ items)) (sym same)
+              (fit_append l k (n ∷ ns) (items_of_all (scope_of l k) (body_of l k) ++ last_checks (l.meanings k).checks (scope_of l k)) (return o ∷ items) (checked_stands (scope_of l k) (body_of l k) (l.meanings k).checks) (subst (λ (m : RoutineMeaning). m.result ≡ None → o ≡ None) same gives, rest));
         };
         systems = systems;
         moves = moves;
@@ -234,6 +235,22 @@ module _ (p : Program) (l : Layouts) (f : Traits) (known : RoutinesKnown p l f) 
       subst (λ (s : Scope). Fits (called_as v (find (name_of d) s) d (routine_called p s d) None es items)) (sym scope_is)
       (called_fits (find (name_of d) scope) d (routine_called p scope d) None es items (λ r e. (let k = known.procedures n at d es r w e in (k.number, k.same, k.called, λ h. refl))) rest)
 
+  -- a check calls the routine of the invariants
+  check_fits : (at : ℕ) (items : List Item) → has_invariants scope ≡ true → ItemsFit l (n ∷ ns) items → Fits (does v pid (check_statement at) items)
+  check_fits at items has rest =
+      subst (λ (s : Scope). Fits (invoked v pid (find nameless s) (check_name at) no_expressions items)) (sym scope_is) (go (find nameless scope) refl has)
+    where
+      called_check : (m : Option Meaning) → find nameless scope ≡ m → Fits (called_as v m (check_name at) (routine_called p scope (check_name at)) None no_expressions items)
+      called_check m is =
+          called_fits m (check_name at) (routine_called p scope (check_name at)) None no_expressions items
+          (λ r e. (let k = known.checks n at r has e in (k.number, k.same, subst (CalledAs f n k.number) is k.called, λ h. refl))) rest
+
+      go : (m : Option Meaning) → find nameless scope ≡ m → is_routine_meant m ≡ true → Fits (invoked v pid m (check_name at) no_expressions items)
+      go (Some (routine_meaning r)) is there =
+          subst (λ (s : Scope). Fits (called_as v (find nameless s) (check_name at) (routine_called p s (check_name at)) None no_expressions items)) (sym scope_is)
+          (called_check (find nameless scope) refl)
+      go _ is never = absurd (let bad : false ≡ true = never in cc)
+
   -- ---- starts
 
   initial_fits : (d : ℕ) (items : List Item) (e : Environment) → KindFits f initial_statement (known.initials d).number → ItemsFit l (n ∷ ns) items → DoingFits p l f (initial v d (system_of p (component_at cs d).system) items e)
@@ -244,8 +261,8 @@ module _ (p : Program) (l : Layouts) (f : Traits) (known : RoutinesKnown p l f) 
         stands = record {
           numbers = k.number ∷ n ∷ ns;
           executes = (record { scope = ap (λ (m : RoutineMeaning). m.scope) meaning; kind = fit }, tt, fits);
-          remains = subst (λ (m : RoutineMeaning). ItemsFit l (k.number ∷ n ∷ ns) (items_of_all m.scope m.body ++ init_end d ∷ items)) (sym meaning)
-              (fit_append l k.number (n ∷ ns) (items_of_all (scope_of l k.number) (body_of l k.number)) (init_end d ∷ items) (body_stands (scope_of l k.number) (body_of l k.number)) rest);
+          remains = subst (λ (m : RoutineMeaning). ItemsFit l (k.number ∷ n ∷ ns) (items_of_all m.scope m.body ++ check_items 0 m.scope ++ init_end d ∷ items)) (sym meaning)
+              (fit_append l k.number (n ∷ ns) (items_of_all (scope_of l k.number) (body_of l k.number) ++ check_items 0 (scope_of l k.number)) (init_end d ∷ items) (checked_stands (scope_of l k.number) (body_of l k.number) true) rest);
         };
         systems = system_set p cs d _ refl systems;
         moves = tt;
@@ -370,7 +387,13 @@ module _ (p : Program) (l : Layouts) (f : Traits) (known : RoutinesKnown p l f) 
       bind_fits p l f (value v e) _ (λ x. bind_fits p l f (value v b) _ (λ y.
       outcome_if p l f (is_beyond d (number_of x.value) (number_of y.value)) _ _ (becomes_fit v items alike rest) (next_fits at i _ d _ t items (e, b, w) (inside t (for_do at i e d b t) refl w) rest)))
   does_fits (cycle at ss) items w g rest = becomes_fit v _ alike (all_and ss (λ (s : Scope). items_of s (cycle at ss)) items (λ t h. inside t (cycle at ss) h w) (statement_stands scope body (cycle at ss) w) rest)
+  does_fits (asserted at k e t) items w g rest =
+      bind_fits p l f (value v e) _ (λ x. outcome_if p l f (is_true x) _ _ (becomes_fit v _ alike (of_statement t items (inside t (asserted at k e t) refl w) rest)) tt)
   does_fits _ items w g rest = becomes_fit v items alike rest
+
+  statement_fits : (t : Statement) (items : List Item) → ItemStands scope body (statement_item t) → FramesFit (frames (c ∷ calls)) items → ItemsFit l (n ∷ ns) items → Fits (does v pid t items)
+  statement_fits t items (inl w) g rest = does_fits t items w g rest
+  statement_fits t items (inr k) g rest = subst (λ (u : Statement). Fits (does v pid u items)) (sym k.2) (check_fits k.0 items k.1 rest)
 
   -- ---- items
 
@@ -379,7 +402,7 @@ module _ (p : Program) (l : Layouts) (f : Traits) (known : RoutinesKnown p l f) 
 
   pub takes_fits : (items : List Item) → FramesFit (frames (c ∷ calls)) items → ItemsFit l (n ∷ ns) items → Fits (takes v pid items)
   takes_fits [] g rest = becomes_fit v [] alike tt
-  takes_fits (statement_item t ∷ items) g rest = does_fits t items rest.0 g rest.1
+  takes_fits (statement_item t ∷ items) g rest = statement_fits t items rest.0 g rest.1
   takes_fits (function_call at d es ∷ items) g rest = function_fits at d es items rest.0 rest.1
   takes_fits (start_item t ∷ items) g rest = start_fits t items rest.1
   takes_fits (until ss e ∷ items) g rest =

@@ -1,7 +1,7 @@
 -- What a ready process does next is as the rules want it: it stands in the body of a routine whose scope is that of the call.
-use Rattle.std.proofs.Common.{◌≡◌, ◌∙◌, ◌⊎◌, inl, inr, ℕ, ◌-◌, ◌+◌, ◌<◌, true, false, List, [], ◌∷◌, length, Option, Some, None, ap, sym, refl, subst}
+use Rattle.std.proofs.Common.{◌≡◌, ◌∙◌, ◌⊎◌, inl, inr, ℕ, ◌-◌, ◌+◌, ◌<◌, Bool, true, false, List, [], ◌∷◌, length, Option, Some, None, ap, sym, refl, subst}
 use Rattle.cp_tree.specs.declared.declaration.SystemKind.TheVariants as system_kind
-use Rattle.cp_tree.specs.Syntax.{Expression, Expressions, no_expressions, more_expressions, Designator, Start, Statement, assign, invoke, block, if_then, if_else, case_of, while_do, repeat_until, for_do, cycle, init, Statements, no_statements, more_statements, Arms, no_arms, more_arms, arm, Program, Tree}
+use Rattle.cp_tree.specs.Syntax.{Expression, Expressions, no_expressions, more_expressions, Designator, Start, Statement, assign, invoke, block, if_then, if_else, case_of, while_do, repeat_until, for_do, cycle, init, asserted, nameless, Statements, no_statements, more_statements, Arms, no_arms, more_arms, arm, Program, Tree, no_selectors}
 use Rattle.cp_slots.specs.Code as code
 use Rattle.cp_refine.proofs.Words.{Tables, Machine, thread_at, IsAccepted, Name, Ty, Base, result_type, Parameter, RoutineMeaning, name_of, routine_called, variable_in}
 use Rattle.cp_refine.proofs.Words.{declared, program_system, own_meaning, system_of, is_ready, a_component, designator_form, tokens_of, Layouts, Here, here, IsRead}
@@ -11,6 +11,11 @@ use Rattle.cp_refine.proofs.Words.{find, HasQueue, Opening, openings_of, meaning
 use Rattle.cp_meaning.specs.Types as named
 use Rattle.cp_meaning.specs.State as state
 use Rattle.cp_meaning.specs.State.{current, Item, statement_item, function_call, start_item, until, successor, return, init_end, end, Discipline, State}
+use Rattle.cp_meaning.specs.Lifting.{is_routine_meant, has_invariants, check_statement}
+use Rattle.cp_meaning.specs.Scopes.{routine_meaning}
+use Rattle.cp_resolved.specs.Compiled.{result_begun, begun_form, selected_form, then_form}
+use Rattle.cp_resolved.specs.Layouts.{is_own}
+use Rattle.cp_refine.specs.Bodies.{check_name}
 use Rattle.cp_resolved.specs.Enumerations.{constants_before}
 use Rattle.cp_resolved.specs.TreeLayouts.{owner_in, layouts_of}
 use Rattle.cp_resolved.proofs.statements.EachStatement.{EachIn, EachOf, EachArm, the_statement}
@@ -53,6 +58,7 @@ module _ (P : Statement → Type 0) where
   part_in t (repeat_until at ss e) k h = among t ss h.1 k
   part_in t (for_do at i e d f u) k h = subst (EachIn P) (sym k) h.1
   part_in t (cycle at ss) k h = among t ss h.1 k
+  part_in t (asserted at j e u) k h = subst (EachIn P) (sym k) h.1
   part_in t _ k h = absurd k
 
   within_in : (body : Statements) (t : Statement) → EachOf P body → IsWithin body t → EachIn P t
@@ -83,6 +89,10 @@ result_free (Some t) h = h
 variables_given : (h : Here) (qs : List Parameter) (es : Expressions) → AreVariables h qs es → VariablesGiven h qs es
 variables_given h (q ∷ qs) (more_expressions e es) v = ((λ var. (let x : IsVariable h (variable_in e) = v.0 var in (x.designator, x.is, x.no_call))), variables_given h qs es v.1)
 variables_given h _ _ v = tt
+
+none_given : (h : Here) (qs : List Parameter) → VariablesGiven h qs no_expressions
+none_given h [] = tt
+none_given h (q ∷ qs) = tt
 
 values_given : (h : Here) (qs : List Parameter) (es : Expressions) → Each (λ (q : Parameter). q.is_var ≡ false) qs → VariablesGiven h qs es
 values_given h (q ∷ qs) (more_expressions e es) v = ((λ var. absurd (let bad : false ≡ true = sym v.0 ∙ var in cc)), values_given h qs es v.1)
@@ -185,6 +195,22 @@ module _ (t : Tree) (r : Tables) (read : IsRead t.program) (ok : IsAccepted t) (
           entries = λ part c e. entries n k at d es same (inl w) part c e;
         }
 
+    -- a check has no arguments, and calls no entry
+    check_known : (at : ℕ) → has_invariants (scope_of l n) ≡ true → StatementKnown g this (check_statement at)
+    check_known at has = go (find nameless this.scope) refl (ap has_invariants (sym same) ∙ has)
+      where
+        no_component : (b : Bool) (part : code.ComponentPlace) (c : ℕ) → then_form (result_begun this b) (selected_form this no_selectors) ≡ Some (a_component part c) → ⊥
+        no_component true part c e = cc
+        no_component false part c e = cc
+
+        go : (m : Option Meaning) → find nameless this.scope ≡ m → is_routine_meant m ≡ true → InvokeKnown g this m (check_name at) no_expressions
+        go (Some (routine_meaning r)) e there =
+            record {
+              variables = λ j f. none_given this (l.meanings j).parameters;
+              entries = λ part c form process. no_component (is_own this nameless) part c (sym (ap (λ (m : Option Meaning). then_form (begun_form this nameless m) (selected_form this no_selectors)) e) ∙ form);
+            }
+        go _ e never = absurd (let bad : false ≡ true = never in cc)
+
     -- ---- statements and items
 
     statement_known : (u : Statement) → IsWithin (body_of l n) u → Known u → StatementKnown g this u
@@ -197,7 +223,8 @@ module _ (t : Tree) (r : Tables) (read : IsRead t.program) (ok : IsAccepted t) (
     statement_known _ w x = tt
 
     pub item_known : (i : Item) → ItemStands (scope_of l n) (body_of l n) i → ItemKnown g this i
-    item_known (statement_item u) w = statement_known u w (within_one Known (body_of l n) u each w)
+    item_known (statement_item u) (inl w) = statement_known u w (within_one Known (body_of l n) u each w)
+    item_known (statement_item u) (inr c) = subst (StatementKnown g this) (sym c.2) (check_known c.0 c.1)
     item_known (function_call at d es) w = function_known at d es w
     item_known (start_item x) w = λ part c form. number_below t read ok c (start_in (statements.StartKnown (tokens_of p) this) x w.1 (within_one Known (body_of l n) (init w.0 w.1) each w.2).1 w.3 part c form)
     item_known _ w = tt

@@ -1,15 +1,20 @@
 -- Of every tree that was read and breaks no rule: what the rules of the language say of calls, `delay` and `continue` in the bodies of its routines.
+use Rattle.std.proofs.lemmas.Option.{same_Some}
 use Rattle.std.proofs.Common.{◌≡◌, ◌∙◌, inl, inr, ℕ, Bool, true, false, List, [], ◌∷◌, Option, Some, None, ap, sym, refl, subst}
 use Rattle.cp_refine.proofs.Words.{not, IsRead, IsAccepted, RoutineMeaning, name_of, routine_called, first_components, Layouts, layouts_of, calls_before}
-use Rattle.cp_tree.specs.Syntax.{Expressions, Designator, Start, Statement, assign, invoke, block, if_then, if_else, case_of, while_do, repeat_until, for_do, cycle, init, Statements, no_statements, more_statements, Arms, no_arms, more_arms, arm, Program, Tree}
-use Rattle.cp_meaning.specs.Scopes.{Meaning, routine_meaning, standard_meaning, delay_procedure, continue_procedure, Scope, find}
+use Rattle.cp_tree.specs.Syntax.{Expressions, Designator, Start, Statement, assign, invoke, block, if_then, if_else, case_of, while_do, repeat_until, for_do, cycle, init, asserted, nameless, Statements, no_statements, more_statements, Arms, no_arms, more_arms, arm, Program, Tree}
+use Rattle.cp_meaning.specs.Declarations.{routine_in}
+use Rattle.cp_meaning.specs.Expressions.{routine_meant}
+use Rattle.cp_meaning.specs.Lifting.{is_routine_meant, has_invariants}
+use Rattle.cp_meaning.specs.Scopes.{since, Meaning, routine_meaning, standard_meaning, delay_procedure, continue_procedure, Scope, find}
 use Rattle.cp_meaning.specs.State.{component_at, Item, statement_item, function_call, start_item, until, successor}
 use Rattle.cp_resolved.proofs.statements.CalleesKnown.{IsCalledAs, CalleeKnown, numbered}
 use Rattle.cp_resolved.proofs.statements.CallsKnown as calls_known
+use Rattle.cp_resolved.proofs.statements.ChecksKnown.{check_callee}
 use Rattle.cp_resolved.proofs.statements.ExpressionsJudged.{FunctionSaid, AllSaid}
 use Rattle.cp_resolved.proofs.statements.RoutinesNoted.{entry_at, waits_at}
 use Rattle.cp_resolved.proofs.statements.StatementsJudged.{InvokeSaid, StartsSaid, StatementSaid, StatementsSaid, ArmsSaid}
-use Rattle.cp_refine.specs.Bodies.{IsAmong, IsAmongArms, IsPartOf, IsWithin, listed, inside, IsAmongItems, IsAmongStarts, OwnStands, ItemStands}
+use Rattle.cp_refine.specs.Bodies.{IsAmong, IsAmongArms, IsPartOf, IsWithin, listed, inside, IsAmongItems, IsAmongStarts, check_name, OwnStands, ItemStands}
 use Rattle.cp_refine.specs.RoutinesKnown.{Traits, scope_of, body_of, CalledAs, Callee, Initial, RoutinesKnown}
 use Rattle.cp_machine.proofs.CallOutcomes.{not_true as of_quiet}
 
@@ -91,6 +96,7 @@ module _ (t : Tree) (read : IsRead t.program) (ok : IsAccepted t) where
     part_said t (repeat_until at ss e) k h = among_said t ss h.0 k
     part_said t (for_do at i e d g u) k h = subst IsSaid (sym k) h.1
     part_said t (cycle at ss) k h = among_said t ss h k
+    part_said t (asserted at j e u) k h = subst IsSaid (sym k) h.1
     part_said t _ k h = absurd k
 
     within_said : (body : Statements) (t : Statement) → IsBodySaid body → IsWithin body t → IsSaid t
@@ -112,10 +118,12 @@ module _ (t : Tree) (read : IsRead t.program) (ok : IsAccepted t) where
     statement_said (case_of at e as' b) h = h.0
     statement_said (while_do at e t) h = h.0
     statement_said (for_do at i e d g t) h = h.0
+    statement_said (asserted at k e t) h = h.0
     statement_said _ h = tt
 
-    before_said : (body : Statements) (i : Item) → IsBodySaid body → OwnStands body i → AreCallsSaid (calls_before scope i)
-    before_said body (statement_item t) h k = statement_said t (within_said body t h k)
+    before_said : (body : Statements) (i : Item) → IsBodySaid body → OwnStands scope body i → AreCallsSaid (calls_before scope i)
+    before_said body (statement_item t) h (inl k) = statement_said t (within_said body t h k)
+    before_said body (statement_item t) h (inr k) = subst (λ (u : Statement). AreCallsSaid (calls_before scope (statement_item u))) (sym k.2) tt
     before_said body (start_item t) h k = start_said t k.1 (within_said body (init k.0 k.1) h k.2) k.3
     before_said body (until ss e) h k = (within_said body (repeat_until k.0 ss e) h k.1).1
     before_said body (successor at i z d b t) h k = tt
@@ -164,6 +172,17 @@ module _ (t : Tree) (read : IsRead t.program) (ok : IsAccepted t) where
     procedure_known : (at : ℕ) (d : Designator) (es : Expressions) (r : RoutineMeaning) → IsWithin (body_of l n) (invoke at d es) → routine_called p (scope_of l n) d ≡ Some r → Callee l (traits t) n d r
     procedure_known at d es r w e = callee d r (calls_known.procedure_callee t read ok n d r (invoke_there at d es w) (called_there d r e))
 
+    -- a check calls the routine of the invariants, in which nobody waits
+    check_known : (at : ℕ) (r : RoutineMeaning) → has_invariants (scope_of l n) ≡ true → routine_called p (scope_of l n) (check_name at) ≡ Some r → Callee l (traits t) n (check_name at) r
+    check_known at r has e = go (find nameless (scope_of l n)) refl has e
+      where
+        go : (m : Option Meaning) → find nameless (scope_of l n) ≡ m → is_routine_meant m ≡ true → routine_meant p (scope_of l n) nameless m None ≡ Some r → Callee l (traits t) n (check_name at) r
+        go (Some (routine_meaning q)) is there meant =
+            let c : CalleeKnown p n (Some (routine_meaning q)) (routine_in (since nameless (scope_of l n)) q) = check_callee t read ok n q is in
+            let same : routine_in (since nameless (scope_of l n)) q ≡ r = same_Some (routine_in (since nameless (scope_of l n)) q) r meant in
+            record { number = c.number; same = sym same ∙ c.same; called = subst (CalledAs (traits t) n c.number) (sym is) (called_as t n c.number (Some (routine_meaning q)) c.called) }
+        go _ is never meant = absurd (let bad : false ≡ true = never in cc)
+
     delay_known : (at : ℕ) (d : Designator) (es : Expressions) → IsWithin (body_of l n) (invoke at d es) → find (name_of d) (scope_of l n) ≡ Some (standard_meaning delay_procedure) → (traits t).quiet n ≡ false
     delay_known at d es w e = ap not (calls_known.delay_waits t read ok n d (invoke_there at d es w) (found_there d (Some (standard_meaning delay_procedure)) e))
 
@@ -178,4 +197,4 @@ module _ (t : Tree) (read : IsRead t.program) (ok : IsAccepted t) where
       record { number = i.number; same = i.means; entry = i.entry; quiet = quiet_of (waits_at p i.number) i.waits }
 
   pub routines_known : RoutinesKnown p l (traits t)
-  routines_known = record { functions = function_known; procedures = procedure_known; initials = initial_known; delays = delay_known; continues = continue_known }
+  routines_known = record { functions = function_known; procedures = procedure_known; checks = check_known; initials = initial_known; delays = delay_known; continues = continue_known }

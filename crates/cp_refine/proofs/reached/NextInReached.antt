@@ -1,7 +1,11 @@
 -- What a process does next in a reached state: it stands in the body of a routine, `continue` in that of an entry procedure.
 use Rattle.std.proofs.Common.{◌≡◌, ◌∙◌, ℕ, ◌<◌, true, false, List, [], ◌∷◌, length, Some, None, ap, sym, refl, subst}
 use Rattle.cp_refine.proofs.Words.{Designator, Expressions, invoke, Program, Tree, name_of, standard_meaning, continue_procedure, find, IsReached, IsAccepted}
-use Rattle.cp_refine.proofs.Words.{well_formed, frames, FramesFit, reached, Layouts, Traits, scope_of, RoutinesKnown, KindFits, CallsFit, ItemsFit}
+use Rattle.cp_refine.proofs.Words.{well_formed, frames, FramesFit, reached, Layouts, Traits, scope_of, body_of, RoutinesKnown, KindFits, CallsFit, ItemsFit, Scope, IsWithin, ItemStands, inl, inr}
+use Rattle.cp_tree.specs.Syntax.{Statements}
+use Rattle.cp_meaning.specs.Lifting.{is_routine_meant, check_statement}
+use Rattle.cp_meaning.specs.Scopes.{Standard}
+use Rattle.cp_refine.specs.Bodies.{check_name}
 use Rattle.cp_meaning.specs.State.{CallKind, local_routine, entry_routine, Call, current, Item, statement_item, function_call, start_item, until, successor, return, init_end, end, unstarted, ready, delayed, process_at, Discipline, State, has_entry, Status}
 use Rattle.cp_refine.proofs.reached.BodiesInReached.{WaitsInside, AllStand, reached_in_bodies}
 use Rattle.cp_refine.proofs.HoldsInReached.{HoldsInReached, reached_stands}
@@ -23,7 +27,14 @@ returns_nothing l m n ns fs (start_item t ∷ items) none g h = returns_nothing 
 returns_nothing l m n ns fs (until ss e ∷ items) none g h = returns_nothing l m n ns fs items none g h.1
 returns_nothing l m n ns fs (successor at i z d b t ∷ items) none g h = returns_nothing l m n ns fs items none g h.1
 
--- ---- on slots
+-- a standard procedure is no check
+no_check : (s : Scope) (body : Statements) (at : ℕ) (d : Designator) (es : Expressions) (f : Standard) → ItemStands s body (statement_item (invoke at d es)) → find (name_of d) s ≡ Some (standard_meaning f) → IsWithin body (invoke at d es)
+no_check s body at d es f (inl w) e = w
+no_check s body at d es f (inr k) e =
+    let same : invoke at d es ≡ check_statement k.0 = k.2 in
+    let named : d ≡ check_name k.0 = cc in
+    let bad : true ≡ false = sym k.1 ∙ ap is_routine_meant (ap (λ (c : Designator). find (name_of c) s) (sym named) ∙ e) in
+    absurd cc
 
 -- ---- reached states
 
@@ -77,7 +88,8 @@ module _ (t : Tree) (ok : IsAccepted t) (l : Layouts) (f : Traits) (known : Rout
   continues_in_entry q at d es items less was e is =
       let x = executed q less was in
       let rest = subst (λ (is : List Item). ItemsFit l (x.number ∷ x.numbers) is) e x.remains in
-      let said = known.continues x.number at d es rest.0 (ap (find (name_of d)) (sym x.scope) ∙ is) in
+      let standard = ap (find (name_of d)) (sym x.scope) ∙ is in
+      let said = known.continues x.number at d es (no_check (scope_of l x.number) (body_of l x.number) at d es continue_procedure rest.0 standard) standard in
       let kind = entry_kind (current (process_at s.processes q).calls).kind x.number x.kind said.0 in
       let w = holds.open_call q less (λ e. (let bad : ready ≡ unstarted = sym was ∙ e in cc)) in
       let fits = subst (λ (is : List Item). FramesFit (frames (process_at s.processes q).calls) is) e ((reached p (well_formed t ok) g s before).1.orderly.processes q less).fits in (

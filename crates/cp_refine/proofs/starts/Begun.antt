@@ -1,12 +1,15 @@
 -- A process that begins: its initial statement stands on its control stack, and its frame holds what an open call without variables has.
-use Rattle.std.proofs.Common.{◌≡◌, ◌∙◌, ℕ, ◌+◌, ◌<◌, List, [], ◌∷◌, None, ap, sym, refl, subst, arith, length, get_or}
+use Rattle.std.proofs.Common.{◌≡◌, ◌∙◌, ℕ, ◌+◌, ◌<◌, Bool, false, if◌then◌else◌, List, [], ◌∷◌, ◌++◌, append-nil, None, ap, sym, refl, subst, arith, length, get_or}
 use Rattle.cp_refine.proofs.Words.{ℤ, pos, Program, component_at, routine_at, Address, Local, Frame, Thread, unstarted_thread, Ty, Value, RoutineMeaning}
 use Rattle.cp_refine.proofs.Words.{system_of, Call, own_statement, end, begun, items_of_all, content_of, value_held, Layouts, here, cell_named, look, encode}
 use Rattle.cp_refine.proofs.Words.{HasType, Ground, ItemsAre, parameter_variables, LiesAt, CallIs, CallHolds, CallsHold, own_memory, Runs}
 use Rattle.cp_slots.specs.declared.tables.Process as slot_process
+use Rattle.cp_meaning.specs.Calls.{last_checks}
+use Rattle.cp_meaning.specs.Lifting.{has_invariants, check_statement}
+use Rattle.cp_meaning.specs.State.{Item, statement_item}
 use Rattle.cp_machine.specs.declared.process.Status.TheVariants as status
 use Rattle.cp_resolved.specs.Resolved.{StandsAt, RoutineIs, SystemIs, first_value, initial_meaning}
-use Rattle.cp_refine.proofs.control.Lists.{all_items, stack_rest, frames_rest}
+use Rattle.cp_refine.proofs.control.Lists.{body_items, stack_rest, frames_rest}
 use Rattle.cp_refine.proofs.expressions.Parts.{encode_length}
 
 -- a block of an image lies in the cells that begin with it
@@ -28,6 +31,8 @@ pub record CanBegin (g : Ground) (p : Program) (l : Layouts) (d k : ℕ) (x : sl
   pub there : d < length g.tables.components
   pub of : (component_at g.tables d).system ≡ k
   pub plain : (routine_at g.tables x.routine).references ≡ 0
+  -- it is a process
+  pub unsaid : has_invariants (system_of p k).scope ≡ false
 
 module _ (g : Ground) (p : Program) (l : Layouts) (d k : ℕ) (x : slot_process.Process) (can : CanBegin g p l d k x) where
   begins : Thread
@@ -50,8 +55,16 @@ module _ (g : Ground) (p : Program) (l : Layouts) (d k : ℕ) (x : slot_process.
       frame : Frame
       frame = record { routine = x.routine; component = x.component; own = (component_at g.tables x.component).base; base = 0; references = 0 }
 
+      -- it has no invariants, so that nothing is looked at as it ends
+      checked : items_of_all (l.meanings x.routine).scope (l.meanings x.routine).body ++ last_checks (l.meanings x.routine).checks (l.meanings x.routine).scope ≡ items_of_all (system_of p k).scope (system_of p k).body
+      checked =
+          ap (λ (y : RoutineMeaning). items_of_all y.scope y.body ++ last_checks y.checks y.scope) meaning
+          ∙ (ap (λ (b : Bool). items_of_all (system_of p k).scope (system_of p k).body ++ (if b then statement_item (check_statement 0) ∷ [] else [])) can.unsaid ∙ append-nil (items_of_all (system_of p k).scope (system_of p k).body))
+
       items : ItemsAre g (here p l x.routine) (routine_at g.tables x.routine).body (items_of_all (system_of p k).scope (system_of p k).body) None
-      items = subst (λ (y : RoutineMeaning). ItemsAre g (here p l x.routine) (routine_at g.tables x.routine).body (items_of_all y.scope y.body) None) meaning (all_items g (here p l x.routine) (routine_at g.tables x.routine).body None (l.meanings x.routine).body can.routine_is.body)
+      items =
+          subst (λ (is : List Item). ItemsAre g (here p l x.routine) (routine_at g.tables x.routine).body is None) checked
+          (body_items g (here p l x.routine) (routine_at g.tables x.routine).body (l.meanings x.routine).body (l.meanings x.routine).checks can.routine_is.body)
 
       call : CallIs g.tables l begun_call frame
       call =

@@ -5,12 +5,14 @@ use Rattle.cp_refine.proofs.Words.{frame_behind, size_of, Machine, Thread, threa
 use Rattle.cp_refine.proofs.Words.{items_of_all, Layouts, here, cell_named, first_values, initial_meaning, Ground, IsValue, Keeps, GivesValue, IsHanded, AreHanded}
 use Rattle.cp_refine.proofs.Words.{AreBound, ItemsAre, memory_at, frame_opened, StackIs, CallIs, CallsHold, frames_of, own_memory, Represents}
 use Rattle.cp_store.specs.declared.argument.Bound.TheVariants.{Copy, Reference, Component}
+use Rattle.cp_meaning.specs.Calls.{last_checks}
+use Rattle.cp_meaning.specs.Lifting.{check_items}
 use Rattle.cp_meaning.specs.State as named
 use Rattle.cp_meaning.specs.State.{Content, holds, knows, Environment, ready, initial_statement, Call, Item, init_end, Process, State}
 use Rattle.cp_refine.proofs.calls.Calling.{CanCall}
 use Rattle.cp_refine.proofs.control.Control.{Goes}
 use Rattle.cp_refine.proofs.calls.FramesBelow.{lie_lower, frames_lie, calls_below}
-use Rattle.cp_refine.proofs.control.Lists.{all_items, stack_rest, frames_rest}
+use Rattle.cp_refine.proofs.control.Lists.{body_items, stack_rest, frames_rest}
 use Rattle.cp_refine.proofs.control.Moving.{goes_ready}
 use Rattle.cp_refine.proofs.calls.NewFrame.{new_memory, bound_memory, binds_all, holds_new}
 use Rattle.cp_refine.proofs.control.Running.{calls_alike}
@@ -74,7 +76,7 @@ module _ (g : Ground) (p : Program) (l : Layouts) (s : State) (m : Machine) (q :
   initial_call = record { component = d; kind = initial_statement; scope = (system_of p system).scope; environment = [] }
 
   abbrev pub process_in : Process
-  process_in = record { component = before.component; status = ready; calls = initial_call ∷ before.calls; items = items_of_all (system_of p system).scope (system_of p system).body ++ init_end d ∷ zs }
+  process_in = record { component = before.component; status = ready; calls = initial_call ∷ before.calls; items = items_of_all (system_of p system).scope (system_of p system).body ++ check_items 0 (system_of p system).scope ++ init_end d ∷ zs }
 
   abbrev pub thread_in : Thread
   thread_in = frame_opened (record thread { frame = frame; stack = rest_of (routine_at g.tables number).body (InitEnd thread.frame d ∷ rest) }) (routine_at g.tables number)
@@ -102,10 +104,10 @@ module _ (g : Ground) (p : Program) (l : Layouts) (s : State) (m : Machine) (q :
       calls_alike g.tables l memory (own_memory thread_in) (initial_call ∷ before.calls) (frame ∷ frames) refl refl
       (call_is, holds_new g p l frames (memory_at m q) frame can.opens [] [] [] nothing initial_call (ap first_values (sym meaning)), callers_hold)
 
-  stack_stands : StackIs g p l frame (initial_call ∷ before.calls) (items_of_all (system_of p system).scope (system_of p system).body ++ init_end d ∷ zs) thread_in.stack
+  stack_stands : StackIs g p l frame (initial_call ∷ before.calls) (items_of_all (system_of p system).scope (system_of p system).body ++ check_items 0 (system_of p system).scope ++ init_end d ∷ zs) thread_in.stack
   stack_stands =
-      stack_rest g p l frame (initial_call ∷ before.calls) (routine_at g.tables number).body (items_of_all (system_of p system).scope (system_of p system).body) (init_end d ∷ zs) (InitEnd thread.frame d ∷ rest)
-      (subst (λ (r : RoutineMeaning). ItemsAre g (here p l number) (routine_at g.tables number).body (items_of_all r.scope r.body) None) meaning (all_items g (here p l number) (routine_at g.tables number).body None (l.meanings number).body (can.routines number can.known).body))
+      stack_rest g p l frame (initial_call ∷ before.calls) (routine_at g.tables number).body (items_of_all (system_of p system).scope (system_of p system).body ++ check_items 0 (system_of p system).scope) (init_end d ∷ zs) (InitEnd thread.frame d ∷ rest)
+      (subst (λ (r : RoutineMeaning). ItemsAre g (here p l number) (routine_at g.tables number).body (items_of_all r.scope r.body ++ last_checks r.checks r.scope) None) meaning (body_items g (here p l number) (routine_at g.tables number).body (l.meanings number).body (l.meanings number).checks (can.routines number can.known).body))
       (initial_call, before.calls, zs, refl, refl, refl, is)
 
   pub initial_opened : Represents g p l (record s { processes = slice_set s.processes q process_in }) (with_thread m q thread_in)

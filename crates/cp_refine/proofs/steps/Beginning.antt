@@ -12,6 +12,7 @@ use Rattle.cp_machine.specs.Opening as machine
 use Rattle.cp_machine.proofs.rooms.OpeningFits.{still_fits, restatused}
 use Rattle.cp_machine.proofs.lines.OpeningLines.{opening_lines}
 use Rattle.cp_machine.proofs.frames.ReachingKept.{opening_reaches}
+use Rattle.cp_meaning.proofs.Exclusion.{program_kind}
 use Rattle.cp_meaning.specs.Readings as readings
 use Rattle.cp_meaning.specs.State as named
 use Rattle.cp_meaning.specs.Systems.{SystemMeaning, declared, own_meaning, or_own, system_of, program_system}
@@ -64,6 +65,7 @@ module _ (t : Tree) (r : Tables) (l : Layouts) (g : Discipline) (prepared : Prep
               below = prepared.program.below;
               plain = plain;
               others = prepared.program.systems.silent;
+              unsaid = prepared.program.unsaid (program_system p) (program_kind p);
             });
       }
 

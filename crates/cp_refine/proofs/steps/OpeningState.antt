@@ -1,5 +1,5 @@
 -- The state in which a run begins on names is what the machine begins with.
-use Rattle.cp_refine.proofs.Words.{◌≡◌, ◌∙◌, ℕ, zero, suc, ◌+◌, ◌<◌, ◌≤◌, List, [], ◌∷◌, Some, None, ap, sym, refl, subst, arith, length, length-set, map, replicate}
+use Rattle.cp_refine.proofs.Words.{false, ◌≡◌, ◌∙◌, ℕ, zero, suc, ◌+◌, ◌<◌, ◌≤◌, List, [], ◌∷◌, Some, None, ap, sym, refl, subst, arith, length, length-set, map, replicate}
 use Rattle.cp_refine.proofs.Words.{slice_index_or, slice_set, SystemKind, Program, Tree, ComponentKind, IsItself, IsTyped, Permanent, Machine, Monitor, Thread, no_thread}
 use Rattle.cp_refine.proofs.Words.{thread_at, no_monitor, phase_at, unstarted_thread, Name, Ty, Value, queue_value, part_at, system_of, program_system, View, content_of}
 use Rattle.cp_refine.proofs.Words.{value_held, environment_of, value_at, after, begun, first_inside, least_of, Layouts, look, encode, HasType, Ground, discipline_of}
@@ -12,6 +12,7 @@ use Rattle.cp_machine.specs.declared.process.Status.TheVariants as status
 use Rattle.cp_machine.specs.declared.state.Phase.TheVariants as phase
 use Rattle.cp_machine.specs.Opening as slots
 use Rattle.cp_meaning.specs.Components.{Listed, listed, listed_variables, components_of}
+use Rattle.cp_meaning.specs.Lifting.{has_invariants}
 use Rattle.cp_meaning.specs.State as named
 use Rattle.cp_meaning.specs.State.{Holder, in_component, Place, Environment, uninitialised, Component, no_component, unstarted, delayed, Process, no_process, Discipline, book_discipline, State}
 use Rattle.cp_meaning.specs.Steps.{parameter_variables, first_environment, first_component, process_first, processes_from, own_begun, first_components, opening}
@@ -92,6 +93,8 @@ pub record CanOpen (g : Ground) (t : Tree) (l : Layouts) : Type 0 where
   pub below : (n : ℕ) → n < length g.tables.components → (component_at g.tables n).system ≤ program_system t.program
   -- the program itself has no parameters
   pub plain : (x : Name) (u : Ty) → look x (l.systems (program_system t.program)).parts ≡ Some u → ⊥
+  -- and no invariants
+  pub unsaid : has_invariants (system_of t.program (program_system t.program)).scope ≡ false
   -- a name of which a layout says nothing has no content
   pub others : (k : ℕ) (x : Name) → k ≤ program_system t.program → look x (l.systems k).variables ≡ None → look x (l.systems k).parts ≡ None → content_of x (first_environment (system_of t.program k)) ≡ None
 
@@ -145,6 +148,7 @@ module _ (g : Ground) (t : Tree) (l : Layouts) (c : Discipline) (can : CanOpen g
         there = some_component;
         of = own_system;
         plain = (can.typed.processes 0 (let e = count in omega (arith, e))).references;
+        unsaid = can.unsaid;
       }
 
   own_runs : Runs g p l own_process own_thread

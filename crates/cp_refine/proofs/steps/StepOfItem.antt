@@ -2,7 +2,7 @@
 use Rattle.cp_refine.proofs.Words.{◌≡◌, ◌∙◌, ℕ, List, ◌++◌, Option, Some, None, ap, sym, refl, slice_index, Tables, Entry, MachineFits, Machine, thread_at, Reaches}
 use Rattle.cp_refine.proofs.Words.{step_at, name_of, this_component, Item, statement_item, function_call, start_item, until, State, Layouts, Here, here, Ground}
 use Rattle.cp_refine.proofs.Words.{InvokedBy, InvokeKnown, StatementKnown, ItemKnown, ground_of, Prepared, StateKnown, view_of, step_of, at_item}
-use Rattle.cp_tree.specs.Syntax.{Tree, Program, Expressions, more_expressions, Designator, Statement, empty, assign, invoke, block, if_then, if_else, case_of, while_do, repeat_until, for_do, cycle, init}
+use Rattle.cp_tree.specs.Syntax.{Tree, Program, Expressions, more_expressions, Designator, Statement, empty, assign, invoke, block, if_then, if_else, case_of, while_do, repeat_until, for_do, cycle, init, asserted}
 use Rattle.cp_meaning.specs.Scopes.{Meaning, constant_meaning, type_meaning, local_variable, permanent_variable, routine_meaning, standard_meaning, Standard, delay_procedure, continue_procedure, display_procedure, find}
 use Rattle.cp_refine.proofs.control.Control.{Taken, StepIs, empty_step, block_step, scope_is}
 use Rattle.cp_refine.proofs.steps.Going.{Going}
@@ -12,7 +12,7 @@ use Rattle.cp_refine.proofs.reached.ReadyInReached.{ReadyInReached}
 use Rattle.cp_refine.proofs.steps.StepOfCall.{function_so, invoke_so}
 use Rattle.cp_refine.proofs.steps.StepOfQueue.{delay_so, continue_so}
 use Rattle.cp_refine.proofs.steps.StepOfStart.{start_so}
-use Rattle.cp_refine.proofs.steps.StepOfStatement.{if_so, if_else_so, while_so, until_so, case_so, assign_so, for_so, display_so}
+use Rattle.cp_refine.proofs.steps.StepOfStatement.{asserted_so, if_so, if_else_so, while_so, until_so, case_so, assign_so, for_so, display_so}
 
 module _ (t : Tree) (r : Tables) (l : Layouts) (prepared : Prepared t r l) (s : State) (known : HoldsInReached t.program s) (m : Machine) (ready : ReadyInReached (ground_of t r) t.program s m) (fits : MachineFits r m) (reach : Reaches r m) (states : StateKnown t r l s m) (q : ℕ) (going : Going (ground_of t r) t.program l s m q) (at : ℕ) (mid : Option ℕ) (es : List Entry) (xs ys : List Item) where
   abbrev g : Ground
@@ -69,6 +69,7 @@ module _ (t : Tree) (r : Tables) (l : Layouts) (prepared : Prepared t r l) (s : 
   statement_so (for_do token i e d f u) k rules = for_so t r l prepared s m q at fits going.many mid es xs ys token i e d f u k
   statement_so (cycle token ss) k rules = cycle_step g p l s m q at token (slice_index t.lines token) ss mid es xs ys k
   statement_so (init token ts) k rules = absurd k.own
+  statement_so (asserted token a e u) k rules = asserted_so t r l prepared s m q at fits going.many mid es xs ys token a e u k
 
   -- ---- each item
 

@@ -157,6 +157,7 @@ module _ (t : Tree) (r : Tables) (l : Layouts) (prepared : Prepared t r l) (s : 
           there = (found d f).0;
           of = refl;
           plain = (prepared.sound.typed.processes j there).references;
+          unsaid = prepared.program.unsaid (component_at r d).system (ap (λ a. (system_of p a).kind) (found_system d f) ∙ is_process);
         }
 
     pub start_process_so : StepIs g p l q (slice_index t.lines (at_designator x.target)) (step_of p s q) (step_at r m q)

@@ -2,10 +2,12 @@
 use Rattle.cp_refine.proofs.Words.{◌≡◌, ℕ, ◌<◌, List, ◌∷◌, Option, Some, subst, length, slice_index, Identifier, Direction, Tables, Entry, Rest, StackFits, MachineFits}
 use Rattle.cp_refine.proofs.Words.{Machine, thread_at, memory_at, step_at, Base, enumerated, ordinal, standard_meaning, display_procedure, find, name_of, Item}
 use Rattle.cp_refine.proofs.Words.{statement_item, until, State, Layouts, Here, here, as_ordinal, Ground, ground_of, Prepared, Bool, view_of, step_of, at_expression}
-use Rattle.cp_tree.specs.Syntax.{Tree, Program, Expression, Expressions, more_expressions, Designator, Statement, assign, invoke, if_then, if_else, case_of, while_do, for_do, Statements, Arms}
+use Rattle.cp_tree.specs.Syntax.{Tree, Program, Expression, Expressions, more_expressions, Designator, Statement, assign, invoke, if_then, if_else, case_of, while_do, for_do, asserted, Statements, Arms}
+use Rattle.cp_tree.specs.declared.statement.AssertionKind.{AssertionKind}
 use Rattle.cp_slots.specs.Code as code
 use Rattle.cp_refine.specs.ItemsKnown.{AssignKnown, DisplayKnown, HasFewConstants}
 use Rattle.cp_refine.proofs.assignments.AnyAssignments.{assignment_runs}
+use Rattle.cp_refine.proofs.control.Assertions.{assert_step}
 use Rattle.cp_refine.proofs.control.Cases.{case_step}
 use Rattle.cp_refine.proofs.control.Control.{Taken, StepIs, goes, top_frame}
 use Rattle.cp_refine.proofs.control.Counting.{for_step}
@@ -48,6 +50,9 @@ module _ (t : Tree) (r : Tables) (l : Layouts) (prepared : Prepared t r l) (s : 
   pub if_else_so : (token : ℕ) (e : Expression) (u w : Statement) → Takes (statement_item (if_else token e u w)) → Steps token
   if_else_so token e u w k =
       if_else_step g p l s m q at token e u w mid es xs ys k (test_agrees g p l s m q at (statement_item (if_else token e u w)) mid es xs ys k ex e k.own.0 k.kept k.own.3)
+
+  pub asserted_so : (token : ℕ) (a : AssertionKind) (e : Expression) (u : Statement) → Takes (statement_item (asserted token a e u)) → Steps token
+  asserted_so token a e u k = assert_step g p l s m q at token a e u mid es xs ys k (test_agrees g p l s m q at (statement_item (asserted token a e u)) mid es xs ys k ex e k.own.0 k.kept k.own.2)
 
   pub while_so : (token : ℕ) (e : Expression) (u : Statement) → Takes (statement_item (while_do token e u)) → Steps token
   while_so token e u k = while_step g p l s m q at token e u mid es xs ys k (test_agrees g p l s m q at (statement_item (while_do token e u)) mid es xs ys k ex e k.own.test k.kept k.own.formed)

@@ -4,6 +4,7 @@ use Rattle.cp_refine.proofs.Words.{IsFramed, Each, layouts_of, placed_law, IsSta
 use Rattle.cp_resolved.proofs.declarations.FramedOfTrees.{accepted_framed}
 use Rattle.cp_resolved.proofs.systems.PartCells.{accepted_parts, accepted_parts_apart}
 use Rattle.cp_resolved.proofs.agreeing.ScopesOfTrees.{scopes_law}
+use Rattle.cp_resolved.proofs.statements.ChecksKnown.{no_invariants}
 use Rattle.cp_resolved.proofs.declarations.SystemParameters.{accepted_values, accepted_free}
 use Rattle.cp_refine.specs.Prepared.{ProgramKnown, Prepared}
 use Rattle.cp_refine.proofs.trees.NamesOfTree.{components_below, names_known}
@@ -31,6 +32,7 @@ module _ (t : Tree) (r : Tables) (read : IsRead t.program) (ok : IsAccepted t) (
           components = names_known t r (resolving_law t r read ok same).stands (placed_law t read ok) framed n less;
         };
         results = result_simple t framed;
+        unsaid = no_invariants t read ok;
         systems = record {
           standing = standing_so t framed;
           parts = accepted_parts t r same read ok;

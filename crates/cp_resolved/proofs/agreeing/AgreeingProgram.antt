@@ -57,7 +57,7 @@ module _ (tokens : Tokens) (p : Program) where
 
   -- ---- no routine stands around a system type
 
-  none_definition : (d : Declared) (n : SystemDefinition) (v : Definition) → AreNoRoutines d.scope → AreNoRoutines (definition_in d n v).scope
+  pub none_definition : (d : Declared) (n : SystemDefinition) (v : Definition) → AreNoRoutines d.scope → AreNoRoutines (definition_in d n v).scope
   none_definition d n (type_definition t) h = (tt, written AreNoRoutines one_more d.scope t h)
   none_definition d n (system_definition y) h = (tt, h)
 
@@ -65,16 +65,16 @@ module _ (tokens : Tokens) (p : Program) where
   none_definitions d [] h = h
   none_definitions d (n ∷ ns) h = none_definitions (definition_in d n n.value) ns (none_definition d n n.value h)
 
-  none_part : (d : Declared) (q : ProgramPart) → AreNoRoutines d.scope → AreNoRoutines (program_part_in d q).scope
+  pub none_part : (d : Declared) (q : ProgramPart) → AreNoRoutines d.scope → AreNoRoutines (program_part_in d q).scope
   none_part d (program_constants at ds) h = constants AreNoRoutines one_more d.scope ds h
   none_part d (program_types at ns) h = none_definitions d ns h
   none_part d (program_variables at gs) h = variables AreNoRoutines one_more scopes.permanent_variable (λ t. tt) (record { variables = d.variables; scope = d.scope }) gs h
 
-  none_parts : (d : Declared) (qs : List ProgramPart) → AreNoRoutines d.scope → AreNoRoutines (program_parts_in d qs).scope
+  pub none_parts : (d : Declared) (qs : List ProgramPart) → AreNoRoutines d.scope → AreNoRoutines (program_parts_in d qs).scope
   none_parts d [] h = h
   none_parts d (q ∷ qs) h = none_parts (program_part_in d q) qs (none_part d q h)
 
-  none_predeclared : AreNoRoutines predeclared
+  pub none_predeclared : AreNoRoutines predeclared
   none_predeclared = (tt, (tt, (tt, (tt, (tt, (tt, (tt, (tt, (tt, (tt, (tt, (tt, (tt, (tt, (tt, tt)))))))))))))))
 
   -- ---- definitions

@@ -4,7 +4,7 @@ use Rattle.cp_resolved.proofs.Words.{◌-◌, bytes_eq, Identifier, SystemKind, 
 use Rattle.cp_resolved.proofs.Words.{as_declared, reserve_name, reserve_names, add_names, add_all, last_is, Name, Ty, find, since, routine_meaning, routine_in}
 use Rattle.cp_resolved.proofs.Words.{with_routine, Each, is_free, IsFit, IsFreeParameter, itself, none_first, none_before, is_ordinal, parameter_of}
 use Rattle.cp_tree.specs.declared.declaration.SystemKind.TheVariants as system_kind
-use Rattle.cp_tree.specs.Syntax.{Program, Group, ParameterGroup, RoutineKind, procedure, function, Routine}
+use Rattle.cp_tree.specs.Syntax.{Program, Group, ParameterGroup, RoutineKind, procedure, function, invariants, Routine}
 use Rattle.cp_scope.specs.declared.types.ValueType.TheVariants as types
 use Rattle.cp_scope.specs.declared.types.Meaning.TheVariants as meaning
 use Rattle.cp_scope.specs.declared.types.Parameter as check_parameter
@@ -270,6 +270,16 @@ module _ (tokens : Tokens) (p : Program) where
         result = v.holds;
         parameters = groups_free own s (record { parameters = []; scope = m }) below ks gs none empty agree tt;
         read = groups_read own s (record { parameters = []; scope = m }) below ks gs none empty agree first;
+      }
+  written_agrees own s m below ks invariants e empty agree first =
+      let none : (headings.parameter_steps s []).faults ≡ [] = none_before {A = Option ValueType} (headings.parameter_steps s []).faults (Ok None) e in
+      record {
+        step = parameters_agree own s (record { parameters = []; scope = m }) below ks [] none empty agree;
+        value = None;
+        is = none_after (headings.parameter_steps s []).faults (Ok None) e;
+        result = tt;
+        parameters = parameters_free own s (record { parameters = []; scope = m }) below ks [] none empty agree tt;
+        read = parameters_read own s (record { parameters = []; scope = m }) below ks [] none empty agree first;
       }
 
   pub record HeadingResult (s : Scopes) (m k below : scopes.Scope) (ks : List ℕ) (r : Routine) (h : Headed) : Type 0 where

@@ -1,11 +1,11 @@
 -- In a program that spells tokens the checker keeps what is written at different tokens.
-use Rattle.cp_resolved.proofs.Words.{◌≡◌, ℕ, ◌+◌, ◌<◌, ◌≤◌, List, [], ◌∷◌, length, inl, inr, arith, ◌⊎◌, Kind}
+use Rattle.cp_resolved.proofs.Words.{Identifier, Bool, true, false, sym, subst, ◌≡◌, ℕ, ◌+◌, ◌<◌, ◌≤◌, List, [], ◌∷◌, length, inl, inr, arith, ◌⊎◌, Kind}
 use Rattle.cp_text.specs.declared.token.Kind.TheVariants as kind
 use Rattle.cp_text.specs.declared.token.Mark.TheVariants as mark
-use Rattle.cp_tree.specs.Syntax.{simple, array_of, set_type, record_of, no_fields, more_fields, fields, constants, types, variables, type_definition, system_definition, SystemDefinition, TypeDefinition, VariableGroup, program_constants, program_types, program_variables, Program}
-use Rattle.cp_tree.specs.Spelling.{put_optional, put_all, put_identifier, put_simple, put_type, put_field_groups, put_more_field_groups, put_field_group, put_type_definition, put_variable_group, put_part, put_group, put_body, put_routine_kind, put_routine, put_system, put_definition, put_system_definition, put_program_part, spell}
-use Rattle.cp_tree.specs.SpellingIndexed.{AreAllIndexed, AreSomeIndexed, IsIndexedType, AreIndexedFieldGroups, AreIndexedMoreFieldGroups, IsIndexedFieldGroup, IsIndexedTypeDefinition, IsIndexedVariableGroup, IsIndexedPart, IsIndexedRoutine, IsIndexedSystem, IsIndexedDefinition, IsIndexedSystemDefinition, IsIndexedProgramPart, IsIndexedProgram, IsIndexed}
-use Rattle.cp_tree.proofs.Grows.{grows_optional, grows_all, grows_names, grows_simple, grows_type, grows_field_groups, grows_more_field_groups, grows_field_group, grows_type_definition, grows_variable_group, grows_group, grows_body, grows_parameters, grows_routine_kind, grows_part, grows_routine, grows_system_definition, grows_program_part}
+use Rattle.cp_tree.specs.Syntax.{asserted, Statements, no_statements, more_statements, Part, Routine, simple, array_of, set_type, record_of, no_fields, more_fields, fields, constants, types, variables, type_definition, system_definition, SystemDefinition, TypeDefinition, VariableGroup, program_constants, program_types, program_variables, Program}
+use Rattle.cp_tree.specs.Spelling.{is_nameless, put_expression, put_statement, put_statements, put_named_routine, put_routine_by, put_optional, put_all, put_identifier, put_simple, put_type, put_field_groups, put_more_field_groups, put_field_group, put_type_definition, put_variable_group, put_part, put_group, put_body, put_routine_kind, put_routine, put_system, put_definition, put_system_definition, put_program_part, spell}
+use Rattle.cp_tree.specs.SpellingIndexed.{IsIndexedInvariantBody, IsIndexedRoutineBy, AreAllIndexed, AreSomeIndexed, IsIndexedType, AreIndexedFieldGroups, AreIndexedMoreFieldGroups, IsIndexedFieldGroup, IsIndexedTypeDefinition, IsIndexedVariableGroup, IsIndexedPart, IsIndexedRoutine, IsIndexedSystem, IsIndexedDefinition, IsIndexedSystemDefinition, IsIndexedProgramPart, IsIndexedProgram, IsIndexed}
+use Rattle.cp_tree.proofs.Grows.{grows_expression, grows_statement, grows_optional, grows_all, grows_names, grows_simple, grows_type, grows_field_groups, grows_more_field_groups, grows_field_group, grows_type_definition, grows_variable_group, grows_group, grows_body, grows_parameters, grows_routine_kind, grows_part, grows_routine, grows_system_definition, grows_program_part}
 use Rattle.cp_resolved.specs.Tokens.{all_tokens, type_tokens, groups_tokens, group_tokens, part_tokens, routine_tokens, system_tokens, definition_tokens, program_part_tokens, program_tokens, IsOther, AreDifferent}
 
 -- Tokens are told by the number of tokens from them on.
@@ -189,8 +189,26 @@ module _ (total : ℕ) where
       both_between low high low here here high ks (at ∷ ks) xs (omega arith) (omega (arith, q, r)) (omega (arith, p)) (omega arith) first
       (k first.different (first.out here high (inr (omega arith)) (narrow low high here high ks (omega (arith, p)) (omega arith) o)))
 
-  routine_walk : Walks put_routine (IsIndexedRoutine total) routine_tokens
-  routine_walk r rest ks h d o =
+  -- the routine without a name is at the first token of what it says, and its body at the next
+  says_walk : (at : ℕ) (ss : Statements) (rest : List Kind) (ks : List ℕ) → at + length (put_statements ss rest) ≡ total → IsIndexedInvariantBody total ss rest → AreDifferent ks → AllOut total (length rest) (length (put_statements ss rest)) ks → Between (length rest) (length (put_statements ss rest)) ks (at ∷ (at + 1) ∷ ks)
+  says_walk at (more_statements (asserted n k e s) no_statements) rest ks begins h d o =
+      let after : List Kind = kind.Mark mark.Closes ∷ put_statement s rest in
+      let here : ℕ = length (put_expression e after) in
+      let high : ℕ = length (put_statements (more_statements (asserted n k e s) no_statements) rest) in
+      let a : length rest ≤ length (put_statement s rest) = grows_statement s rest in
+      let b : length after ≤ here = grows_expression e after in
+      let next : (at + 1) + here ≡ total = omega (arith, begins) in
+      after_it (length rest) here high (at + 1) here ks (at ∷ (at + 1) ∷ ks) next (omega (arith, a, b)) (omega arith) (omega arith) d o
+      (λ f u. one_between here high at ((at + 1) ∷ ks) begins (omega arith) f u)
+  says_walk at _ rest ks begins h d o = absurd h
+
+  routine_by : (b : Bool) (r : Routine) (rest : List Kind) (ks : List ℕ) → IsIndexedRoutineBy total b r rest → AreDifferent ks → AllOut total (length rest) (length (put_routine_by b r rest)) ks → Between (length rest) (length (put_routine_by b r rest)) ks (routine_tokens r ks)
+  routine_by true r rest ks h d o =
+      let walk : Between (length rest) (length (put_statements r.body.statements rest)) ks (r.at ∷ (r.at + 1) ∷ ks) = says_walk r.at r.body.statements rest ks h.begins h.said d o in
+      let first : Between (length rest) (length (put_statements r.body.statements rest)) ks (r.name.at ∷ (r.at + 1) ∷ ks) = subst (λ (i : Identifier). Between (length rest) (length (put_statements r.body.statements rest)) ks (i.at ∷ (r.at + 1) ∷ ks)) (sym h.name) walk in
+      let second : Between (length rest) (length (put_statements r.body.statements rest)) ks (r.name.at ∷ r.body.at ∷ ks) = subst (λ (n : ℕ). Between (length rest) (length (put_statements r.body.statements rest)) ks (r.name.at ∷ n ∷ ks)) (sym h.body) first in
+      subst (λ (ps : List Part). Between (length rest) (length (put_statements r.body.statements rest)) ks (r.name.at ∷ all_tokens part_tokens ps (r.body.at ∷ ks))) (sym h.no_parts) second
+  routine_by false r rest ks h d o =
       let last : List Kind = kind.Mark mark.Semicolon ∷ rest in
       let body : List Kind = put_body r.body last in
       let within : List Kind = put_all put_part r.parts body in
@@ -199,7 +217,7 @@ module _ (total : ℕ) where
       let b : length (kind.Mark mark.Semicolon ∷ within) ≤ length (put_routine_kind r.kind (kind.Mark mark.Semicolon ∷ within)) = grows_routine_kind r.kind (kind.Mark mark.Semicolon ∷ within) in
       let c : length named ≤ length (put_optional mark.Entry r.is_entry named) = grows_optional mark.Entry r.is_entry named in
       let e : length body ≤ length within = grows_all put_part grows_part r.parts body in
-      let high : ℕ = length (put_routine r rest) in
+      let high : ℕ = length (put_named_routine r rest) in
       after_it (length rest) (length within) high r.body.at (length body) ks (routine_tokens r ks) h.4.0 (omega (arith, a)) e (omega (arith, b, c)) d o
       (λ f u. (
       let parts = all_walk put_part (IsIndexedPart total) part_tokens grows_part part_walk r.parts body (r.body.at ∷ ks) h.3 f (narrow (length body) high (length body) (length within) (r.body.at ∷ ks) (omega arith) (omega (arith, b, c)) u) in
@@ -207,6 +225,9 @@ module _ (total : ℕ) where
       let name = one_between (length within) (length named) r.name.at js h.1 (omega (arith, b)) parts.different (parts.out (length within) (length named) (inr (omega arith)) (narrow (length body) high (length within) (length named) (r.body.at ∷ ks) e (omega (arith, c)) u)) in
       both_between (length body) high (length body) (length within) (length within) (length named) (r.body.at ∷ ks) js (r.name.at ∷ js) (omega arith) (omega (arith, b, c)) e (omega (arith, c)) parts name
       ))
+
+  routine_walk : Walks put_routine (IsIndexedRoutine total) routine_tokens
+  routine_walk r rest ks h d o = routine_by (is_nameless r.kind) r rest ks h d o
 
   system_walk : Walks put_system (IsIndexedSystem total) system_tokens
   system_walk s rest ks h d o =
@@ -249,7 +270,7 @@ module _ (total : ℕ) where
       let last : List Kind = put_body p.body (kind.Mark mark.Period ∷ []) in
       let routines : List Kind = put_all put_routine p.routines last in
       let a : 1 ≤ length last = grows_body p.body (kind.Mark mark.Period ∷ []) in
-      let period : (l u : ℕ) → 1 ≤ l → AllOut total l u (p.period ∷ []) = (λ l u e. (record { here = 1; begins = h.3; out = inl e }, tt)) in
+      let period : (l u : ℕ) → 1 ≤ l → AllOut total l u (p.period ∷ []) = (λ l u e. (record { here = 1; begins = h.4; out = inl e }, tt)) in
       let b : length last ≤ length routines = grows_all put_routine grows_routine p.routines last in
       let first = all_walk put_routine (IsIndexedRoutine total) routine_tokens grows_routine routine_walk p.routines last (p.period ∷ []) h.1 (tt, tt) (period (length last) (length routines) a) in
       (all_walk put_program_part (IsIndexedProgramPart total) program_part_tokens grows_program_part program_part_walk p.parts routines (all_tokens routine_tokens p.routines (p.period ∷ [])) h.0 first.different

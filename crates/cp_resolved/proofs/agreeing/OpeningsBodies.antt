@@ -1,6 +1,6 @@
 -- What holds of all bodies of a program holds of the statements of each opening.
 use Rattle.cp_resolved.proofs.Words.{ℕ, zero, suc, List, [], ◌∷◌, ◌++◌, length, slice_get, Scope, seen_inside, nothing_declared, initial_meaning, Each}
-use Rattle.cp_tree.specs.Syntax.{Statements, Routine, System, Definition, type_definition, system_definition, SystemDefinition, ProgramPart, program_constants, program_types, program_variables, Program}
+use Rattle.cp_tree.specs.Syntax.{Statements, Routine, System, Definition, type_definition, system_definition, SystemDefinition, ProgramPart, program_types, Program}
 use Rattle.cp_meaning.specs.Systems.{Declared, definition_in, program_part_in, declared, program_system, own_meaning, system_in}
 use Rattle.cp_resolved.specs.Openings.{Opening, with_routine, routine_openings, parts_scope, initial_opening, definition_openings, definitions_openings, part_openings, parts_openings, openings_of, meaning_in, meaning_at}
 

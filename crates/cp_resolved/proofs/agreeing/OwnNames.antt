@@ -245,10 +245,15 @@ module _ (Q : List ℕ → Type 0) (n : ℕ) where
   groups_of_inside l ps s [] h = h
   groups_of_inside l ps s (g ∷ gs) h = let x = parameter_group l ps g in groups_of_inside x.1 x.0 (headings.group_step g.is_var s g.group).scopes gs (one_group_inside l ps s g h)
 
+  nothing_inside : (l : Layer) (s : Scopes) → Inside l.names s → Inside l.names (headings.parameter_steps s []).scopes
+  unfolding headings.parameter_steps
+  nothing_inside l s h = h
+
   pub heading_inside : (l : Layer) (s : Scopes) (x : List ℕ) (k : RoutineKind) → Inside l.names s → Inside (heading l x k).1.names (headings.written s k).scopes
   unfolding heading headings.written
   heading_inside l s x (syntax.procedure gs) h = groups_of_inside l [] s gs h
   heading_inside l s x (syntax.function gs i) h = constant_groups_inside l [] s gs h
+  heading_inside l s x syntax.invariants h = nothing_inside l s h
 
   -- ---- parameters of system types
 

@@ -73,6 +73,7 @@ module _ (P : Scope → Type 0) (step : (x : Name) (d : Meaning) (s : Scope) →
   headed : (s : Scope) (k : syntax.RoutineKind) → P s → P (heading_of s k).scope
   headed s (syntax.procedure gs) h = parameters (record { parameters = []; scope = s }) gs h
   headed s (syntax.function gs i) h = groups local_variable (λ t. tt) (record { parameters = []; scope = s }) gs h
+  headed s syntax.invariants h = parameters (record { parameters = []; scope = s }) [] h
 
   pub in_body : (s : Scope) (r : syntax.Routine) → P s → P (routine_in s r).scope
   in_body s r h = parts local_variable (λ t. tt) (record { variables = []; scope = (heading_of s r.kind).scope }) r.parts (headed s r.kind h)

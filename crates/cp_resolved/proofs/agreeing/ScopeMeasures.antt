@@ -1,7 +1,7 @@
 -- What a scope tells of where it stands: how many system types are declared before, and the latest routine.
 use Rattle.std.proofs.Common.{◌≡◌, ◌∙◌, ℕ, suc, ◌<◌, ◌≤◌, Bool, true, false, if◌then◌else◌, List, [], ◌∷◌, ◌++◌, length, Option, Some, None, ap, sym, refl, subst, arith, length-append}
 use Rattle.cp_resolved.proofs.Words.{nat_lt, ltb-true, ltb-false, Name, same_name, Base, Ty, component_of, with_routine, parts_scope}
-use Rattle.cp_tree.specs.Syntax.{Simple, type_name, enumeration, subrange, TypeTerm, simple, array_of, set_type, record_of, FieldGroups, no_fields, more_fields, FieldGroup, fields, ConstantDefinition, TypeDefinition, VariableGroup, Part, constants, types, variables, Group, ParameterGroup, RoutineKind, procedure, function, Routine, System, Definition, type_definition, system_definition, SystemDefinition, ProgramPart, program_constants, program_types, program_variables}
+use Rattle.cp_tree.specs.Syntax.{Simple, type_name, enumeration, subrange, TypeTerm, simple, array_of, set_type, record_of, FieldGroups, no_fields, more_fields, FieldGroup, fields, ConstantDefinition, TypeDefinition, VariableGroup, Part, constants, types, variables, Group, ParameterGroup, RoutineKind, procedure, function, invariants, Routine, System, Definition, type_definition, system_definition, SystemDefinition, ProgramPart, program_constants, program_types, program_variables}
 use Rattle.cp_meaning.specs.Scopes.{Meaning, constant_meaning, type_meaning, local_variable, permanent_variable, routine_meaning, standard_meaning, Scope, seen_inside}
 use Rattle.cp_meaning.specs.Declarations.{type_named, names_of, with_constants, simple_in, type_in, fields_in, group_in, Block, constant_of, constants_in, types_in, named_variables, with_names, variables_in, part_in, parts_in, Heading, with_group, with_groups, with_parameter_groups, heading_of, routine_in}
 use Rattle.cp_meaning.specs.Systems.{with_routines, system_in, Declared, definition_in, definitions_in, program_part_in, program_parts_in}
@@ -171,6 +171,7 @@ parameters_same h (g ∷ gs) = parameters_same (with_group local_variable g.is_v
 heading_same : (s : Scope) (k : RoutineKind) → measure (heading_of s k).scope ≡ measure s
 heading_same s (procedure gs) = parameters_same (record { parameters = []; scope = s }) gs
 heading_same s (function gs i) = groups_same local_variable local_free (record { parameters = []; scope = s }) gs
+heading_same s invariants = parameters_same (record { parameters = []; scope = s }) []
 
 seen_same : (s : Scope) → measure (seen_inside s) ≡ measure s
 seen_same [] = refl

@@ -1,15 +1,15 @@
 -- Nothing is handed over to the program: it has no parameters, and the first process is its own.
-use Rattle.cp_resolved.proofs.Words.{◌≡◌, ℕ, ℤ, List, [], ◌∷◌, length, Option, Some, None, slice_get, refl, ap, ◌∙◌, Identifier}
+use Rattle.cp_resolved.proofs.Words.{◌≡◌, ℕ, ℤ, List, [], ◌∷◌, length, Option, Some, None, slice_get, refl, ap, ◌∙◌, Identifier, Bool, true}
 use Rattle.cp_resolved.proofs.Words.{SystemKind, Component, ComponentParameter, CellType, Contained, Layer, Owned, System, nothing_laid, Compounds}
 use Rattle.cp_resolved.proofs.Words.{written_type}
 use Rattle.cp_tree.specs.declared.declaration.SystemKind.TheVariants as system_kind
 use Rattle.cp_tree.specs.Syntax as syntax
 use Rattle.cp_tree.specs.Syntax.{ConstantDefinition, TypeDefinition, VariableGroup, Part, RoutineKind, TypeTerm, Body, Routine, Definition, SystemDefinition, ProgramPart, Program}
 use Rattle.cp_layout.specs.LaidComponents.{Listing, nothing_listed, contents_least, process_at, next_kind, component_with, with_component, program_listed}
-use Rattle.cp_layout.specs.LaidDeclarations.{constants, type_definition, type_definitions, components_of, variable_with, variable, variables_of, variable_group, variables, local_parts, heading, body, opened, with_heading, with_new_frame, heading_with, routine, routines, system, definition, system_definition, system_definitions, program_part, program_parts, program}
+use Rattle.cp_layout.specs.LaidDeclarations.{constants, type_definitions, components_of, variable_with, variable, variables_of, variable_group, variables, local_parts, heading, body, opened, with_heading, with_new_frame, heading_with, routine, routines, system, definition, system_definition, system_definitions, program_part, program_parts, program}
 use Rattle.cp_resolved.proofs.names.Entries.{still_there}
 use Rattle.cp_resolved.proofs.laid.Declaring.{TypeSteps, FrameSteps, plain_types, type_leads, constants_lead, definitions_lead, local_parts_lead, heading_leads}
-use Rattle.cp_resolved.proofs.laid.Grown.{statements_grew}
+use Rattle.cp_resolved.proofs.laid.Grown.{body_grew}
 use Rattle.cp_resolved.proofs.components.Listing.{program_keeps}
 
 -- ---- what types and routines leave of the permanent cells
@@ -35,15 +35,15 @@ local_parts_owned l ps = local_parts_lead owned_types owned_frames l ps tt
 pub heading_owned : (l : Layer) (x : List ℕ) (k : RoutineKind) → (heading l x k).1.owned ≡ l.owned
 heading_owned l x k = heading_leads owned_types owned_frames l x k tt
 
-pub body_owned : (l : Layer) (b : Body) → (body l b).owned ≡ l.owned
-body_owned l b = ap (λ (j : Layer). j.owned) (statements_grew l b.statements).1
+pub body_owned : (l : Layer) (b : Body) (c : Bool) → (body l b c).owned ≡ l.owned
+body_owned l b c = ap (λ (j : Layer). j.owned) (body_grew l b.statements c).1
 
 pub routine_owned : (l : Layer) (r : Routine) → (routine l r).owned ≡ l.owned
 routine_owned l r =
     let x = opened l r.name.name in
     let h = heading x.1 r.name.name r.kind in
     let m : Layer = with_heading h.1 h.0 in
-    body_owned (local_parts m r.parts) r.body ∙ local_parts_owned m r.parts ∙ heading_owned x.1 r.name.name r.kind
+    body_owned (local_parts m r.parts) r.body r.is_entry ∙ local_parts_owned m r.parts ∙ heading_owned x.1 r.name.name r.kind
 
 pub routines_owned : (l : Layer) (rs : List Routine) → (routines l rs).owned ≡ l.owned
 unfolding routines
@@ -97,7 +97,7 @@ program_handed lines p =
     let k : Layer = program_parts l p.parts in
     let m : Layer = routines k p.routines in
     let b : Layer = with_heading (with_new_frame m) (heading_with [] [] None) in
-    ap (λ (o : Owned). o.parameters) (body_owned b p.body) ∙ ap (λ (o : Owned). o.parameters) (routines_owned k p.routines) ∙ parts_handed l p.parts
+    ap (λ (o : Owned). o.parameters) (body_owned b p.body true) ∙ ap (λ (o : Owned). o.parameters) (routines_owned k p.routines) ∙ parts_handed l p.parts
 
 -- ---- the first process is that of the program
 

@@ -1,5 +1,5 @@
 -- Types that stand have few cells, and none of their arrays is without elements.
-use Rattle.cp_resolved.proofs.Words.{◌≡◌, ◌*◌, ◌≤◌, ℤ, pos, negsuc, Bool, true, false, ◌&&◌, refl, arith, leb-true, range_of_base, cells_of, cells_in, IsFull, AreFull}
+use Rattle.cp_resolved.proofs.Words.{◌≡◌, ◌*◌, ◌≤◌, ℤ, pos, negsuc, Bool, true, false, ◌&&◌, arith, leb-true, range_of_base, cells_of, cells_in, IsFull, AreFull}
 use Rattle.cp_resolved.proofs.Words.{or_left, or_right, ◌+ℤ◌, ◌-ℤ◌, int_le, int_lt, ◌||◌, is_bounded, are_few, is_indexed, is_free, are_free, is_element, is_standing}
 use Rattle.cp_meaning.specs.Types.{Range, Ty, array_over, record_with, FieldTypes, no_field_types, more_field_types, is_within, all_characters, natural_of, length_of_range}
 use Rattle.cp_resolved.proofs.frames.LeastCells.{right_true as right_of}

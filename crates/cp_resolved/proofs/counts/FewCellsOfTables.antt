@@ -13,6 +13,7 @@ use Rattle.cp_resolved.proofs.counts.FewRooms.{Fits, program_level, cells_few}
 use Rattle.cp_resolved.proofs.declarations.Plain.{read_names_law}
 use Rattle.cp_resolved.proofs.agreeing.ScopesOfTrees.{scopes_law}
 use Rattle.cp_resolved.proofs.names.SmallNames.{AreSmallNames, SmallNames, small_names}
+use Rattle.cp_resolved.proofs.declarations.Nameless.{indexed_known}
 use Rattle.cp_resolved.proofs.declarations.SmallTexts.{read_few}
 use Rattle.cp_resolved.proofs.sound.SoundComponents.{layer_of, Images, images}
 use Rattle.cp_resolved.proofs.names.Steps.{names_grown}
@@ -42,7 +43,7 @@ fits_tokens : (t : Tree) → IsRead t.program → IsAccepted t → Each (λ (r :
 fits_tokens t read accepted =
     let small : Each SmallNames (all_begun t) = all_small (numbering_of t.program) (tokens_of t.program) t.program (all_begun t) (places_of t.program) (openings_of t.program) (read_names_law t read accepted).in_step (scopes_law t read accepted).places in
     let few = read_few t.program read in
-    each_weaker (Fits (length (spell t.program)) 0) (λ (r : RoutineView). r.room ≤ 8192 * 20000) (λ r e. omega (arith, e, few)) (layer_of t).routines (program_level t small)
+    each_weaker (Fits (length (spell t.program)) 0) (λ (r : RoutineView). r.room ≤ 8192 * 20000) (λ r e. omega (arith, e, few)) (layer_of t).routines (program_level t (indexed_known t.program read.proper.indexed) small)
 
 pub permanents_few : (t : Tree) → IsRead t.program → IsAccepted t → Holds (layer_of t).types (numbering_of t.program) 20000 0 (layer_of t)
 permanents_few t read accepted =

@@ -1,6 +1,6 @@
 -- The permanent variables of a system type begin with few cells, where each of them has few.
 use Rattle.std.proofs.Common.{◌≡◌, ℕ, ◌+◌, ◌*◌, ◌≤◌, List, [], ◌∷◌, ◌++◌, length, Option, Some, None, refl, sym, ap, subst, ◌∙◌, arith, length-append, append_assoc}
-use Rattle.cp_resolved.proofs.Words.{Kind, Identifier, CellType, Contained, Content, Compounds, least, Names, Layer, Owned, System, nothing_laid}
+use Rattle.cp_resolved.proofs.Words.{Kind, Identifier, CellType, Contained, Content, Compounds, least, Names, Layer, Owned, System, nothing_laid, true}
 use Rattle.cp_resolved.proofs.Words.{written_type, named_type, Numbering, Each}
 use Rattle.cp_text.specs.declared.token.Kind.TheVariants as kind
 use Rattle.cp_text.specs.declared.token.Mark.TheVariants as mark
@@ -207,7 +207,7 @@ module _ (ts : Compounds) where
         let small : IsSmall p = before p k (routines_add p y.routines) s in
         let a = groups_filled o y.parameters (put_optional mark.Semicolon y.has_semicolon inside) (before x.1 p (declared_adds x.1 p (permanent_parts_declare x.1 y.parts)) small) in
         let c = parts_filled x.1 y.parts rs small in
-        let same : (initial_statement k x.0 y.body).owned ≡ p.owned = body_owned (with_heading (with_new_frame k) (heading_with [] x.0 None)) y.body ∙ routines_owned p y.routines in
+        let same : (initial_statement k x.0 y.body).owned ≡ p.owned = body_owned (with_heading (with_new_frame k) (heading_with [] x.0 None)) y.body true ∙ routines_owned p y.routines in
         let e : cells_in (initial_statement k x.0 y.body).owned.contents ≡ cells_in p.owned.contents = ap (λ (q : Owned). cells_in q.contents) same in
         omega (arith, a, c, e, i, le)
 
@@ -269,8 +269,8 @@ module _ (ts : Compounds) where
         let rest : List Layer = routines_begun j p.routines ++ initial_begun m [] ∷ [] in
         let end : IsSmall m = (each_right IsSmall (routines_begun j p.routines) (initial_begun m [] ∷ []) (each_right IsSmall (program_parts_begun l p.parts) rest s)).0 in
         let h : Holds (length rs) j = parts_hold l p.parts rs (each_left IsSmall (program_parts_begun l p.parts) rest s) (before j m (routines_add j p.routines) end) le (record { systems = tt; own = omega (arith, le) }) in
-        let same : (initial_statement m [] p.body).owned ≡ j.owned = body_owned (with_heading (with_new_frame m) (heading_with [] [] None)) p.body ∙ routines_owned j p.routines in
+        let same : (initial_statement m [] p.body).owned ≡ j.owned = body_owned (with_heading (with_new_frame m) (heading_with [] [] None)) p.body true ∙ routines_owned j p.routines in
         let cells : cells_in (initial_statement m [] p.body).owned.contents ≡ cells_in j.owned.contents = ap (λ (q : Owned). cells_in q.contents) same in
-        let systems : (initial_statement m [] p.body).systems ≡ j.systems = body_systems (with_heading (with_new_frame m) (heading_with [] [] None)) p.body ∙ routines_systems j p.routines in
+        let systems : (initial_statement m [] p.body).systems ≡ j.systems = body_systems (with_heading (with_new_frame m) (heading_with [] [] None)) p.body true ∙ routines_systems j p.routines in
         let a = h.own in
         record { systems = subst (Each (λ (s : System). IsFilled s.owned)) (sym systems) h.systems; own = omega (arith, a, cells) }

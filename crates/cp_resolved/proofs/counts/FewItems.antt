@@ -1,21 +1,27 @@
 -- A program has no more items than tokens: each statement and each call of a function is one, and `repeat` is two.
-use Rattle.std.proofs.Common.{◌≡◌, ℕ, ◌+◌, ◌≤◌, Bool, List, [], ◌∷◌, length, max, Option, Some, None, slice_index, refl, ap, arith}
+use Rattle.std.proofs.Common.{◌≡◌, ℕ, ◌+◌, ◌≤◌, Bool, true, false, List, [], ◌∷◌, length, max, Option, Some, None, slice_index, refl, ap, arith}
 use Rattle.cp_resolved.proofs.Words.{Kind, Sign, Direction, FunctionResult}
 use Rattle.cp_text.specs.declared.token.Kind.TheVariants as kind
 use Rattle.cp_text.specs.declared.token.Mark.TheVariants as mark
 use Rattle.cp_tree.specs.Syntax as syntax
-use Rattle.cp_tree.specs.Spelling.{put_identifier, put_part, put_body, put_routine_kind, put_routine, spell, put_optional, put_behind, put_all, put_separated, put_sign, put_constant, put_expression, put_sum, put_terms, put_term, put_factors, put_factor, put_arguments, put_expressions, put_more_expressions, put_designator, put_selectors, put_selector, put_start, put_statement, put_statements, put_more_statements, put_arms, put_more_arms, put_arm, relation_mark, direction_mark}
+use Rattle.cp_tree.specs.Spelling.{is_nameless, put_routine_by, put_identifier, put_part, put_body, put_routine_kind, put_routine, spell, put_optional, put_behind, put_all, put_separated, put_sign, put_constant, put_expression, put_sum, put_terms, put_term, put_factors, put_factor, put_arguments, put_expressions, put_more_expressions, put_designator, put_selectors, put_selector, put_start, put_statement, put_statements, put_more_statements, put_arms, put_more_arms, put_arm, relation_mark, direction_mark}
 use Rattle.cp_tree.proofs.Grows.{grows_all, grows_part, grows_routine_kind, grows_optional, grows_constant, grows_separated, grows_arguments, grows_more_expressions}
 use Rattle.cp_slots.specs.Code as code
 use Rattle.cp_slots.specs.Code.{SetExpression, ComponentPlace, Argument, Arm, Action, Item}
 use Rattle.cp_layout.specs.Values.{Value, Designated, a_routine, an_entry, a_standard, added as values_added, multiplied as values_multiplied, ordinal_of}
-use Rattle.cp_layout.specs.Layers.{Layer, Pending, settled_all, settled, without_pending, added, with_cell, with_room, call_need, need_of, result_of, again, need_inside, pending_need, nothing_laid}
+use Rattle.cp_tree.specs.declared.statement.AssertionKind.{AssertionKind}
+use Rattle.cp_symbols.specs.declared.names.LayoutMeaning.{LayoutMeaning}
+use Rattle.cp_symbols.specs.declared.names.LayoutMeaning.TheVariants as meaning
+use Rattle.cp_symbols.specs.declared.names.PredeclaredRoutine.{PredeclaredRoutine}
+use Rattle.cp_symbols.specs.declared.names.PredeclaredRoutine.TheVariants as predeclared
+use Rattle.cp_layout.specs.Layers.{find, Layer, Pending, settled_all, settled, without_pending, added, with_cell, with_room, call_need, need_of, result_of, again, need_inside, pending_need, nothing_laid}
 use Rattle.cp_layout.specs.LaidExpressions.{begun, counted, function_as, named_as, signed, name_at, expression, sum, more_terms, term, more_factors, factor, elements, first_value, arguments_from, designator, selectors, selector, arguments}
-use Rattle.cp_layout.specs.LaidStatements.{Target, target_of, assignment, arms_need, origin_of, low_of, high_of, is_down, assigned, performed, procedure, standard, Callee, a_standard_procedure, a_procedure, no_callee, callee_of, invoked_as, invoked, blocked, cycled, chosen, while_item, until_item, token_of, repeated, selected, for_item, initial_of, begun_component, Placed, placed_of, started_as, started, starts, statements, statement, arms, one_arm}
-use Rattle.cp_layout.specs.LaidDeclarations.{body, Parameters, heading, heading_with, with_heading, with_new_frame, opened, local_parts, routine, routines, initial_statement, program}
+use Rattle.cp_layout.specs.LaidStatements.{checked_by, checked, checked_before, assertion, said_of, Target, target_of, assignment, arms_need, origin_of, low_of, high_of, is_down, assigned, performed, procedure, standard, Callee, a_standard_procedure, a_procedure, no_callee, callee_of, invoked_as, invoked, blocked, cycled, chosen, while_item, until_item, token_of, repeated, selected, for_item, initial_of, begun_component, Placed, placed_of, started_as, started, starts, statements, statement, arms, one_arm}
+use Rattle.cp_layout.specs.LaidDeclarations.{body, end_of_body, Parameters, heading, heading_with, with_heading, with_new_frame, opened, local_parts, routine, initial_statement, program}
 use Rattle.cp_resolved.proofs.laid.Declares.{Declares, local_parts_declare, heading_declares}
 use Rattle.cp_resolved.specs.Begun.{all_begun}
 use Rattle.cp_resolved.proofs.counts.FewReferences.{one_more}
+use Rattle.cp_resolved.proofs.declarations.Nameless.{SaysSome, IsKnownBy, IsKnown, EachRoutine}
 use Rattle.cp_resolved.proofs.counts.SpentTokens.{each_any, program_spent}
 
 -- the items so far, with those that are to come
@@ -182,12 +188,31 @@ handed_few : (l : Layer) (r : ℕ) (es : syntax.Expressions) (rest : List Kind) 
 unfolding arguments
 handed_few l r es rest = arguments_few l r 0 es rest
 
-invoked_as_few : (l : Layer) (at : ℕ) (c : Callee) (es : syntax.Expressions) (rest : List Kind) → count (invoked_as l at c es) + length rest ≤ count l + length (put_arguments es rest) + 1
+checked_by_few : (l : Layer) (at : ℕ) (o : Option LayoutMeaning) → count (checked_by l at o) ≤ count l + 1
+unfolding procedure
+checked_by_few l at (Some (meaning.Routine r)) =
+    let x = arguments l r syntax.no_expressions in
+    let a = handed_few l r syntax.no_expressions [] in
+    let b = added_one (with_room x.1 r) at (code.call r code.own false x.0 None) (call_need x.1 r) in
+    omega (arith, a, b)
+checked_by_few l at _ = omega arith
+
+checked_few : (l : Layer) (at : ℕ) → count (checked l at) ≤ count l + 1
+unfolding checked
+checked_few l at = checked_by_few l at (find syntax.nameless l.names)
+
+before_few : (l : Layer) (at : ℕ) (p : PredeclaredRoutine) → count (checked_before l at p) ≤ count l + 1
+before_few l at predeclared.Delay = checked_few l at
+before_few l at predeclared.Continue = checked_few l at
+before_few l at _ = omega arith
+
+invoked_as_few : (l : Layer) (at : ℕ) (c : Callee) (es : syntax.Expressions) (rest : List Kind) → count (invoked_as l at c es) + length rest ≤ count l + length (put_arguments es rest) + 2
 unfolding standard procedure
 invoked_as_few l at (a_standard_procedure p) es rest =
     let a = first_few l es rest in
-    let b = added_one (first_value l es).1 at (performed p (first_value l es).0) 0 in
-    omega (arith, a, b)
+    let c = before_few (first_value l es).1 at p in
+    let b = added_one (checked_before (first_value l es).1 at p) at (performed p (first_value l es).0) 0 in
+    omega (arith, a, b, c)
 invoked_as_few l at (a_procedure c is_entry r) es rest =
     let x = arguments l r es in
     let a = handed_few l r es rest in
@@ -198,7 +223,7 @@ invoked_as_few l at no_callee es rest =
     let b = grows_arguments es rest in
     omega (arith, a, b)
 
-invoked_few : (l : Layer) (at : ℕ) (d : syntax.Designator) (es : syntax.Expressions) (rest : List Kind) → count (invoked l at d es) + length rest ≤ count l + length (put_designator d (put_arguments es rest))
+invoked_few : (l : Layer) (at : ℕ) (d : syntax.Designator) (es : syntax.Expressions) (rest : List Kind) → count (invoked l at d es) + length rest ≤ count l + length (put_designator d (put_arguments es rest)) + 1
 unfolding invoked
 invoked_few l at d es rest =
     let x = designator l d in
@@ -247,6 +272,10 @@ starts_few l (t ∷ ts) next rest =
     let c = settled_same (started x.1 t) x.0 in
     omega (arith, a, b, c)
 
+assertion_few : (l : Layer) (at : ℕ) (k : AssertionKind) (e : syntax.Expression) (rest : List Kind) → count (assertion l at k e) + length rest ≤ count l + length (put_expression e rest) + 1
+unfolding assertion
+assertion_few l at k e rest = let a = expression_few l e rest in let b = added_one (expression l e).1 at (code.assert_that (ordinal_of (expression l e).0) (said_of k)) 0 in omega (arith, a, b)
+
 chosen_few : (l : Layer) (at : ℕ) (e : syntax.Expression) (o q : Option ℕ) (rest : List Kind) → count (chosen l at e o q) + length rest ≤ count l + length (put_expression e rest) + 1
 unfolding chosen
 chosen_few l at e o q rest = let a = expression_few l e rest in let b = added_one (expression l e).1 at (code.choose (ordinal_of (expression l e).0) o q) (max (need_inside (expression l e).1.items o) (need_inside (expression l e).1.items q)) in omega (arith, a, b)
@@ -285,18 +314,18 @@ repeated_few l at o e next rest =
 mutual
   unfolding statements statement arms one_arm
 
-  statements_few : (l : Layer) (ss : syntax.Statements) (rest : List Kind) → count (statements l ss).1 + length rest ≤ count l + length (put_statements ss rest) + 1
-  statements_few l syntax.no_statements rest = omega arith
-  statements_few l (syntax.more_statements t ts) rest =
-      let a = more_statements_few l ts rest in
-      let b = statement_few (statements l ts).1 t (statements l ts).0 (put_more_statements ts rest) in
+  statements_few : (l : Layer) (ss : syntax.Statements) (after : Option ℕ) (rest : List Kind) → count (statements l ss after).1 + length rest ≤ count l + length (put_statements ss rest) + 1
+  statements_few l syntax.no_statements after rest = omega arith
+  statements_few l (syntax.more_statements t ts) after rest =
+      let a = more_statements_few l ts after rest in
+      let b = statement_few (statements l ts after).1 t (statements l ts after).0 (put_more_statements ts rest) in
       omega (arith, a, b)
 
-  more_statements_few : (l : Layer) (ss : syntax.Statements) (rest : List Kind) → count (statements l ss).1 + length rest ≤ count l + length (put_more_statements ss rest)
-  more_statements_few l syntax.no_statements rest = omega arith
-  more_statements_few l (syntax.more_statements t ts) rest =
-      let a = more_statements_few l ts rest in
-      let b = statement_few (statements l ts).1 t (statements l ts).0 (put_more_statements ts rest) in
+  more_statements_few : (l : Layer) (ss : syntax.Statements) (after : Option ℕ) (rest : List Kind) → count (statements l ss after).1 + length rest ≤ count l + length (put_more_statements ss rest)
+  more_statements_few l syntax.no_statements after rest = omega arith
+  more_statements_few l (syntax.more_statements t ts) after rest =
+      let a = more_statements_few l ts after rest in
+      let b = statement_few (statements l ts after).1 t (statements l ts after).0 (put_more_statements ts rest) in
       omega (arith, a, b)
 
   statement_few : (l : Layer) (t : syntax.Statement) (next : Option ℕ) (rest : List Kind) → count (statement l t next).1 + length rest ≤ count l + length (put_statement t rest) + 1
@@ -313,8 +342,8 @@ mutual
       let b = settled_same (invoked l at d es) next in
       omega (arith, a, b)
   statement_few l (syntax.block at ss) next rest =
-      let x = statements l ss in
-      let a = statements_few l ss (kind.Mark mark.End ∷ rest) in
+      let x = statements l ss None in
+      let a = statements_few l ss None (kind.Mark mark.End ∷ rest) in
       let b = added_one x.1 at (code.block x.0) (need_inside x.1.items x.0) in
       let c = settled_same (blocked x.1 at x.0) next in
       omega (arith, a, b, c)
@@ -348,8 +377,8 @@ mutual
       let c = settled_same (while_item x.1 at e x.0) next in
       omega (arith, a, b, c)
   statement_few l (syntax.repeat_until at ss e) next rest =
-      let x = statements l ss in
-      let a = statements_few l ss (kind.Mark mark.Until ∷ put_expression e rest) in
+      let x = statements l ss None in
+      let a = statements_few l ss None (kind.Mark mark.Until ∷ put_expression e rest) in
       let b = repeated_few x.1 at x.0 e next rest in
       omega (arith, a, b)
   statement_few l (syntax.for_do at i e d f s) next rest =
@@ -360,12 +389,18 @@ mutual
       let c = settled_same (for_item x.1 at i.name e d f x.0) next in
       omega (arith, a, b, c)
   statement_few l (syntax.cycle at ss) next rest =
-      let x = statements l ss in
-      let a = statements_few l ss (kind.Mark mark.End ∷ rest) in
+      let x = statements l ss None in
+      let a = statements_few l ss None (kind.Mark mark.End ∷ rest) in
       let b = added_one x.1 at (code.cycle x.0) (need_inside x.1.items x.0) in
       let c = settled_same (cycled x.1 at x.0) next in
       omega (arith, a, b, c)
   statement_few l (syntax.init at ts) next rest = let a = starts_few l ts next rest in omega (arith, a)
+  statement_few l (syntax.asserted at k e s) next rest =
+      let x = statement l s next in
+      let a = statement_few l s next rest in
+      let b = assertion_few x.1 at k e (kind.Mark mark.Closes ∷ put_statement s rest) in
+      let c = settled_same (assertion x.1 at k e) x.0 in
+      omega (arith, a, b, c)
 
   arms_few : (l : Layer) (as' : syntax.Arms) (rest : List Kind) → count (arms l as').1 + length rest ≤ count l + length (put_arms as' rest)
   arms_few l syntax.no_arms rest = omega arith
@@ -389,14 +424,50 @@ mutual
 
 -- ---- declarations
 
-pub body_few : (l : Layer) (b : syntax.Body) (rest : List Kind) → count (body l b) + length rest ≤ count l + length (put_body b rest)
-body_few l b rest = let a = statements_few l b.statements (kind.Mark mark.End ∷ rest) in omega (arith, a)
+ended_few : (l : Layer) (c : Bool) → count (end_of_body l c).1 ≤ count l + 1
+ended_few l true = let a = checked_few l 0 in let b = settled_same (checked l 0) None in omega (arith, a, b)
+ended_few l false = let b = settled_same l None in omega (arith, b)
+
+pub body_few : (l : Layer) (b : syntax.Body) (c : Bool) (rest : List Kind) → count (body l b c) + length rest ≤ count l + length (put_body b rest)
+body_few l b c rest =
+    let end = end_of_body l c in
+    let a = statements_few end.1 b.statements end.0 (kind.Mark mark.End ∷ rest) in
+    let d = ended_few l c in
+    omega (arith, a, d)
+
+-- invariants have more tokens
+says_few : (l : Layer) (ss : syntax.Statements) (after : Option ℕ) (rest : List Kind) → SaysSome ss → count (statements l ss after).1 + length rest ≤ count l + length (put_statements ss rest)
+unfolding statements statement
+says_few l (syntax.more_statements (syntax.asserted at k e s) syntax.no_statements) after rest h =
+    let x = statement l s after in
+    let a = statement_few l s after rest in
+    let b = assertion_few x.1 at k e (kind.Mark mark.Closes ∷ put_statement s rest) in
+    let c = settled_same (assertion x.1 at k e) x.0 in
+    omega (arith, a, b, c)
+says_few l _ after rest h = absurd h
+
+pub said_body_few : (l : Layer) (b : syntax.Body) (c : Bool) (rest : List Kind) → c ≡ false → SaysSome b.statements → count (body l b c) + length rest ≤ count l + length (put_statements b.statements rest)
+said_body_few l b true rest is h = absurd (let bad : true ≡ false = is in cc)
+said_body_few l b false rest is h =
+    let end = settled l None in
+    let a = says_few end.1 b.statements end.0 rest h in
+    let d = settled_same l None in
+    omega (arith, a, d)
 
 declared_same : (l m : Layer) → Declares l m → count m ≡ count l
 declared_same l m h = ap (λ (j : Layer). count j) h.same
 
-routine_few : (l : Layer) (r : syntax.Routine) (rest : List Kind) → count (routine l r) + length rest ≤ count l + length (put_routine r rest)
-routine_few l r rest =
+routine_by : (b : Bool) (l : Layer) (r : syntax.Routine) (rest : List Kind) → IsKnownBy b r → count (routine l r) + length rest ≤ count l + length (put_routine_by b r rest)
+routine_by true l r rest known =
+    let x : Layer = (opened l r.name.name).1 in
+    let h = heading x r.name.name r.kind in
+    let k : Layer = with_heading h.1 h.0 in
+    let m : Layer = local_parts k r.parts in
+    let c = declared_same x h.1 (heading_declares x r.name.name r.kind) in
+    let d = declared_same k m (local_parts_declare k r.parts) in
+    let e = said_body_few m r.body r.is_entry rest known.no_entry known.says in
+    omega (arith, c, d, e)
+routine_by false l r rest known =
     let last : List Kind = kind.Mark mark.Semicolon ∷ rest in
     let b : List Kind = put_body r.body last in
     let inside : List Kind = put_all put_part r.parts b in
@@ -406,11 +477,14 @@ routine_few l r rest =
     let m : Layer = local_parts k r.parts in
     let c = declared_same x h.1 (heading_declares x r.name.name r.kind) in
     let d = declared_same k m (local_parts_declare k r.parts) in
-    let e = body_few m r.body last in
+    let e = body_few m r.body r.is_entry last in
     let f = grows_all put_part grows_part r.parts b in
     let g = grows_routine_kind r.kind (kind.Mark mark.Semicolon ∷ inside) in
     let i = grows_optional mark.Entry r.is_entry (put_identifier r.name (put_routine_kind r.kind (kind.Mark mark.Semicolon ∷ inside))) in
     omega (arith, c, d, e, f, g, i)
+
+routine_few : (l : Layer) (r : syntax.Routine) (rest : List Kind) → IsKnown r → count (routine l r) + length rest ≤ count l + length (put_routine r rest)
+routine_few l r rest known = routine_by (is_nameless r.kind) l r rest known
 
 -- out of this many tokens
 abbrev Within : ℕ → ℕ → Layer → Type 0
@@ -426,14 +500,14 @@ module _ (total : ℕ) where
       let b = ap (λ (ps : List Pending). length ps) p in
       omega (arith, a, b, h)
 
-  routine_within : (l : Layer) (r : syntax.Routine) (rest : List Kind) → Unit {0} → Within total (length (put_routine r rest)) l → Within total (length rest) (routine l r)
-  routine_within l r rest s h = let a = routine_few l r rest in omega (arith, a, h)
+  routine_within : (l : Layer) (r : syntax.Routine) (rest : List Kind) → IsKnown r → Unit {0} → Within total (length (put_routine r rest)) l → Within total (length rest) (routine l r)
+  routine_within l r rest k s h = let a = routine_few l r rest k in omega (arith, a, h)
 
   initial_within : (l : Layer) (ps : Parameters) (b : syntax.Body) (rest : List Kind) → Within total (length (put_body b rest)) l → Within total (length rest) (initial_statement l ps b)
-  initial_within l ps b rest h = let a = body_few (with_heading (with_new_frame l) (heading_with [] ps None)) b rest in omega (arith, a, h)
+  initial_within l ps b rest h = let a = body_few (with_heading (with_new_frame l) (heading_with [] ps None)) b true rest in omega (arith, a, h)
 
-pub program_few : (t : syntax.Tree) → length (program (nothing_laid t.lines) t.program).items ≤ length (spell t.program)
-program_few t =
+pub program_few : (t : syntax.Tree) → EachRoutine IsKnown t.program → length (program (nothing_laid t.lines) t.program).items ≤ length (spell t.program)
+program_few t known =
     let total : ℕ = length (spell t.program) in
-    let few : Within total 0 (program (nothing_laid t.lines) t.program) = program_spent (Within total) (λ (l : Layer). Unit {0}) (lower total) (same total) (routine_within total) (initial_within total) t (each_any (all_begun t)) (omega arith) in
+    let few : Within total 0 (program (nothing_laid t.lines) t.program) = program_spent (Within total) (λ (l : Layer). Unit {0}) (lower total) (same total) (routine_within total) (initial_within total) t known (each_any (all_begun t)) (omega arith) in
     omega (arith, few)

@@ -170,3 +170,4 @@ heading_extended l x (syntax.function gs i) rest =
       room = r.room;
       references = r.references;
     }
+heading_extended l x syntax.invariants rest = unchanged (length rest) (length rest) l l refl (omega arith)

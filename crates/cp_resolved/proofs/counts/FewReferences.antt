@@ -1,13 +1,14 @@
 -- The references of open calls stay few: each routine calls earlier ones alone, and has few `var` parameters itself.
 use Rattle.std.proofs.Common.{◌≡◌, ℕ, zero, suc, ◌+◌, ◌≤◌, List, [], ◌∷◌, ◌++◌, length, Option, Some, None, slice_get, refl, subst, arith, length-append}
-use Rattle.cp_resolved.proofs.Words.{none-some, same_Some, Process, RoutineView, Action, room_for, room_from}
-use Rattle.cp_resolved.proofs.Words.{with_count, statements, Each}
+use Rattle.cp_resolved.proofs.Words.{none-some, same_Some, Process, RoutineView, Action, room_for, room_from, Bool}
+use Rattle.cp_resolved.proofs.Words.{with_count, Each}
 use Rattle.cp_tree.specs.Syntax as syntax
 use Rattle.cp_resolved.proofs.counts.Rooms.{Room}
 use Rattle.cp_layout.specs.Layers.{Layer, Pending, frame_with, with_cell, with_room, settled_all, settled, without_pending, added, routine_of}
-use Rattle.cp_layout.specs.LaidDeclarations.{body, routine, routines}
-use Rattle.cp_resolved.proofs.laid.Walked.{any_calls, any_items, any_lists, never, statements_walked}
+use Rattle.cp_layout.specs.LaidDeclarations.{body}
+use Rattle.cp_resolved.proofs.laid.Walked.{any_calls, any_items, any_lists, never, body_walked}
 use Rattle.cp_resolved.proofs.frames.FrameCells.{each_both as each_append}
+use Rattle.cp_resolved.specs.ItemsStand.{body_items}
 
 pub each_entry : {A : Type 0} (Q : A → Type 0) (xs : List A) (n : ℕ) (x : A) → slice_get xs n ≡ Some x → Each Q xs → Q x
 each_entry Q [] n x e h = absurd (none-some x e)
@@ -63,13 +64,13 @@ module _ (total low k : ℕ) where
   within_settled l next h = all_settled (without_pending l) l.pending next (record { routines = h.routines; frame = h.frame; extents = h.extents })
 
   -- the routine of a body, once its own `var` parameters are counted
-  pub body_level : (after : ℕ) (l : Layer) (b : syntax.Body) → after + k ≤ low → Within total low k l → Level total after (body l b)
-  body_level after l b le h =
-      let x : Option ℕ × Layer = statements l b.statements in
-      let f : Within total low k x.1 = statements_walked (any_calls (Within total low k) within_count within_call) (any_items (Within total low k) within_room within_added) (any_lists (Within total low k) within_added within_settled) l b.statements h never in
+  pub body_level : (after : ℕ) (l : Layer) (b : syntax.Body) (c : Bool) → after + k ≤ low → Within total low k l → Level total after (body l b c)
+  body_level after l b c le h =
+      let x : Option ℕ × Layer = body_items l b.statements c in
+      let f : Within total low k x.1 = body_walked (any_calls (Within total low k) within_count within_call) (any_items (Within total low k) within_room within_added) (any_lists (Within total low k) within_added within_settled) l b.statements c h never in
       let a : x.1.frame.reference_room + low ≤ total = f.frame in
-      let c : length x.1.frame.extents ≤ k = f.extents in
-      let new : (routine_of x.1 x.0).reference_room + after ≤ total = omega (arith, a, c, le) in
+      let d : length x.1.frame.extents ≤ k = f.extents in
+      let new : (routine_of x.1 x.0).reference_room + after ≤ total = omega (arith, a, d, le) in
       each_append (λ (r : RoutineView). r.reference_room + after ≤ total) x.1.routines (routine_of x.1 x.0 ∷ []) (each_weaker (λ (r : RoutineView). r.reference_room + low ≤ total) (λ (r : RoutineView). r.reference_room + after ≤ total) (λ r e. omega (arith, e, le)) x.1.routines f.routines) (new, tt)
 
 -- ---- what all processes need

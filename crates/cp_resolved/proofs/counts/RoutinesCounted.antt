@@ -1,7 +1,7 @@
 -- How many routines and system types a tree has.
 use Rattle.std.proofs.Common.{length-append, ◌≡◌, ◌+◌, suc, List, [], ◌∷◌, ◌++◌, length, None, refl, ap, ◌∙◌, arith}
 use Rattle.cp_tree.specs.Syntax as syntax
-use Rattle.cp_resolved.proofs.Words.{Layer, System, nothing_laid, Declared, declared, program_system, own_meaning, Enumerated, each_in, in_routine, in_program_part}
+use Rattle.cp_resolved.proofs.Words.{Layer, System, nothing_laid, Declared, declared, program_system, own_meaning, Enumerated, each_in, in_routine, in_program_part, true}
 use Rattle.cp_resolved.proofs.Words.{enumerations_of, AreFitParts, nothing_declared, Numbering, IsSmallProgram, AreNumbered, whole_laid, routines, program_parts, program}
 use Rattle.cp_resolved.proofs.Words.{heading_with, with_heading, with_new_frame, Opening, routine_openings, initial_opening, parts_openings, openings_of, AreOpened}
 use Rattle.cp_resolved.proofs.names.Steps.{outermost_in}
@@ -31,11 +31,11 @@ all_many k t h f e o =
     let c : length m.routines ≡ length l.routines + length os = a.routines in
     let z : length l.routines ≡ 0 = refl in
     let u : length b.routines ≡ length m.routines + length p.routines = routines_count m p.routines in
-    let v : length end.routines ≡ suc (length b.routines) = body_count (with_heading (with_new_frame b) (heading_with [] [] None)) p.body in
+    let v : length end.routines ≡ suc (length b.routines) = body_count (with_heading (with_new_frame b) (heading_with [] [] None)) p.body true in
     let w : length ps ≡ length p.routines = openings_count (program_system p) d.scope p.routines in
     let x : length (os ++ (ps ++ qs)) ≡ length os + length (ps ++ qs) = length-append os (ps ++ qs) in
     let y : length (ps ++ qs) ≡ length ps + 1 = length-append ps qs in
     record {
       routines = omega (arith, c, z, u, v, w, x, y);
-      systems = ap (λ (ss : List System). length ss) (body_systems (with_heading (with_new_frame b) (heading_with [] [] None)) p.body ∙ routines_systems m p.routines) ∙ a.standing.systems;
+      systems = ap (λ (ss : List System). length ss) (body_systems (with_heading (with_new_frame b) (heading_with [] [] None)) p.body true ∙ routines_systems m p.routines) ∙ a.standing.systems;
     }

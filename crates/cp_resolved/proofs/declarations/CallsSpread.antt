@@ -3,9 +3,9 @@ use Rattle.std.proofs.Common.{◌≡◌, ◌==◌, ◌+◌, ◌<◌, ◌≤◌, 
 use Rattle.cp_resolved.proofs.Words.{◌⊎◌, Decides-eqb, Kind, Sign, Scope, Item, function_call, Each}
 use Rattle.cp_text.specs.declared.token.Kind.TheVariants as kind
 use Rattle.cp_text.specs.declared.token.Mark.TheVariants as mark
-use Rattle.cp_tree.specs.Syntax.{Expression, alone, related, Sum, sum, Terms, no_terms, more_terms, Term, term, Factors, no_factors, more_factors, Factor, number, character, named, group, negated, set_of, Expressions, no_expressions, more_expressions, Designator, designator, Selectors, no_selectors, more_selectors, Selector, field, index, Start, Statement, empty, assign, invoke, block, if_then, if_else, case_of, while_do, repeat_until, for_do, cycle, init, Statements, no_statements, more_statements, Arms, no_arms, more_arms, Arm, arm}
+use Rattle.cp_tree.specs.Syntax.{Expression, alone, related, Sum, sum, Terms, no_terms, more_terms, Term, term, Factors, no_factors, more_factors, Factor, number, character, named, group, negated, set_of, Expressions, no_expressions, more_expressions, Designator, designator, Selectors, no_selectors, more_selectors, Selector, field, index, Start, Statement, empty, assign, invoke, block, if_then, if_else, case_of, while_do, repeat_until, for_do, cycle, init, asserted, Statements, no_statements, more_statements, Arms, no_arms, more_arms, Arm, arm}
 use Rattle.cp_tree.specs.Spelling.{relation_mark, direction_mark, put_optional, put_behind, put_all, put_separated, put_sign, put_constant, put_expression, put_sum, put_terms, put_term, put_factors, put_factor, put_arguments, put_expressions, put_more_expressions, put_designator, put_selectors, put_selector, put_start, put_statement, put_statements, put_more_statements, put_arms, put_more_arms, put_arm}
-use Rattle.cp_tree.specs.SpellingIndexed.{AreAllIndexed, AreSeparatedIndexed, IsIndexedExpression, IsIndexedSum, AreIndexedTerms, IsIndexedTerm, AreIndexedFactors, IsIndexedFactor, AreIndexedArguments, AreIndexedExpressions, AreIndexedMoreExpressions, IsIndexedDesignator, AreIndexedSelectors, IsIndexedSelector, IsIndexedStart, IsIndexedStatement, AreIndexedStatements, AreIndexedMoreStatements, AreIndexedArms, AreIndexedMoreArms, IsIndexedArm}
+use Rattle.cp_tree.specs.SpellingIndexed.{AreIndexedInvariants, IsIndexedInvariantBody, AreAllIndexed, AreSeparatedIndexed, IsIndexedExpression, IsIndexedSum, AreIndexedTerms, IsIndexedTerm, AreIndexedFactors, IsIndexedFactor, AreIndexedArguments, AreIndexedExpressions, AreIndexedMoreExpressions, IsIndexedDesignator, AreIndexedSelectors, IsIndexedSelector, IsIndexedStart, IsIndexedStatement, AreIndexedStatements, AreIndexedMoreStatements, AreIndexedArms, AreIndexedMoreArms, IsIndexedArm}
 use Rattle.cp_tree.proofs.Grows.{grows_optional, grows_all, grows_behind, grows_separated, grows_constant, grows_expression, grows_sum, grows_terms, grows_term, grows_factors, grows_factor, grows_arguments, grows_more_expressions, grows_designator, grows_selectors, grows_selector, grows_start, grows_statement, grows_statements, grows_more_statements, grows_arms, grows_more_arms, grows_arm}
 use Rattle.cp_meaning.specs.Lifting.{is_call, own_call, expression_calls, sum_calls, terms_calls, term_calls, factors_calls, factor_calls, expressions_calls, designator_calls, selectors_calls, selector_calls}
 use Rattle.cp_resolved.specs.Calls.{starts_calls, calls_laid, all_calls_laid, arms_calls_laid, arm_calls_laid, is_at, IsAmong, IsApart, AreApart}
@@ -318,6 +318,10 @@ module _ (total : ℕ) where
           let last : List Kind = kind.Mark mark.End ∷ rest in
           inside rest last (put_statements ss last) (put_statement (cycle at ss) rest) (all_calls_laid s ss) (omega arith) (omega arith) (statements_spread ss last h.1)
       statement_spread (init at ts) rest h = inside rest rest (put_separated mark.Comma put_start ts rest) (put_statement (init at ts) rest) (starts_calls s ts) (omega arith) (omega arith) (starts_spread ts rest h.1)
+      statement_spread (asserted at k e t) rest h =
+          let after : List Kind = kind.Mark mark.Closes ∷ put_statement t rest in
+          inside rest rest (put_expression e after) (put_statement (asserted at k e t) rest) (calls_laid s (asserted at k e t)) (omega arith) (omega arith)
+          (behind rest (put_statement t rest) after (put_expression e after) (calls_laid s t) (expression_calls s e) (grows_statement t rest) (omega arith) (grows_expression e after) (statement_spread t rest h.3) (expression_spread e after h.2))
 
       pub statements_spread : (x : Statements) (rest : List Kind) → AreIndexedStatements total x rest → Spread rest (put_statements x rest) (all_calls_laid s x)
       statements_spread no_statements rest h = absurd h
@@ -350,3 +354,17 @@ module _ (total : ℕ) where
           let after : List Kind = kind.Mark mark.Colon ∷ put_statement t rest in
           let longer : length after ≤ length (put_arm (arm cs t) rest) = grows_separated mark.Comma put_constant grows_constant cs after in
           inside rest rest (put_statement t rest) (put_arm (arm cs t) rest) (calls_laid s t) (omega arith) (omega (arith, longer)) (statement_spread t rest h.1)
+
+    -- ---- invariants
+
+    said_spread : (x : Statement) (rest : List Kind) → AreIndexedInvariants total x rest → Spread rest (put_statement x rest) (calls_laid s x)
+    said_spread (empty at) rest h = none rest rest
+    said_spread (asserted at k e t) rest h =
+        let after : List Kind = kind.Mark mark.Closes ∷ put_statement t rest in
+        inside rest rest (put_expression e after) (put_statement (asserted at k e t) rest) (calls_laid s (asserted at k e t)) (omega arith) (omega arith)
+        (behind rest (put_statement t rest) after (put_expression e after) (calls_laid s t) (expression_calls s e) (grows_statement t rest) (omega arith) (grows_expression e after) (said_spread t rest h.3) (expression_spread e after h.2))
+    said_spread _ rest h = absurd h
+
+    pub says_spread : (x : Statements) (rest : List Kind) → IsIndexedInvariantBody total x rest → Spread rest (put_statements x rest) (all_calls_laid s x)
+    says_spread (more_statements (asserted at k e t) no_statements) rest h = said_spread (asserted at k e t) rest h
+    says_spread _ rest h = absurd h

@@ -4,7 +4,7 @@ use Rattle.cp_resolved.proofs.Words.{ValueType, Meaning, Judged, faults, Scopes,
 use Rattle.cp_resolved.proofs.Words.{add_all, part_steps, declarations, routine_step, routine_steps, Name, same_name, Ty, component_of, names_of, Parameter}
 use Rattle.cp_resolved.proofs.Words.{Each, is_free}
 use Rattle.cp_resolved.proofs.Words.{IsFreeParameter, no_left, no_right, no_first, none_before, inside_sound, defined_sound, declarations_sound, parts_sound}
-use Rattle.cp_tree.specs.Syntax.{Group, ParameterGroup, RoutineKind, procedure, function, Routine, System, Definition, type_definition, system_definition, SystemDefinition, Part, ProgramPart, program_types, Program}
+use Rattle.cp_tree.specs.Syntax.{Group, ParameterGroup, RoutineKind, procedure, function, invariants, Routine, System, Definition, type_definition, system_definition, SystemDefinition, Part, ProgramPart, program_types, Program}
 use Rattle.cp_check.specs.declared.types.Spot.TheVariants as spot
 use Rattle.cp_check.specs.Headings as headings
 use Rattle.cp_check.specs.Headings.{Headed, after_faults, written, ruled, heading, announced, announced_of}
@@ -87,6 +87,7 @@ kind_declares : (s : Scopes) (k : RoutineKind) → faults (written s k).result �
 unfolding written
 kind_declares s (procedure gs) h = procedure_declares s gs (none_before (headings.parameter_steps s gs).faults _ h)
 kind_declares s (function gs i) h = function_declares s gs (none_before (headings.group_steps s gs).faults _ h)
+kind_declares s invariants h = procedure_declares s [] (none_before (headings.parameter_steps s []).faults _ h)
 
 system_declares : (k : SystemKind) (s : Scopes) (gs : List Group) → (systems.group_steps k s gs).faults ≡ [] → Declares s (systems.group_steps k s gs).scopes (all_names (λ (g : Group). names_of g.names) gs)
 unfolding systems.group_steps systems.group_step

@@ -1,10 +1,10 @@
 -- The enumerations of a program that was read stand at different tokens, and have at least one constant and few.
-use Rattle.cp_resolved.proofs.Words.{◌≡◌, ℕ, ◌+◌, ◌<◌, ◌≤◌, List, [], ◌∷◌, ◌++◌, length, sym, ap, ◌∙◌, arith, Kind, Identifier, IsRead, Each}
+use Rattle.cp_resolved.proofs.Words.{Bool, true, false, subst, ◌≡◌, ℕ, ◌+◌, ◌<◌, ◌≤◌, List, [], ◌∷◌, ◌++◌, length, sym, ap, ◌∙◌, arith, Kind, Identifier, IsRead, Each}
 use Rattle.cp_text.specs.declared.token.Kind.TheVariants as kind
 use Rattle.cp_text.specs.declared.token.Mark.TheVariants as mark
-use Rattle.cp_tree.specs.Syntax.{enumeration, simple, array_of, set_type, record_of, no_fields, more_fields, fields, TypeDefinition, VariableGroup, constants, types, variables, type_definition, system_definition, SystemDefinition, program_constants, program_types, program_variables, Program}
-use Rattle.cp_tree.specs.Spelling.{put_optional, put_all, put_type, put_more_field_groups, put_type_definition, put_variable_group, put_part, put_body, put_routine, put_system_definition, put_program_part, spell}
-use Rattle.cp_tree.specs.SpellingIndexed.{AreIndexedNames, AreAllIndexed, AreSomeIndexed, IsIndexedSimple, IsIndexedType, AreIndexedFieldGroups, AreIndexedMoreFieldGroups, IsIndexedFieldGroup, IsIndexedTypeDefinition, IsIndexedVariableGroup, IsIndexedPart, IsIndexedRoutine, IsIndexedSystem, IsIndexedDefinition, IsIndexedSystemDefinition, IsIndexedProgramPart, IsIndexedProgram}
+use Rattle.cp_tree.specs.Syntax.{Part, Routine, enumeration, simple, array_of, set_type, record_of, no_fields, more_fields, fields, TypeDefinition, VariableGroup, constants, types, variables, type_definition, system_definition, SystemDefinition, program_constants, program_types, program_variables, Program}
+use Rattle.cp_tree.specs.Spelling.{is_nameless, put_optional, put_all, put_type, put_more_field_groups, put_type_definition, put_variable_group, put_part, put_body, put_routine, put_system_definition, put_program_part, spell}
+use Rattle.cp_tree.specs.SpellingIndexed.{IsIndexedRoutineBy, AreIndexedNames, AreAllIndexed, AreSomeIndexed, IsIndexedSimple, IsIndexedType, AreIndexedFieldGroups, AreIndexedMoreFieldGroups, IsIndexedFieldGroup, IsIndexedTypeDefinition, IsIndexedVariableGroup, IsIndexedPart, IsIndexedRoutine, IsIndexedSystem, IsIndexedDefinition, IsIndexedSystemDefinition, IsIndexedProgramPart, IsIndexedProgram}
 use Rattle.cp_resolved.specs.Enumerations.{Enumerated, in_simple, in_type, in_groups, in_group, each_in, in_part, in_routine, in_system, in_definition, in_program_part, enumerations_of}
 use Rattle.cp_resolved.specs.Tokens.{IsOther, AreDifferent, tokens_of_enumerations, HasFew}
 use Rattle.cp_resolved.proofs.declarations.Numbered.{AreInOrder, program_ordered}
@@ -62,8 +62,12 @@ module _ (total : ℕ) where
   part_some (types at ds) rest h = some_some put_type_definition (IsIndexedTypeDefinition total) (λ (d : TypeDefinition). in_type d.value) (λ d r g. type_some d.value (kind.Mark mark.Semicolon ∷ r) g.1) ds rest h.1
   part_some (variables at gs) rest h = some_some put_variable_group (IsIndexedVariableGroup total) (λ (g : VariableGroup). in_type g.variable_type) (λ d r g. type_some d.variable_type (kind.Mark mark.Semicolon ∷ r) g.1) gs rest h.1
 
+  routine_by : (b : Bool) (r : Routine) (rest : List Kind) → IsIndexedRoutineBy total b r rest → Each HasSome (in_routine r)
+  routine_by true r rest h = subst (λ (ps : List Part). Each HasSome (each_in in_part ps)) (sym h.no_parts) tt
+  routine_by false r rest h = all_some put_part (IsIndexedPart total) in_part part_some r.parts (put_body r.body (kind.Mark mark.Semicolon ∷ rest)) h.3
+
   routine_some : Finds (IsIndexedRoutine total) in_routine
-  routine_some r rest h = all_some put_part (IsIndexedPart total) in_part part_some r.parts (put_body r.body (kind.Mark mark.Semicolon ∷ rest)) h.3
+  routine_some r rest h = routine_by (is_nameless r.kind) r rest h
 
   system_some : Finds (IsIndexedSystem total) in_system
   system_some s rest h =

@@ -1,12 +1,12 @@
 -- The enumerations of a program that spells tokens stand at different tokens, one after the other, and have less constants than there are tokens.
-use Rattle.std.proofs.Common.{◌≡◌, ℕ, ◌+◌, ◌<◌, ◌≤◌, ◌==◌, Bool, true, false, if◌then◌else◌, List, [], ◌∷◌, ◌++◌, length, refl, arith}
+use Rattle.std.proofs.Common.{subst, sym, ◌≡◌, ℕ, ◌+◌, ◌<◌, ◌≤◌, ◌==◌, Bool, true, false, if◌then◌else◌, List, [], ◌∷◌, ◌++◌, length, refl, arith}
 use Rattle.cp_resolved.proofs.Words.{eq-eqb, eqb-true, Kind, Identifier, AreNumbered}
 use Rattle.cp_text.specs.declared.token.Kind.TheVariants as kind
 use Rattle.cp_text.specs.declared.token.Mark.TheVariants as mark
-use Rattle.cp_tree.specs.Syntax.{type_name, enumeration, subrange, simple, array_of, set_type, record_of, no_fields, more_fields, fields, constants, types, variables, type_definition, system_definition, program_constants, program_types, program_variables, Program}
-use Rattle.cp_tree.specs.Spelling.{put_optional, put_behind, put_all, put_names, put_identifier, put_simple, put_type, put_field_groups, put_more_field_groups, put_field_group, put_constant_definition, put_type_definition, put_variable_group, put_part, put_group, put_body, put_routine_kind, put_routine, put_system, put_definition, put_system_definition, put_program_part, spell}
-use Rattle.cp_tree.specs.SpellingIndexed.{AreAllIndexed, AreSomeIndexed, IsIndexedSimple, IsIndexedType, AreIndexedFieldGroups, AreIndexedMoreFieldGroups, IsIndexedFieldGroup, IsIndexedTypeDefinition, IsIndexedVariableGroup, IsIndexedPart, IsIndexedRoutine, IsIndexedSystem, IsIndexedDefinition, IsIndexedSystemDefinition, IsIndexedProgramPart, IsIndexedProgram, IsIndexed}
-use Rattle.cp_tree.proofs.Grows.{grows_optional, grows_all, grows_names, grows_simple, grows_constant_definition, grows_group, grows_body, grows_parameters, grows_routine_kind, grows_part}
+use Rattle.cp_tree.specs.Syntax.{Part, Routine, type_name, enumeration, subrange, simple, array_of, set_type, record_of, no_fields, more_fields, fields, constants, types, variables, type_definition, system_definition, program_constants, program_types, program_variables, Program}
+use Rattle.cp_tree.specs.Spelling.{is_nameless, put_statements, put_named_routine, put_routine_by, put_optional, put_behind, put_all, put_names, put_identifier, put_simple, put_type, put_field_groups, put_more_field_groups, put_field_group, put_constant_definition, put_type_definition, put_variable_group, put_part, put_group, put_body, put_routine_kind, put_routine, put_system, put_definition, put_system_definition, put_program_part, spell}
+use Rattle.cp_tree.specs.SpellingIndexed.{IsIndexedRoutineBy, AreAllIndexed, AreSomeIndexed, IsIndexedSimple, IsIndexedType, AreIndexedFieldGroups, AreIndexedMoreFieldGroups, IsIndexedFieldGroup, IsIndexedTypeDefinition, IsIndexedVariableGroup, IsIndexedPart, IsIndexedRoutine, IsIndexedSystem, IsIndexedDefinition, IsIndexedSystemDefinition, IsIndexedProgramPart, IsIndexedProgram, IsIndexed}
+use Rattle.cp_tree.proofs.Grows.{grows_optional, grows_all, grows_names, grows_simple, grows_constant_definition, grows_group, grows_body, grows_statements, grows_parameters, grows_routine_kind, grows_part}
 use Rattle.cp_resolved.specs.Enumerations.{Enumerated, in_simple, in_type, in_groups, in_group, each_in, in_part, in_routine, in_system, in_definition, in_program_part, enumerations_of, before_among, constants_before}
 
 -- ---- enumerations in their order, between two counts of the tokens that follow
@@ -115,15 +115,19 @@ module _ (total : ℕ) where
   part_ordered (variables at gs) rest h =
       wider (each_in (λ g. in_type g.variable_type) gs) (length (put_all put_variable_group gs rest)) (length (put_part (variables at gs) rest)) (length rest) (length rest) (omega arith) (omega arith) (some_ordered put_variable_group (IsIndexedVariableGroup total) (λ g. in_type g.variable_type) variable_group_ordered gs rest h.1)
 
-  routine_ordered : Ordered put_routine (IsIndexedRoutine total) in_routine
-  routine_ordered r rest h =
+  routine_by : (b : Bool) (r : Routine) (rest : List Kind) → IsIndexedRoutineBy total b r rest → AreInOrder total (length (put_routine_by b r rest)) (in_routine r) (length rest)
+  routine_by true r rest h = subst (λ (ps : List Part). AreInOrder total (length (put_statements r.body.statements rest)) (each_in in_part ps) (length rest)) (sym h.no_parts) (grows_statements r.body.statements rest)
+  routine_by false r rest h =
       let last : List Kind = kind.Mark mark.Semicolon ∷ rest in
       let body : List Kind = put_body r.body last in
       let inside : List Kind = put_all put_part r.parts body in
       let a = grows_body r.body last in
       let b = grows_routine_kind r.kind (kind.Mark mark.Semicolon ∷ inside) in
       let c = grows_optional mark.Entry r.is_entry (put_identifier r.name (put_routine_kind r.kind (kind.Mark mark.Semicolon ∷ inside))) in
-      wider (in_routine r) (length inside) (length (put_routine r rest)) (length body) (length rest) (omega (arith, b, c)) (omega (arith, a)) (all_ordered put_part (IsIndexedPart total) in_part part_ordered r.parts body h.3)
+      wider (in_routine r) (length inside) (length (put_named_routine r rest)) (length body) (length rest) (omega (arith, b, c)) (omega (arith, a)) (all_ordered put_part (IsIndexedPart total) in_part part_ordered r.parts body h.3)
+
+  routine_ordered : Ordered put_routine (IsIndexedRoutine total) in_routine
+  routine_ordered r rest h = routine_by (is_nameless r.kind) r rest h
 
   system_ordered : Ordered put_system (IsIndexedSystem total) in_system
   system_ordered s rest h =

@@ -10,7 +10,7 @@ use Rattle.cp_resolved.proofs.declarations.OnceOfTrees.{accepted_once}
 use Rattle.cp_resolved.proofs.declarations.Plain.{plain_law}
 use Rattle.cp_resolved.proofs.Words.{Tree, IsRead, IsAccepted, RoutineMeaning, sym, subst}
 use Rattle.cp_resolved.proofs.statements.CalleesKnown.{At, at_number}
-use Rattle.cp_resolved.proofs.declarations.WordsOfTrees.{read_words}
+use Rattle.cp_resolved.proofs.declarations.WordsOfTrees.{read_words, read_checks}
 
 -- ---- what fits has few cells
 
@@ -34,5 +34,6 @@ placed_law t read accepted =
       once = accepted_once t accepted;
       sized = sized_at t read accepted;
       words = read_words t.program read;
+      checks = read_checks t.program read;
       apart = indexed_apart t.program read.proper.indexed;
     }

@@ -4,7 +4,7 @@ use Rattle.std.proofs.Common.{◌≡◌, ℕ, zero, suc, Bool, true, false, List
 use Rattle.cp_resolved.proofs.Words.{SystemKind, ValueType, no_use, ◌>>=◌, faults, Scopes, enter, start, Step, as_declared, reserve_name, reserve_names, part_steps}
 use Rattle.cp_resolved.proofs.Words.{faults_of, declarations, IsAccepted, local_variable, seen_inside, parameter_variables, nothing_declared, AreDeclared}
 use Rattle.cp_resolved.proofs.Words.{routine_variables, IsRead, initial_meaning, Each, IsFreeVariable, IsFreeParameter}
-use Rattle.cp_tree.specs.Syntax.{Group, ParameterGroup, RoutineKind, procedure, function, Routine, Definition, type_definition, system_definition, SystemDefinition, ProgramPart, program_types, Program, Tree}
+use Rattle.cp_tree.specs.Syntax.{Group, ParameterGroup, RoutineKind, procedure, function, invariants, Routine, Definition, type_definition, system_definition, SystemDefinition, ProgramPart, program_types, Program, Tree}
 use Rattle.cp_check.specs.declared.types.Spot.TheVariants as spot
 use Rattle.cp_check.specs.Headings as headings
 use Rattle.cp_check.specs.Headings.{after_faults, Headed, written, heading, announced_of}
@@ -60,6 +60,7 @@ written_seen s m (procedure gs) none = parameters_seen s (record { parameters = 
 written_seen s m (function gs i) none =
     let d : Step = headings.group_steps s gs in
     groups_seen s (record { parameters = []; scope = m }) gs (none_before d.faults (headings.result_type d.scopes i) none) (tt, tt)
+written_seen s m invariants none = parameters_seen s (record { parameters = []; scope = m }) [] (none_before {A = Option ValueType} (headings.parameter_steps s []).faults (Ok None) none) (tt, tt)
 
 -- ---- routines
 

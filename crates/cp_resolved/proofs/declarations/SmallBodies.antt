@@ -1,9 +1,9 @@
 -- Where the tokens of a program are as a text has them, the numbers in the expressions of its statements are small.
-use Rattle.cp_resolved.proofs.Words.{List, [], ◌∷◌, Kind, Constant, Opening, openings_of, IsRead, Each, IsSmallConstant, IsSmallPart}
+use Rattle.cp_resolved.proofs.Words.{Bool, true, false, List, [], ◌∷◌, Kind, Constant, Opening, openings_of, IsRead, Each, IsSmallConstant, IsSmallPart}
 use Rattle.cp_text.specs.declared.token.Kind.TheVariants as kind
 use Rattle.cp_text.specs.declared.token.Mark.TheVariants as mark
-use Rattle.cp_tree.specs.Syntax.{Expression, alone, related, Sum, sum, Terms, no_terms, more_terms, Term, term, Factors, no_factors, more_factors, Factor, named, group, negated, set_of, Expressions, no_expressions, more_expressions, Designator, designator, Selectors, no_selectors, more_selectors, Selector, field, index, Start, Statement, empty, assign, invoke, block, if_then, if_else, case_of, while_do, repeat_until, for_do, cycle, init, Statements, no_statements, more_statements, Arms, no_arms, more_arms, Arm, arm, Body, Routine, System, Definition, type_definition, system_definition, SystemDefinition, ProgramPart, program_constants, program_types, program_variables, Program}
-use Rattle.cp_tree.specs.Spelling.{put_constant, put_optional, put_behind, put_all, put_separated, put_identifier, put_expression, put_sum, put_terms, put_term, put_factors, put_factor, put_arguments, put_expressions, put_more_expressions, put_designator, put_selectors, put_selector, put_start, put_statement, put_statements, put_more_statements, put_arms, put_more_arms, put_arm, put_part, put_group, put_body, put_routine_kind, put_routine, put_system, put_definition, put_system_definition, put_program_part, relation_mark, direction_mark, spell}
+use Rattle.cp_tree.specs.Syntax.{Expression, alone, related, Sum, sum, Terms, no_terms, more_terms, Term, term, Factors, no_factors, more_factors, Factor, named, group, negated, set_of, Expressions, no_expressions, more_expressions, Designator, designator, Selectors, no_selectors, more_selectors, Selector, field, index, Start, Statement, empty, assign, invoke, block, if_then, if_else, case_of, while_do, repeat_until, for_do, cycle, init, asserted, Statements, no_statements, more_statements, Arms, no_arms, more_arms, Arm, arm, Body, Routine, System, Definition, type_definition, system_definition, SystemDefinition, ProgramPart, program_constants, program_types, program_variables, Program}
+use Rattle.cp_tree.specs.Spelling.{is_nameless, put_routine_by, put_constant, put_optional, put_behind, put_all, put_separated, put_identifier, put_expression, put_sum, put_terms, put_term, put_factors, put_factor, put_arguments, put_expressions, put_more_expressions, put_designator, put_selectors, put_selector, put_start, put_statement, put_statements, put_more_statements, put_arms, put_more_arms, put_arm, put_part, put_group, put_body, put_routine_kind, put_routine, put_system, put_definition, put_system_definition, put_program_part, relation_mark, direction_mark, spell}
 use Rattle.cp_resolved.specs.SmallStatements.{IsSmallStart, IsSmallStatement, AreSmallStatements, AreSmallArms, IsSmallArm}
 use Rattle.cp_resolved.specs.Typed.{IsSmallExpression, IsSmallSum, AreSmallTerms, IsSmallTerm, AreSmallFactors, IsSmallFactor, AreSmallExpressions, IsSmallDesignator, AreSmallSelectors, IsSmallSelector}
 use Rattle.cp_resolved.proofs.agreeing.OpeningsBodies as openings
@@ -123,6 +123,9 @@ mutual
       (expression_small x after first, expression_small y body second, statement_small s r (expression_after y body second).1)
   statement_small (cycle at ss) r e = statements_small ss (kind.Mark mark.End ∷ r) e.1
   statement_small (init at ts) r e = starts_small ts r e.1
+  statement_small (asserted at k x s) r e =
+      let after : List Kind = kind.Mark mark.Closes ∷ put_statement s r in
+      (expression_small x after e.1, statement_small s r (expression_after x after e.1).1)
 
   pub statements_small : (x : Statements) (r : List Kind) → AreScanned (put_statements x r) → AreSmallStatements x
   statements_small no_statements r e = tt
@@ -148,13 +151,17 @@ mutual
 body_small : (b : Body) (r : List Kind) → AreScanned (put_body b r) → AreSmallStatements b.statements
 body_small b r e = statements_small b.statements (kind.Mark mark.End ∷ r) e.1
 
-routine_body : (x : Routine) (r : List Kind) → AreScanned (put_routine x r) → OfRoutine AreSmallStatements x × AreScanned r
-routine_body x r e =
+routine_by : (b : Bool) (x : Routine) (r : List Kind) → AreScanned (put_routine_by b x r) → OfRoutine AreSmallStatements x × AreScanned r
+routine_by true x r e = (statements_small x.body.statements r e, statements_after x.body.statements r e)
+routine_by false x r e =
     let last : List Kind = kind.Mark mark.Semicolon ∷ r in
     let inside : List Kind = put_all put_part x.parts (put_body x.body last) in
     let after_name : AreScanned (put_routine_kind x.kind (kind.Mark mark.Semicolon ∷ inside)) = (optional_small mark.Entry x.is_entry (put_identifier x.name (put_routine_kind x.kind (kind.Mark mark.Semicolon ∷ inside))) e.1).1 in
     let p : AreScanned (put_body x.body last) = (each_small put_part IsSmallPart part_small x.parts (put_body x.body last) (kind_after x.kind (kind.Mark mark.Semicolon ∷ inside) after_name).1).1 in
     (body_small x.body last p, (body_after x.body last p).1)
+
+routine_body : (x : Routine) (r : List Kind) → AreScanned (put_routine x r) → OfRoutine AreSmallStatements x × AreScanned r
+routine_body x r e = routine_by (is_nameless x.kind) x r e
 
 system_bodies : (x : System) (r : List Kind) → AreScanned (put_system x r) → OfSystem AreSmallStatements x × AreScanned r
 system_bodies x r e =

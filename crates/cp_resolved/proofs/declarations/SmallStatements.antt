@@ -2,7 +2,7 @@
 use Rattle.cp_resolved.proofs.Words.{List, [], ◌∷◌, Option, Some, None, Kind, Constant, Sign}
 use Rattle.cp_text.specs.declared.token.Kind.TheVariants as kind
 use Rattle.cp_text.specs.declared.token.Mark.TheVariants as mark
-use Rattle.cp_tree.specs.Syntax.{Expression, alone, related, Sum, sum, Terms, no_terms, more_terms, Term, term, Factors, no_factors, more_factors, Factor, named, group, negated, set_of, Expressions, no_expressions, more_expressions, Designator, designator, Selectors, no_selectors, more_selectors, Selector, field, index, Start, Statement, empty, assign, invoke, block, if_then, if_else, case_of, while_do, repeat_until, for_do, cycle, init, Statements, no_statements, more_statements, Arms, no_arms, more_arms, Arm, arm}
+use Rattle.cp_tree.specs.Syntax.{Expression, alone, related, Sum, sum, Terms, no_terms, more_terms, Term, term, Factors, no_factors, more_factors, Factor, named, group, negated, set_of, Expressions, no_expressions, more_expressions, Designator, designator, Selectors, no_selectors, more_selectors, Selector, field, index, Start, Statement, empty, assign, invoke, block, if_then, if_else, case_of, while_do, repeat_until, for_do, cycle, init, asserted, Statements, no_statements, more_statements, Arms, no_arms, more_arms, Arm, arm}
 use Rattle.cp_tree.specs.Spelling.{put_behind, put_all, put_separated, put_sign, put_constant, put_optional, put_expression, put_sum, put_terms, put_term, put_factors, put_factor, put_arguments, put_expressions, put_more_expressions, put_designator, put_selectors, put_selector, put_start, put_statement, put_statements, put_more_statements, put_arms, put_more_arms, put_arm, relation_mark, direction_mark}
 use Rattle.cp_resolved.proofs.declarations.SmallTokens.{AreScanned, optional_small, constant_small}
 
@@ -99,6 +99,7 @@ mutual
       statement_after s r (expression_after y body (expression_after x (kind.Mark (direction_mark d) ∷ put_expression y body) e.1.1.1).1).1
   statement_after (cycle at ss) r e = (statements_after ss (kind.Mark mark.End ∷ r) e.1).1
   statement_after (init at ts) r e = starts_after ts r e.1
+  statement_after (asserted at k x s) r e = statement_after s r (expression_after x (kind.Mark mark.Closes ∷ put_statement s r) e.1).1
 
   pub statements_after : (x : Statements) (r : List Kind) → AreScanned (put_statements x r) → AreScanned r
   statements_after no_statements r e = e

@@ -1,17 +1,17 @@
 -- Where all tokens are as a text has them, the numbers and characters of the constants, types and parts that they spell are small.
-use Rattle.cp_resolved.proofs.Words.{◌≤◌, Bool, true, false, List, [], ◌∷◌, Some, None, Kind, Identifier, ConstantKind, IsWord, Mark}
+use Rattle.cp_resolved.proofs.Words.{◌≡◌, ◌≤◌, Bool, true, false, List, [], ◌∷◌, Some, None, Kind, Identifier, ConstantKind, IsWord, Mark}
 use Rattle.cp_text.specs.declared.token.Kind.TheVariants as kind
 use Rattle.cp_text.specs.declared.token.Mark.TheVariants as mark
 use Rattle.cp_tree.specs.declared.constant.ConstantKind.TheVariants as constant_kind
-use Rattle.cp_tree.specs.Syntax.{Simple, type_name, enumeration, subrange, TypeTerm, simple, array_of, set_type, record_of, FieldGroups, no_fields, more_fields, FieldGroup, fields, ConstantDefinition, TypeDefinition, VariableGroup, Part, constants, types, variables}
+use Rattle.cp_tree.specs.Syntax.{nameless, Simple, type_name, enumeration, subrange, TypeTerm, simple, array_of, set_type, record_of, FieldGroups, no_fields, more_fields, FieldGroup, fields, ConstantDefinition, TypeDefinition, VariableGroup, Part, constants, types, variables}
 use Rattle.cp_tree.specs.Spelling.{put_identifier, put_behind, put_all, put_names, put_constant_kind, put_simple, put_type, put_field_groups, put_more_field_groups, put_field_group, put_optional, put_constant_definition, put_type_definition, put_variable_group, put_part}
 use Rattle.cp_resolved.specs.Small.{Each, IsSmallConstant, IsSmallSimple, IsSmallType, AreSmallGroups, IsSmallGroup, IsSmallPart}
 
--- numbers and characters are small, and no name begins with the code 0
+-- numbers and characters are small, and no name begins with the code 0 or is that of a routine without one
 abbrev pub IsScanned : Kind → Type 0
 IsScanned (kind.Number n) = n ≤ 32767
 IsScanned (kind.Character c) = c ≤ 127
-IsScanned (kind.Name x) = IsWord x
+IsScanned (kind.Name x) = IsWord x × (x ≡ nameless → ⊥)
 IsScanned k = Unit {0}
 
 abbrev pub AreScanned : List Kind → Type 0

@@ -219,8 +219,14 @@ module _ (tokens : Tokens) (s : Scopes) (h : Here) (w : Context) (agrees : Scope
       let c = calls.entry_faults name_at b (heading_at n s).is_entry in
       let d = calls.own_faults name_at w n in
       let e = calls.delay_faults name_at w b (body_at n s) in
-      let f : Fitted (heading_at n s).parameters os = fitted at (heading_at n s).parameters os (none_left a (c ++ (d ++ (e ++ assignable_faults (heading_at n s).parameters os))) none) in
-      record { fit = f; variables = assigned (heading_at n s).parameters os f.many (none_right e (assignable_faults (heading_at n s).parameters os) (none_right d (e ++ assignable_faults (heading_at n s).parameters os) (none_right c (d ++ (e ++ assignable_faults (heading_at n s).parameters os)) (none_right a (c ++ (d ++ (e ++ assignable_faults (heading_at n s).parameters os))) none)))) }
+      let p = calls.quiet_faults at w (not b) in
+      let q = calls.quiet_faults at w b in
+      let last = assignable_faults (heading_at n s).parameters os in
+      let f : Fitted (heading_at n s).parameters os = fitted at (heading_at n s).parameters os (none_left a (p ++ (c ++ (d ++ (e ++ (q ++ last))))) none) in
+      let after_fit : p ++ (c ++ (d ++ (e ++ (q ++ last)))) ≡ [] = none_right a (p ++ (c ++ (d ++ (e ++ (q ++ last))))) none in
+      let after_entry : d ++ (e ++ (q ++ last)) ≡ [] = none_right c (d ++ (e ++ (q ++ last))) (none_right p (c ++ (d ++ (e ++ (q ++ last)))) after_fit) in
+      let after_delay : q ++ last ≡ [] = none_right e (q ++ last) (none_right d (e ++ (q ++ last)) after_entry) in
+      record { fit = f; variables = assigned (heading_at n s).parameters os f.many (none_right q last after_delay) }
 
   -- of a routine that the designator names
   pub call_given : (at name_at : ℕ) (b : Bool) (n : ℕ) (os : List Operand) (u r : Use) (d : Designator) (es : Expressions) (o : Option RoutineMeaning) → routine_called h.program h.scope d ≡ o → HeadingIs W (heading_at n s) o → AreSmallExpressions es → (length (heading_at n s).parameters ≡ length os → AreArguments (heading_at n s).parameters es os) → calls.called s w at name_at b n os u ≡ Ok r → CallFormed h d es

@@ -6,7 +6,7 @@ use Rattle.cp_resolved.proofs.Words.{variable_faults, all_variable_faults, Heard
 use Rattle.cp_resolved.proofs.Words.{CallFormed, Item, Here, Each, IsBare, IsOne, IsUsed, AreUsed, SelectorsUsed, Target, starts_calls, calls_laid, all_calls_laid}
 use Rattle.cp_resolved.proofs.Words.{arms_calls_laid, arm_calls_laid, Designated, a_variable, a_component, begun_form, designator_form, expression_form, HasOrdinal}
 use Rattle.cp_resolved.proofs.Words.{IsPerformed, IsSmallStart, IsSmallStatement, AreSmallStatements, AreSmallArms, IsSmallArm, first_of}
-use Rattle.cp_tree.specs.Syntax.{Expression, Expressions, no_expressions, more_expressions, Designator, designator as name_with, Selectors, no_selectors, Start, Statement, empty, assign, invoke, block, if_then, if_else, case_of, while_do, repeat_until, for_do, cycle, init, Statements, no_statements, more_statements, Arms, no_arms, more_arms, Arm, arm}
+use Rattle.cp_tree.specs.Syntax.{Expression, Expressions, no_expressions, more_expressions, Designator, designator as name_with, Selectors, no_selectors, Start, Statement, empty, assign, invoke, block, if_then, if_else, case_of, while_do, repeat_until, for_do, cycle, init, asserted, Statements, no_statements, more_statements, Arms, no_arms, more_arms, Arm, arm}
 use Rattle.cp_scope.specs.declared.types.Base.TheVariants as base
 use Rattle.cp_scope.specs.declared.types.ValueType.TheVariants as types
 use Rattle.cp_scope.specs.declared.types.Parameter as check_parameter
@@ -15,6 +15,8 @@ use Rattle.cp_check.specs.declared.operand.DesignatedName as check_designated
 use Rattle.cp_check.specs.declared.operand.Named.TheVariants as name
 use Rattle.cp_check.specs.declared.statement.Target.TheVariants as target
 use Rattle.cp_check.specs.declared.operand.OperandUse.TheVariants as place
+use Rattle.cp_tree.specs.View.{expression_at}
+use Rattle.cp_check.specs.Operands.{quiet}
 use Rattle.cp_check.specs.Names as names
 use Rattle.cp_check.specs.Calls as calls
 use Rattle.cp_check.specs.Cases as cases
@@ -34,6 +36,7 @@ use Rattle.cp_resolved.proofs.forms.FormedTargets.{aimed_is, Assigns, either_ref
 use Rattle.cp_resolved.proofs.forms.GivenArguments.{procedure_arguments, AreArguments, Fitted, fitted, passed, plain_arguments, all_given, call_given, called_passed, Passed}
 use Rattle.cp_resolved.proofs.forms.HandedOver.{fitting}
 use Rattle.cp_resolved.proofs.forms.MovedTypes.{type_moved}
+use Rattle.cp_resolved.proofs.forms.Quiet.{expression_follows}
 use Rattle.cp_resolved.proofs.forms.TypingExpressions.{expression_typed, designator_named}
 use Rattle.cp_resolved.proofs.forms.TypingNames.{IsComponentMeaning, Holds, written, NamedIs, HasDesignated, begun_typed}
 use Rattle.cp_resolved.proofs.forms.TypingOperations.{boolean_found}
@@ -380,6 +383,15 @@ module _ (tokens : Tokens) (s : Scopes) (h : Here) (w : Context) (agrees : Scope
       let y = start_formed t m.0 k.value.1 lower.1 b.second in
       record { value = k.value.0; is = b.first; below = lower.0; rest = ((y.0, x.rest.0), calls_both (starts_calls h.scope ts) (designator_calls h.scope t.target ++ expressions_calls h.scope t.arguments) x.rest.1 y.1, (y.1.1, x.rest.2)) }
 
+  -- what an annotation says has the form of a test
+  asserted_test : (e : Expression) → IsSmallExpression e → (r : Use) → Below waits r → statements.assertion s w e ≡ Ok r → TestFormed h e × CallsFine (expression_calls h.scope e)
+  unfolding statements.assertion
+  asserted_test e m r low is =
+      let test : Operand → Judged Use = λ o. statements.tested (expression_at e) o o.uses in
+      let k : Then (expression s (quiet w) false e) test r = then_of (expression s (quiet w) false e) test r is in
+      let x : Judgement e k.value = judged e m k.value (tested_below (expression_at e) k.value k.value.uses r low k.rest) (expression_follows s w false e k.value k.is) in
+      (test_of (expression_at e) e k.value k.value.uses r x k.rest, x.calls)
+
   -- the forms of a statement, the calls of functions in it, and what the rules say of it
   abbrev pub StatementFine : Statement → Type 0
   StatementFine t = StatementFormed h t × CallsFine (calls_laid h.scope t) × StatementSaid s w waits h.scope t
@@ -433,6 +445,14 @@ module _ (tokens : Tokens) (s : Scopes) (h : Here) (w : Context) (agrees : Scope
     statement_formed (init at ts) m r low is =
         let k : Then (statements.starts s w (Ok no_use) ts) (statements.initial at w) r = then_of (statements.starts s w (Ok no_use) ts) (statements.initial at w) r is in
         (let x = starts_formed ts m (Ok no_use) k.value (subst (Below waits) (sym (initial_same s w waits h.scope at w.routine k.value r k.rest)) low) k.is in x.rest)
+    statement_formed (asserted at k e t) m r low is =
+        let j : Judged Use = statements.assertion s w e in
+        let c : Then (both j (statement s w t)) statements.together r = then_of (both j (statement s w t)) statements.together r is in
+        let b = both_of j (statement s w t) c.value c.is in
+        let lower = together_below s w waits h.scope c.value r c.rest low in
+        let x = asserted_test e m.0 c.value.0 lower.0 b.first in
+        let y = statement_formed t m.1 c.value.1 lower.1 b.second in
+        ((x.0, y.0), calls_both (calls_laid h.scope t) (expression_calls h.scope e) y.1 x.1, (x.1.1, y.2))
     statement_formed (case_of at e as' b) m r low is =
         let j : Judged (List Label × Use) = statements.arms s w (Ok ([], no_use)) as' in
         let k : Then (both (expression s w false e) j) (cases.chosen at) r = then_of (both (expression s w false e) j) (cases.chosen at) r is in

@@ -240,6 +240,7 @@ module _ (k : Numbering) (all : Compounds) (counted : Counted all) where
       let d : Frames (heading l x (syntax.function gs j)).1 (parameters_by false c.parameters ++ one_variable result_name t ∷ []) (parameters_by true c.parameters) =
       (let e = result_framed k p.1 result_name t (laid.named_type p.1 j.name) (parameters_by false c.parameters) (parameters_by true c.parameters) (named_type_same k p.1 c.scope j.name a.names) (counted_first p.1.types all y counted) has b in record { free = e.free; image = e.image; extents = e.extents; lying = e.lying }) in
       d
+  heading_framed l s x syntax.invariants i y f has h = h
 
   -- the cell of a function's result is the one after its parameters
   abbrev pub SlotIs : List Variable → Option Ty → Option FunctionResult → Type 0
@@ -254,6 +255,7 @@ module _ (k : Numbering) (all : Compounds) (counted : Counted all) where
   heading_slot l s x (syntax.function gs j) i y f h =
       let b : Headed (constant_groups l [] gs).1 (meant.with_groups local_variable (record { parameters = []; scope = s }) gs).parameters = constant_groups_framed l (record { parameters = []; scope = s }) [] gs i y f h in
       ap (λ zs. length zs) b.image ∙ images_length (parameters_by false (meant.with_groups local_variable (record { parameters = []; scope = s }) gs).parameters) b.free
+  heading_slot l s x syntax.invariants i y f h = tt
 
   -- ---- a routine
 

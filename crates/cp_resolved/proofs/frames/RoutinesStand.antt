@@ -1,7 +1,7 @@
 -- The routines and initial statements of the tables of a tree stand for those of the tree.
 use Rattle.std.proofs.Common.{◌≡◌, ◌+◌, ◌<◌, ◌≤◌, ℕ, true, false, List, ◌++◌, length, Option, Some, None, slice_get, refl, sym, ap, subst, ◌∙◌, arith, length-append}
 use Rattle.cp_tree.specs.Syntax as syntax
-use Rattle.cp_resolved.proofs.Words.{LayoutMeaning, most, PlainTables, plain, laid, Layer, System, nothing_laid, own_result, routine_of, statements, Tables, RoutineView}
+use Rattle.cp_resolved.proofs.Words.{LayoutMeaning, most, PlainTables, plain, laid, Layer, System, nothing_laid, own_result, routine_of, Tables, RoutineView}
 use Rattle.cp_resolved.proofs.Words.{routine_at, no_routine, Name, result_name, Ty, has_components, permanent_variable, find, Variable, RoutineMeaning, routine_in}
 use Rattle.cp_resolved.proofs.Words.{result_type, program_system, system_of, all_begun, ground_of, BodyFormed, all_calls_laid, routine_variables, system_variables}
 use Rattle.cp_resolved.proofs.Words.{IsFramed, Numbering, InStep, FoundIs, look, is_named, IsPlaced, place_of, openings_of, meaning_in, meaning_at, numbering_of}
@@ -18,7 +18,7 @@ use Rattle.cp_resolved.proofs.frames.FrameFits.{routine_fits}
 use Rattle.cp_resolved.proofs.frames.FrameOfTables.{last_result, no_call, result_found, slot_before, IsLeft, frame_there}
 use Rattle.cp_resolved.proofs.frames.FrameSteps.{Frames}
 use Rattle.cp_resolved.proofs.frames.FramesBegun.{RoutineFits, SlotIs, all_locals}
-use Rattle.cp_resolved.proofs.laid.Grown.{statements_grew}
+use Rattle.cp_resolved.proofs.laid.Grown.{body_grew}
 use Rattle.cp_resolved.proofs.names.Opened.{opened_all}
 use Rattle.cp_resolved.proofs.names.ResultKnown.{with_own_name}
 use Rattle.cp_resolved.proofs.counts.RoutinesCounted.{Many, all_many}
@@ -31,7 +31,8 @@ use Rattle.cp_resolved.proofs.systems.SystemKnown.{found_among}
 use Rattle.cp_resolved.proofs.systems.SystemsStand.{SeatAt, seat_at, seats_many}
 use Rattle.cp_resolved.proofs.names.TreeKnown.{Opens, opens_of, layouts_law}
 use Rattle.cp_resolved.proofs.laid.Whole.{program_laid}
-use Rattle.cp_resolved.proofs.laid.ZeroCells.{Zeros, statements_zeroed}
+use Rattle.cp_resolved.proofs.laid.ZeroCells.{Zeros, body_zeroed}
+use Rattle.cp_resolved.specs.ItemsStand.{body_items}
 
 -- only a function has a name of its own
 result_of_name : (x : Name) (y : Option Name) (o : Option Ty) → is_named x (name_with y o) ≡ true → o ≡ Some (result_type o)
@@ -76,20 +77,20 @@ module _ (t : syntax.Tree) (r : Tables) (same : plain r ≡ laid t) (few : lengt
   -- ---- the routine of the tables
 
   abbrev done : Option ℕ × Layer
-  done = statements l m.body
+  done = body_items l m.body m.checks
 
   abbrev view : RoutineView
   view = routine_of done.1 done.0
 
   view_there : routine_at r n ≡ view
   view_there =
-      let routine : slice_get end.routines n ≡ Some view = subst (λ (q : RoutineMeaning). slice_get end.routines n ≡ Some (routine_of (statements l q.body).1 (statements l q.body).0)) (sym (ap (meaning_in _) begun.opened)) begun.ends.there in
+      let routine : slice_get end.routines n ≡ Some view = subst (λ (q : RoutineMeaning). slice_get end.routines n ≡ Some (routine_of (body_items l q.body q.checks).1 (body_items l q.body q.checks).0)) (sym (ap (meaning_in _) begun.opened)) begun.ends.there in
       entry_at r.routines n no_routine view (ap (λ rs. slice_get rs n) (ap (λ (q : PlainTables). q.routines) same ∙ laid_routines t) ∙ routine)
 
   left : IsLeft m l view
   left =
-      let z : Zeros l done.1 = statements_zeroed l m.body in
-      let laid_out : AreLaid k (place_of t n) (ground_of r t) l m.body = statements_law k (place_of t n) (ground_of r t) l m.body few (λ at. refl) begun.around begun.can in
+      let z : Zeros l done.1 = body_zeroed l m.body m.checks in
+      let laid_out : AreLaid k (place_of t n) (ground_of r t) l m.body m.checks = statements_law k (place_of t n) (ground_of r t) l m.body m.checks few (λ at. refl) begun.around begun.can in
       record {
         zeros = z.zeros;
         are = z.are;
@@ -97,7 +98,7 @@ module _ (t : syntax.Tree) (r : Tables) (same : plain r ≡ laid t) (few : lengt
         cells = laid_out.cells;
         extents = z.extents;
         references = refl;
-        result = ap own_result (statements_grew l m.body).1;
+        result = ap own_result (body_grew l m.body m.checks).1;
       }
 
   -- ---- its frame
@@ -125,7 +126,7 @@ module _ (t : syntax.Tree) (r : Tables) (same : plain r ≡ laid t) (few : lengt
   -- ---- its system type
 
   system_is : (routine_at r n).system ≡ (layouts_of t).owners n
-  system_is = ap (λ (v : RoutineView). v.system) view_there ∙ ap (λ (q : Layer). length q.systems) (statements_grew l m.body).1 ∙ seat.seated.system ∙ sym owner_is
+  system_is = ap (λ (v : RoutineView). v.system) view_there ∙ ap (λ (q : Layer). length q.systems) (body_grew l m.body m.checks).1 ∙ seat.seated.system ∙ sym owner_is
 
   owner_below : Many t → (layouts_of t).owners n ≤ program_system p
   owner_below many =

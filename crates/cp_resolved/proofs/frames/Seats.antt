@@ -3,7 +3,7 @@
 use Rattle.std.proofs.Common.{◌≡◌, ◌+◌, ◌-◌, inl, inr, ℕ, suc, true, false, List, [], ◌∷◌, ◌++◌, length, Option, Some, None, slice_get, slice_index_or, refl, sym, ap, subst, ◌∙◌, arith, append-nil}
 use Rattle.cp_tree.specs.Syntax as syntax
 use Rattle.cp_resolved.proofs.Words.{PlaceOrigin, CellType, LayoutMeaning, Compounds, system_types, Layer, System, Parameters, heading_with, routine, routines, no_system}
-use Rattle.cp_resolved.proofs.Words.{Name, Scope, permanent_variable, local_variable, Variable, Parameter, Heading, routine_in, with_group, with_groups}
+use Rattle.cp_resolved.proofs.Words.{Name, Scope, permanent_variable, Variable, Parameter, Heading, routine_in, with_group, with_groups}
 use Rattle.cp_resolved.proofs.Words.{parameter_variables, SystemMeaning, system_in, with_routines, system_of, routine_begun, routines_begun, initial_begun, each_in}
 use Rattle.cp_resolved.proofs.Words.{in_routine, routine_variables, system_variables, Numbering, InStep, FoundIs, initial_meaning, Each, IsSmallRoutine, AreNumbered}
 use Rattle.cp_resolved.proofs.Words.{IsParameter, AreParameters, initial_or, components_among, parameters_by}
@@ -17,7 +17,7 @@ use Rattle.cp_resolved.proofs.laid.Extends.{Longer, longer_trans, routines_exten
 use Rattle.cp_resolved.proofs.frames.FrameSteps.{AreLying, Lies, Frames}
 use Rattle.cp_resolved.proofs.frames.FramesBegun.{RoutineFits, SlotIs, all_locals, routine_framed, routine_slot}
 use Rattle.cp_resolved.proofs.names.EntriesKnown.{heading_of, begun_headings}
-use Rattle.cp_resolved.proofs.laid.Grown.{statements_grew}
+use Rattle.cp_resolved.proofs.laid.Grown.{body_grew}
 use Rattle.cp_resolved.proofs.systems.PermanentCells.{Holds, AreHolding, Owns, Follow, Firsts}
 use Rattle.cp_resolved.proofs.agreeing.ScopeVariables.{AreOf, of_local, of_permanent, local_parts_of, local_groups_of, local_parameters_of, permanent_parts_of, permanent_groups_of}
 use Rattle.cp_resolved.proofs.names.Steps.{found_in}
@@ -71,6 +71,7 @@ routine_of ps s r h =
     headed : (q : syntax.RoutineKind) → AreOf (parameter_variables (meant.heading_of (with_routine s r) q).parameters) ps (meant.heading_of (with_routine s r) q).scope
     headed (syntax.procedure gs) = local_parameters_of [] ps (record { parameters = []; scope = with_routine s r }) gs (tt, h)
     headed (syntax.function gs i) = local_groups_of [] ps (record { parameters = []; scope = with_routine s r }) gs (tt, h)
+    headed syntax.invariants = local_parameters_of [] ps (record { parameters = []; scope = with_routine s r }) [] (tt, h)
 
 -- and in a system type
 pub system_parts_of : (s : Scope) (d : syntax.System) → AreOf [] [] s → AreOf [] (system_variables (system_in s d)) (parts_scope s d)
@@ -161,7 +162,7 @@ module _ (k : Numbering) (p : syntax.Program) (end : Layer) (counted : Counted e
       let b : Reached k l m t (in_routine r) = routine_reached k l s r h.0 e o.0 i in
       let next : AreOpened k.routines (length m.routines) (routine_openings owner t rs) = subst (λ j. AreOpened k.routines j (routine_openings owner t rs)) (sym (routine_count l r)) o.1 in
       let later : IsBefore m = longer_trans m.types (routines m rs).types end.types (routines_extend m rs).types x in
-      let begun : IsBefore (routine_begun l r) = subst (λ ts. Longer ts end.types) (ap (λ (j : Layer). j.types) (statements_grew (routine_begun l r) r.body.statements).1) later in
+      let begun : IsBefore (routine_begun l r) = subst (λ ts. Longer ts end.types) (ap (λ (j : Layer). j.types) (body_grew (routine_begun l r) r.body.statements r.is_entry).1) later in
       let named : InStep k l.types ((r.name.name, meaning.Routine (length l.routines)) ∷ l.names) t = (refl, (length l.routines, refl, o.0), i) in (
         record {
           framed = λ f. routine_framed k end.types counted l s r h.0 e o.0 i begun f (nothing_lies k l.types ps ((r.name.name, meaning.Routine (length l.routines)) ∷ l.names) t named (tt, v));

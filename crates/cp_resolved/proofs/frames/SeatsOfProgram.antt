@@ -2,7 +2,7 @@
 use Rattle.std.proofs.Common.{◌≡◌, ◌+◌, ◌-◌, ℕ, suc, false, List, [], ◌∷◌, ◌++◌, length, None, slice_get, slice_index_or, refl, sym, ap, subst, ◌∙◌, arith, append-nil}
 use Rattle.cp_tree.specs.Syntax as syntax
 use Rattle.cp_symbols.specs.declared.names.LayoutMeaning.TheVariants as meaning
-use Rattle.cp_resolved.proofs.Words.{system_type, types_of, system_types, Layer, System, nothing_laid, written_type, SystemView, no_system, permanent_variable}
+use Rattle.cp_resolved.proofs.Words.{system_type, types_of, system_types, Layer, System, nothing_laid, written_type, SystemView, no_system, permanent_variable, true}
 use Rattle.cp_resolved.proofs.Words.{predeclared, Variable, Parameter, parameter_variables, Enumerated, each_in, in_routine, in_program_part, enumerations_of, IsFitPart}
 use Rattle.cp_resolved.proofs.Words.{AreFitParts, nothing_declared, system_variables, Numbering, InStep, initial_meaning, Each, IsSmallProgramPart, IsSmallProgram}
 use Rattle.cp_resolved.proofs.Words.{AreNumbered, IsParameter, routines_begun, initial_begun, part_begun, program_parts_begun, all_begun}
@@ -163,7 +163,7 @@ all_seated k t counted h f e o =
     let last : AreOpened k.routines (length m.routines + length ps) qs = opened_right k.routines (length m.routines) ps qs after in
     let many : length m.routines + length ps ≡ length b.routines = omega (arith, openings_count (program_system p) d.scope p.routines, routines_count m p.routines) in
     let numbered : AreNumbered k.firsts (length m.constants) fs = numbered_after k l.constants m.constants es fs a.constants e in
-    let same : end.systems ≡ m.systems = body_systems (with_heading (with_new_frame b) (heading_with [] [] None)) p.body ∙ routines_systems m p.routines in
+    let same : end.systems ≡ m.systems = body_systems (with_heading (with_new_frame b) (heading_with [] [] None)) p.body true ∙ routines_systems m p.routines in
     let y : Longer m.systems end.systems = ([], same ∙ sym (append-nil m.systems)) in
     let xb : Longer b.types end.types = (initial_extends b [] p.body).types in
     let x : Longer m.types end.types = longer_trans m.types b.types end.types (routines_extend m p.routines).types xb in
@@ -176,12 +176,12 @@ all_seated k t counted h f e o =
     let second : AreSeated k p end counted (routines_begun m p.routines) ps = routines_seated k p end counted m d.scope n p.routines h.1 numbered opened a.standing.names len visible xb in
     let third : Seated k p end counted (initial_begun b []) (initial_opening n (own_meaning d p)) = initial_seated k p end counted b [] n (own_meaning d p) (program_reached k t.lines p h f e o).names (ap (λ (ss : List System). length ss) (routines_systems m p.routines) ∙ len) (routines_of [] (system_variables (system_of p n)) d.scope p.routines visible) in
     let gone : slice_get end.systems n ≡ None = ap (λ ss. slice_get ss n) same ∙ ap (λ j. slice_get m.systems j) (sym len) ∙ past_there m.systems in
-    let count : length end.routines ≡ suc (length b.routines) = body_count (with_heading (with_new_frame b) (heading_with [] [] None)) p.body in
+    let count : length end.routines ≡ suc (length b.routines) = body_count (with_heading (with_new_frame b) (heading_with [] [] None)) p.body true in
     let initial : initial_number k p end counted n ≡ length b.routines = ap (initial_or (length end.routines - 1)) gone ∙ omega (arith, count) in
     let number : k.routines (length b.routines) ≡ initial_meaning (own_meaning d p) = ap k.routines (sym many) ∙ last.0 in
     let start : Owns l [] = record { cells = omega arith; holding = nothing_held k [] l.names predeclared (outermost_in k []) nothing_of } in
     let count_types : length (types_of end.systems) ≡ n = types_length end.systems ∙ ap (λ (ss : List System). length ss) same ∙ len in
-    let cells : end.owned.cells ≡ m.owned.cells = ap (λ (q : layers.Owned). q.cells) (body_owned (with_heading (with_new_frame b) (heading_with [] [] None)) p.body ∙ routines_owned m p.routines) in
+    let cells : end.owned.cells ≡ m.owned.cells = ap (λ (q : layers.Owned). q.cells) (body_owned (with_heading (with_new_frame b) (heading_with [] [] None)) p.body true ∙ routines_owned m p.routines) in
     let own : Settled k p end counted n m = record {
       statement = ap k.routines initial ∙ number ∙ ap initial_meaning (sym whole);
       cells = ap (λ (q : SystemView). q.own) (ap (λ j. slice_index_or (system_types end.systems end.owned) j no_system) (sym count_types) ∙ last_entry_of (types_of end.systems) (system_type end.owned)) ∙ cells;

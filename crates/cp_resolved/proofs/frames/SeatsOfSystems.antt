@@ -1,5 +1,5 @@
 -- The seats of system types and of the whole program.
-use Rattle.cp_resolved.proofs.Words.{◌≡◌, ◌+◌, ◌-◌, ℕ, zero, suc, false, List, [], ◌∷◌, ◌++◌, length, Some, slice_get, sym, ap, subst, ◌∙◌, arith, append-nil}
+use Rattle.cp_resolved.proofs.Words.{◌≡◌, ◌+◌, ◌-◌, ℕ, zero, suc, false, List, [], ◌∷◌, ◌++◌, length, Some, slice_get, sym, ap, subst, ◌∙◌, arith, append-nil, true}
 use Rattle.cp_resolved.proofs.Words.{system_type, types_of, system_types, Layer, System, SystemView, no_system, Scope, permanent_variable, seen_inside, Parameter}
 use Rattle.cp_resolved.proofs.Words.{Heading, with_groups, parameter_variables, Enumerated, each_in, in_part, in_routine, in_definition, IsFitDefinition}
 use Rattle.cp_resolved.proofs.Words.{AreFitDefinitions, system_variables, Numbering, InStep, initial_meaning, Each, IsSmallSystem, IsSmallDefinition, AreNumbered}
@@ -103,7 +103,7 @@ module _ (k : Numbering) (p : syntax.Program) (end : Layer) (counted : Counted e
           )
 
       ended_systems : ended.systems ≡ l.systems
-      ended_systems = body_systems (initial_begun b ps) s.body ∙ routines_systems z s.routines ∙ groups_systems l s
+      ended_systems = body_systems (initial_begun b ps) s.body true ∙ routines_systems z s.routines ∙ groups_systems l s
 
       made_there : slice_get end.systems n ≡ Some made
       unfolding system
@@ -112,7 +112,7 @@ module _ (k : Numbering) (p : syntax.Program) (end : Layer) (counted : Counted e
           ap (λ ss. slice_get ss n) y.1 ∙ ap (λ j. slice_get ((ended.systems ++ made ∷ []) ++ y.0) j) (sym len) ∙ still_there (ended.systems ++ made ∷ []) y.0 (length ended.systems) made (last_entry ended.systems made)
 
       ended_cells : ended.owned.cells ≡ z.owned.cells
-      ended_cells = ap (λ (q : layers.Owned). q.cells) (body_owned (initial_begun b ps) s.body ∙ routines_owned z s.routines)
+      ended_cells = ap (λ (q : layers.Owned). q.cells) (body_owned (initial_begun b ps) s.body true ∙ routines_owned z s.routines)
 
       pub system_settled : Settled k p end counted n z
       system_settled =

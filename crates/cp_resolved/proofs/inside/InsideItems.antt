@@ -155,6 +155,7 @@ module _ (t : Tables) (h : Here) (r : RoutineView) (P : ℕ → Type 0) (v : Var
   means_inside (code.copy_cells p q size) i m = let z = assigns_inside (code.copy_cells p q size) m in both (has size (place_in r q)) (has size (place_in r p)) z.0 z.1
   means_inside (code.choose c list other) i m = cell_inside c m
   means_inside (code.select c arms) i m = cell_inside c m
+  means_inside (code.assert_that c said) i m = cell_inside c m
   means_inside (code.while_do c list again) i m = cell_inside c m
   means_inside (code.until c list again) i m = cell_inside c m
   means_inside (code.for_do o low high from to down list) i m = both (has 1 (room_from r o)) (expression_in r from && expression_in r to) (counter_inside o m.0) (both (expression_in r from) (expression_in r to) (cell_inside from m.1) (cell_inside to m.2))

@@ -1,6 +1,6 @@
 -- Each item of tables that stand for a tree is inside what it names, and the components that it names are of the types that it wants.
 use Rattle.std.proofs.Common.{◌≡◌, ◌+◌, ◌-◌, ◌<◌, ◌≤◌, ◌-ℤ◌, unsigned_abs, ℕ, zero, suc, nat_lt, Bool, true, false, if◌then◌else◌, List, [], ◌∷◌, ◌++◌, length, Option, Some, None, slice_get, slice_index_or, refl, sym, ap, subst, ◌∙◌, ◌⊎◌, inl, inr, arith, rules}
-use Rattle.cp_resolved.proofs.Words.{same_Some, slice_get_within, Tree, PlaceOrigin, most, plain, system_types, laid, Layer, statements, ActionNames, Name, result_name}
+use Rattle.cp_resolved.proofs.Words.{same_Some, slice_get_within, Tree, PlaceOrigin, most, plain, system_types, laid, Layer, ActionNames, Name, result_name}
 use Rattle.cp_resolved.proofs.Words.{Ty, length_of_range, has_components, Parameter, RoutineMeaning, result_type, system_of, program_system, all_begun, ground_of}
 use Rattle.cp_resolved.proofs.Words.{component_begun, place_of, Means, IsSizedMeaning, Opening, openings_of, meaning_in, meaning_at, numbering_of, Each, layouts_of}
 use Rattle.cp_resolved.proofs.Words.{IsFull, Tables, RoutineView, SystemView, item_at, routine_at, system_at, no_system}
@@ -31,6 +31,7 @@ use Rattle.cp_resolved.proofs.sound.SoundComponents.{Tabled, tabled, layer_of, l
 use Rattle.cp_resolved.proofs.sound.SoundItems.{item_there, routine_there, routines_length}
 use Rattle.cp_resolved.proofs.items.StatementsStand.{statements_mean}
 use Rattle.cp_resolved.proofs.laid.Whole.{Whole, HasRoom, program_laid}
+use Rattle.cp_resolved.specs.ItemsStand.{body_items}
 
 extent_there : (es : List ℕ) (n : ℕ) → n < length es → extent_at es n ≡ Some (slice_index_or es n 0)
 extent_there es n lt = (let e : nat_lt n (length es) ≡ true = search (rules, lt) in ap (λ b. if b then Some (slice_index_or es n 0) else None) e)
@@ -237,9 +238,9 @@ module _ (t : Tree) (r : Tables) (same : plain r ≡ laid t) (few : length r.ite
   adds : (n : ℕ) (b : Layer) (o : Opening) → slice_get (all_begun t) n ≡ Some b → slice_get (openings_of t.program) n ≡ Some o → Adds IsWell b o
   adds n b o e f =
       let k : BegunAt t r n b = begun_at t r c.placed n b e (c.bodies n b e) in
-      let new : NewItems (place_of t n) b (statements b (meaning_at t.program n).body).1 = statements_mean (numbering_of t.program) (place_of t n) (ground_of r t) b (meaning_at t.program n).body few (λ at. refl) k.around k.can in
+      let new : NewItems (place_of t n) b (body_items b (meaning_at t.program n).body (meaning_at t.program n).checks).1 = statements_mean (numbering_of t.program) (place_of t n) (ground_of r t) b (meaning_at t.program n).body (meaning_at t.program n).checks few (λ at. refl) k.around k.can in
       let opened : meaning_at t.program n ≡ o.meaning = ap (meaning_in _) f in
-      record { new = new.new; same = subst (λ (m : RoutineMeaning). (statements b m.body).1.items ≡ b.items ++ new.new) opened new.same; all = all_well n (length b.routines) new.new k.ends.number new.meant }
+      record { new = new.new; same = subst (λ (m : RoutineMeaning). (body_items b m.body m.checks).1.items ≡ b.items ++ new.new) opened new.same; all = all_well n (length b.routines) new.new k.ends.number new.meant }
 
   all_at : (js : List code.Item) (at : ℕ) (i : code.Item) → slice_get js at ≡ Some i → All IsWell js → IsWell i
   all_at [] at i e a = absurd (cc)

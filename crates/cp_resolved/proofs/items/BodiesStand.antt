@@ -1,15 +1,17 @@
 -- The items of each routine and of each initial statement of a tree stand for its statements.
-use Rattle.std.proofs.Common.{◌≡◌, ◌+◌, ◌==◌, ℕ, zero, suc, Bool, true, false, if◌then◌else◌, List, [], ◌∷◌, ◌++◌, length, map, Option, Some, None, slice_get, refl, sym, ap, subst, ◌∙◌, inl, inr, arith}
+use Rattle.std.proofs.Common.{◌≡◌, ◌+◌, ◌==◌, ℕ, zero, suc, Bool, true, false, if◌then◌else◌, List, [], ◌∷◌, ◌++◌, length, map, Option, Some, slice_get, refl, sym, ap, subst, ◌∙◌, inl, inr, arith}
 use Rattle.cp_resolved.proofs.Words.{none-some, same_Some, slice_get_within, bytes_eq-Decides, Tables, RoutineView, item_at, no_item, routine_at, no_routine, Layer}
-use Rattle.cp_resolved.proofs.Words.{nothing_laid, routine_of, PlainTables, laid, tables_laid, statements, routines, program_parts, program, same_name, temporary, Ty}
+use Rattle.cp_resolved.proofs.Words.{nothing_laid, routine_of, PlainTables, laid, tables_laid, routines, program_parts, program, same_name, temporary, Ty}
 use Rattle.cp_resolved.proofs.Words.{Scope, Variable, RoutineMeaning, Item, function_call, statement_item, result_called, routine_called, all_begun, AreReady, Here}
-use Rattle.cp_resolved.proofs.Words.{frame_here, look, IsPlaced, place_of, KnowsAt, Opening, openings_of, meaning_in, meaning_at, numbering_of, OwnAll, call_variables}
+use Rattle.cp_resolved.proofs.Words.{frame_here, look, IsPlaced, place_of, KnowsAt, Opening, openings_of, meaning_in, meaning_at, numbering_of, call_variables}
 use Rattle.cp_resolved.proofs.Words.{result_variables, parameters_by, whole_laid, AreNext, all_calls_laid, IsAmong, IsApart, AreApart}
 use Rattle.cp_tree.specs.Syntax as syntax
 use Rattle.cp_slots.specs.declared.item.Item as code_item
 use Rattle.cp_slots.specs.Code as code
 use Rattle.cp_resolved.specs.BodiesStand.{ground_of, CallsFormed, BodyFormed, BodiesLaw}
-use Rattle.cp_resolved.specs.ItemsStand.{AreItems, Surroundings, CanStand, AreLaid}
+use Rattle.cp_resolved.specs.ItemsStand.{AreItems, Surroundings, CanStand, AreLaid, body_items}
+use Rattle.cp_resolved.specs.Stands.{BodyIs}
+use Rattle.cp_meaning.specs.Calls.{last_checks}
 use Rattle.cp_resolved.proofs.items.Ended.{Ends, AreEnded, all_end}
 use Rattle.cp_resolved.proofs.names.Entries.{still_there, entry_at}
 use Rattle.cp_resolved.proofs.laid.Extends.{Longer, routines_extend, initial_extends, program_parts_extend}
@@ -143,6 +145,7 @@ begun_at t r place n l e f =
         result = result_known t place n l e ends.number;
         starts = f.starts;
         lines = ends.lines ∙ whole_lines t;
+        checks = place.checks n;
       };
       can = record {
         pending = ends.pending;
@@ -158,11 +161,11 @@ bodies_law t r same few place n l e f =
     let m : RoutineMeaning = meaning_at t.program n in
     let w : BegunAt t r n l = begun_at t r place n l e f in
     let opened : m ≡ w.opening.meaning = ap (meaning_in _) w.opened in
-    let x : Option ℕ × Layer = statements l m.body in
-    let items : Longer x.1.items (whole_laid t).items = subst (λ (q : RoutineMeaning). Longer (statements l q.body).1.items (whole_laid t).items) (sym opened) w.ends.items in
-    let routine : slice_get (whole_laid t).routines n ≡ Some (routine_of x.1 x.0) = subst (λ (q : RoutineMeaning). slice_get (whole_laid t).routines n ≡ Some (routine_of (statements l q.body).1 (statements l q.body).0)) (sym opened) w.ends.there in
+    let x : Option ℕ × Layer = body_items l m.body m.checks in
+    let items : Longer x.1.items (whole_laid t).items = subst (λ (q : RoutineMeaning). Longer (body_items l q.body q.checks).1.items (whole_laid t).items) (sym opened) w.ends.items in
+    let routine : slice_get (whole_laid t).routines n ≡ Some (routine_of x.1 x.0) = subst (λ (q : RoutineMeaning). slice_get (whole_laid t).routines n ≡ Some (routine_of (body_items l q.body q.checks).1 (body_items l q.body q.checks).0)) (sym opened) w.ends.there in
     let all_items : map code.item_seen r.items ≡ x.1.items ++ items.0 = ap (λ (q : PlainTables). q.items) same ∙ laid_items t ∙ items.1 in
     let all_routines : r.routines ≡ (whole_laid t).routines = ap (λ (q : PlainTables). q.routines) same ∙ laid_routines t in
     let there_it_is : routine_at r n ≡ routine_of x.1 x.0 = entry_at r.routines n no_routine (routine_of x.1 x.0) (ap (λ rs. slice_get rs n) all_routines ∙ routine) in
-    let there_all : AreLaid k h (ground_of r t) l m.body = statements_law k h (ground_of r t) l m.body few (λ at. refl) w.around w.can in
-    subst (λ (v : RoutineView). OwnAll (ground_of r t) h m.body v.body None) (sym there_it_is) (there_all.stand (items_are r t x.1.items items.0 all_items))
+    let there_all : AreLaid k h (ground_of r t) l m.body m.checks = statements_law k h (ground_of r t) l m.body m.checks few (λ at. refl) w.around w.can in
+    subst (λ (v : RoutineView). BodyIs (ground_of r t) h m.body (last_checks m.checks m.scope) v.body) (sym there_it_is) (there_all.stand (items_are r t x.1.items items.0 all_items))

@@ -1,11 +1,11 @@
 -- The items of each routine and of each initial statement stand in the tables of the whole program, and its routine begins with the first of them.
-use Rattle.std.proofs.Common.{◌≡◌, ◌+◌, ℕ, suc, List, [], ◌∷◌, ◌++◌, length, Option, Some, None, slice_get, refl, sym, ap, subst, ◌∙◌, arith, append-nil, length-append}
+use Rattle.std.proofs.Common.{Bool, true, false, ◌≡◌, ◌+◌, ℕ, suc, List, [], ◌∷◌, ◌++◌, length, Option, Some, None, slice_get, refl, sym, ap, subst, ◌∙◌, arith, append-nil, length-append}
 use Rattle.cp_tree.specs.Syntax as syntax
 use Rattle.cp_resolved.proofs.Words.{RoutineView, Scope, seen_inside, nothing_declared, Numbering, routine_in, whole_laid}
 use Rattle.cp_slots.specs.Code as code
 use Rattle.cp_layout.specs.Layers.{Layer, added, settled, without_pending, nothing_laid, routine_of, with_routine}
-use Rattle.cp_layout.specs.LaidStatements.{statements, statement, arms, starts, started, assigned, invoked, chosen, selected, while_item, until_item, for_item, blocked, cycled, token_of}
-use Rattle.cp_layout.specs.LaidDeclarations.{Parameters, heading, with_heading, opened, routine, routines, initial_statement, entered, system_groups, system, definition, system_definition, system_definitions, program_part, program_parts, constants, variables, program}
+use Rattle.cp_layout.specs.LaidStatements.{statements, statement, arms, starts, started, assigned, invoked, chosen, selected, while_item, until_item, for_item, blocked, cycled, checked, assertion, token_of}
+use Rattle.cp_layout.specs.LaidDeclarations.{end_of_body, Parameters, heading, with_heading, opened, routine, routines, initial_statement, entered, system_groups, system, definition, system_definition, system_definitions, program_part, program_parts, constants, variables, program}
 use Rattle.cp_meaning.specs.Systems.{Declared, definition_in, program_part_in, declared, program_system, own_meaning, system_in}
 use Rattle.cp_resolved.specs.Begun.{routine_begun, routines_begun, initial_begun, parameters_of, parts_begun, system_begun, definition_begun, definitions_begun, part_begun, program_parts_begun, all_begun}
 use Rattle.cp_resolved.specs.Openings.{Opening, routine_openings, parts_scope, initial_opening, definition_openings, definitions_openings, part_openings, parts_openings, openings_of}
@@ -13,8 +13,9 @@ use Rattle.cp_resolved.specs.Openings.{with_routine as with_named}
 use Rattle.cp_resolved.proofs.laid.Declares.{Declares, heading_declares, local_parts_declare, permanent_parts_declare, system_groups_declare, type_declares, constants_declare, variables_declare}
 use Rattle.cp_resolved.proofs.names.Entries.{still_there, last_entry}
 use Rattle.cp_resolved.proofs.laid.Extends.{Longer, Extends, routines_extend, initial_extends, system_definitions_extend, program_parts_extend, longer_trans as longer_both}
-use Rattle.cp_resolved.proofs.laid.Grown.{statements_grew}
+use Rattle.cp_resolved.proofs.laid.Grown.{body_grew}
 use Rattle.cp_resolved.proofs.laid.SettledItems.{all_pending}
+use Rattle.cp_resolved.specs.ItemsStand.{body_items}
 use Rattle.cp_resolved.proofs.names.StepsOfProgram.{system_count}
 use Rattle.cp_resolved.proofs.names.StepsOfRoutines.{routine_count, routines_count, groups_routines}
 
@@ -33,7 +34,7 @@ unfolding statement
 statement_pending l (syntax.empty at) next h = settled_pending (added l at code.nothing 0) next
 statement_pending l (syntax.assign at d e) next h = settled_pending (assigned l at d e) next
 statement_pending l (syntax.invoke at d es) next h = settled_pending (invoked l at d es) next
-statement_pending l (syntax.block at ss) next h = settled_pending (blocked (statements l ss).1 at (statements l ss).0) next
+statement_pending l (syntax.block at ss) next h = settled_pending (blocked (statements l ss None).1 at (statements l ss None).0) next
 statement_pending l (syntax.if_then at e s) next h = settled_pending (chosen (statement l s None).1 at e (statement l s None).0 None) next
 statement_pending l (syntax.if_else at e s t) next h =
     let x : Option ℕ × Layer = statement l s None in
@@ -42,17 +43,25 @@ statement_pending l (syntax.if_else at e s t) next h =
 statement_pending l (syntax.case_of at e as' b) next h = settled_pending (selected (arms l as').1 at e (arms l as').0) next
 statement_pending l (syntax.while_do at e s) next h = settled_pending (while_item (statement l s None).1 at e (statement l s None).0) next
 statement_pending l (syntax.repeat_until at ss e) next h =
-    let x : Option ℕ × Layer = statements l ss in
+    let x : Option ℕ × Layer = statements l ss None in
     let y : Option ℕ × Layer = settled (until_item x.1 (token_of e) e x.0) next in
     settled_pending (blocked y.1 at x.0) y.0
 statement_pending l (syntax.for_do at i e d f s) next h = settled_pending (for_item (statement l s None).1 at i.name e d f (statement l s None).0) next
-statement_pending l (syntax.cycle at ss) next h = settled_pending (cycled (statements l ss).1 at (statements l ss).0) next
+statement_pending l (syntax.cycle at ss) next h = settled_pending (cycled (statements l ss None).1 at (statements l ss None).0) next
 statement_pending l (syntax.init at ts) next h = starts_pending l ts next h
+statement_pending l (syntax.asserted at k e s) next h = settled_pending (assertion (statement l s next).1 at k e) (statement l s next).0
 
-statements_pending : (l : Layer) (ss : syntax.Statements) → l.pending ≡ [] → (statements l ss).1.pending ≡ []
+statements_pending : (l : Layer) (ss : syntax.Statements) (after : Option ℕ) → l.pending ≡ [] → (statements l ss after).1.pending ≡ []
 unfolding statements
-statements_pending l syntax.no_statements h = h
-statements_pending l (syntax.more_statements s ss) h = statement_pending (statements l ss).1 s (statements l ss).0 (statements_pending l ss h)
+statements_pending l syntax.no_statements after h = h
+statements_pending l (syntax.more_statements s ss) after h = statement_pending (statements l ss after).1 s (statements l ss after).0 (statements_pending l ss after h)
+
+pub ended_pending : (l : Layer) (c : Bool) → (end_of_body l c).1.pending ≡ []
+ended_pending l true = settled_pending (checked l 0) None
+ended_pending l false = settled_pending l None
+
+body_pending : (l : Layer) (ss : syntax.Statements) (c : Bool) → (body_items l ss c).1.pending ≡ []
+body_pending l ss c = statements_pending (end_of_body l c).1 ss (end_of_body l c).0 (ended_pending l c)
 
 declared_pending : (l m : Layer) → Declares l m → l.pending ≡ [] → m.pending ≡ []
 declared_pending l m d h = ap (λ (j : Layer). j.pending) d.same ∙ h
@@ -64,7 +73,7 @@ begun_pending l r h =
     declared_pending (with_heading y.1 y.0) (routine_begun l r) (local_parts_declare (with_heading y.1 y.0) r.parts) (declared_pending x y.1 (heading_declares x r.name.name r.kind) h)
 
 routine_pending : (l : Layer) (r : syntax.Routine) → l.pending ≡ [] → (routine l r).pending ≡ []
-routine_pending l r h = statements_pending (routine_begun l r) r.body.statements (begun_pending l r h)
+routine_pending l r h = body_pending (routine_begun l r) r.body.statements r.is_entry
 
 routines_pending : (l : Layer) (rs : List syntax.Routine) → l.pending ≡ [] → (routines l rs).pending ≡ []
 unfolding routines
@@ -79,7 +88,7 @@ parts_pending l s h =
 definition_pending : (l : Layer) (d : syntax.Definition) → l.pending ≡ [] → (definition l d).1.pending ≡ []
 unfolding system
 definition_pending l (syntax.type_definition t) h = declared_pending l (definition l (syntax.type_definition t)).1 (type_declares l t) h
-definition_pending l (syntax.system_definition s) h = statements_pending (initial_begun (system_begun l s) (parameters_of l s)) s.body.statements (routines_pending (parts_begun l s) s.routines (parts_pending l s h))
+definition_pending l (syntax.system_definition s) h = body_pending (initial_begun (system_begun l s) (parameters_of l s)) s.body.statements true
 
 definitions_pending : (l : Layer) (ds : List syntax.SystemDefinition) → l.pending ≡ [] → (system_definitions l ds).pending ≡ []
 unfolding system_definitions
@@ -112,8 +121,8 @@ module _ (end : Layer) where
     pub number : length l.routines ≡ n
     pub lines : l.lines ≡ end.lines
     pub pending : l.pending ≡ []
-    pub items : Longer (statements l o.meaning.body).1.items end.items
-    pub there : slice_get end.routines n ≡ Some (routine_of (statements l o.meaning.body).1 (statements l o.meaning.body).0)
+    pub items : Longer (body_items l o.meaning.body o.meaning.checks).1.items end.items
+    pub there : slice_get end.routines n ≡ Some (routine_of (body_items l o.meaning.body o.meaning.checks).1 (body_items l o.meaning.body o.meaning.checks).0)
 
   abbrev pub AreEnded : ℕ → List Layer → List Opening → Type 0
   AreEnded n [] [] = Unit {0}
@@ -127,11 +136,11 @@ module _ (end : Layer) where
   ended_append n _ ms _ qs h i = absurd h
 
   -- a body, whose routine is the next one
-  one_ends : (l : Layer) (o : Opening) (n : ℕ) → length l.routines ≡ n → l.pending ≡ [] → Leads (with_routine (statements l o.meaning.body).1 (statements l o.meaning.body).0) end → Ends n l o
+  one_ends : (l : Layer) (o : Opening) (n : ℕ) → length l.routines ≡ n → l.pending ≡ [] → Leads (with_routine (body_items l o.meaning.body o.meaning.checks).1 (body_items l o.meaning.body o.meaning.checks).0) end → Ends n l o
   one_ends l o n len none x =
-      let y : Option ℕ × Layer = statements l o.meaning.body in
+      let y : Option ℕ × Layer = body_items l o.meaning.body o.meaning.checks in
       let v : RoutineView = routine_of y.1 y.0 in
-      let g = (statements_grew l o.meaning.body).1 in
+      let g = (body_grew l o.meaning.body o.meaning.checks).1 in
       let many : length y.1.routines ≡ n = ap (λ (j : Layer). length j.routines) g ∙ len in
       record {
         number = len;

@@ -1,10 +1,12 @@
 -- The items that are laid out of a statement mean something: the calls in it, and its own item.
-use Rattle.std.proofs.Common.{◌≡◌, ℕ, List, [], ◌∷◌, ◌++◌, length, Option, Some, refl, sym, ap, subst, ◌∙◌, append-nil, append_assoc}
+use Rattle.std.proofs.Common.{◌≡◌, ℕ, List, [], ◌∷◌, ◌++◌, length, Option, Some, None, refl, sym, ap, subst, ◌∙◌, append-nil, append_assoc}
 use Rattle.cp_slots.specs.Code as code
-use Rattle.cp_resolved.proofs.Words.{Each, Layer, Pending, added, without_pending, settled_all, temporary, Item, function_call, Here, Ground, Calls, Means}
+use Rattle.cp_resolved.proofs.Words.{Each, Layer, Pending, added, without_pending, settled_all, settled, temporary, Item, function_call, Here, Ground, Calls, Means}
 use Rattle.cp_resolved.proofs.items.Going.{CallPending, PendingAre, Goes}
 use Rattle.cp_resolved.proofs.laid.Kept.{Kept}
-use Rattle.cp_resolved.proofs.laid.SettledItems.{made, ended}
+use Rattle.cp_tree.specs.Syntax as syntax
+use Rattle.cp_meaning.specs.State.{statement_item}
+use Rattle.cp_resolved.proofs.laid.SettledItems.{made, ended, CheckPending, ChecksPending, ChecksGo}
 use Rattle.cp_resolved.proofs.frames.FrameCells.{each_both}
 
 -- an item of the routine of this number
@@ -53,6 +55,31 @@ all_new h l (p ∷ ps) next a =
     let rest : Option ℕ × Layer = settled_all l ps next in
     let i : code.Item = made rest.1 p rest.0 in
     both_new h l rest.1 (settled_all l (p ∷ ps) next).1 (all_new h l ps next a.1) (record { new = i ∷ []; same = refl; routines = refl; meant = (record { means = a.0; routine = refl }, tt) })
+
+pending_new : (h : Here) (l j : Layer) (next : Option ℕ) → j.items ≡ l.items → j.routines ≡ l.routines → AllMean h j.pending → NewItems h l (settled j next).1
+pending_new h l j next items routines a =
+    let z : Layer = without_pending j in
+    both_new h l z (settled j next).1 (record { new = []; same = items ∙ sym (append-nil l.items); routines = routines; meant = tt }) (all_new h z j.pending next a)
+
+checks_mean : (g : Ground) (h : Here) (ps : List Pending) (cs : List Item) → ChecksPending g h ps cs → AllMean h ps
+checks_mean g h [] [] a = tt
+checks_mean g h (p ∷ ps) (statement_item (syntax.invoke at d es) ∷ cs) a =
+    let c : CheckPending g h at d es p = a.0 in
+    let i : Calls h c.number c.part c.is_entry c.arguments None = record { designator = d; expressions = es; name = None; called = c.called; goes = tt; cell = refl; chosen = c.chosen; held = c.held } in
+    (subst (Means h) (sym c.action) i, checks_mean g h ps cs a.1)
+checks_mean g h _ _ a = absurd a
+
+-- the calls of a statement, the checks before it and its own item
+pub checked_new : (g : Ground) (h : Here) (l m o : Layer) (is cs : List Item) (at : ℕ) (a : code.Action) (need : ℕ) (next : Option ℕ) → l.pending ≡ [] → Kept l o → Goes g.lines h l m is → ChecksGo g h m o cs → Means h a → NewItems h l (ended g h o at a need next).1
+checked_new g h l m o is cs at a need next none s i c x =
+    let own : Pending = record { action = a; line = _; need = need } in
+    let e : o.pending ≡ i.new ++ c.new = c.pending ∙ ap (λ ps. ps ++ c.new) (i.pending ∙ ap (λ ps. ps ++ i.new) none) in
+    let before : AllMean h (i.new ++ c.new) = each_both (λ (p : Pending). Means h p.action) i.new c.new (pending_mean g.lines h i.new is i.stand) (checks_mean g h c.new cs c.stand) in
+    pending_new h l (added o at a need) next (ap (λ (k : Layer). k.items) s) (ap (λ (k : Layer). k.routines) s) (each_both (λ (p : Pending). Means h p.action) o.pending (own ∷ []) (subst (AllMean h) (sym e) before) (x, tt))
+
+-- checks alone
+pub end_new : (g : Ground) (h : Here) (l m : Layer) (cs : List Item) → l.pending ≡ [] → Kept l m → ChecksGo g h l m cs → NewItems h l (settled m None).1
+end_new g h l m cs none s c = pending_new h l m None (ap (λ (k : Layer). k.items) s) (ap (λ (k : Layer). k.routines) s) (subst (AllMean h) (sym (c.pending ∙ ap (λ ps. ps ++ c.new) none)) (checks_mean g h c.new cs c.stand))
 
 -- the calls of a statement and its own item
 pub ended_new : (g : Ground) (h : Here) (l m : Layer) (is : List Item) (at : ℕ) (a : code.Action) (need : ℕ) (next : Option ℕ) → l.pending ≡ [] → Kept l m → Goes g.lines h l m is → Means h a → NewItems h l (ended g h m at a need next).1

@@ -1,46 +1,49 @@
 -- The items that are laid out of statements stand for these statements.
 use Rattle.std.proofs.Common.{◌≡◌, ◌+◌, ◌<◌, ◌≤◌, min, max, ℕ, Bool, true, false, List, [], ◌∷◌, ◌++◌, length, Option, Some, None, slice_get, refl, sym, ap, subst, ◌∙◌, arith, append-nil}
-use Rattle.cp_resolved.proofs.Words.{none-some, same_Some, Constant, Identifier, Direction, LayoutMeaning, PredeclaredRoutine, most, Name, result_name, Ty, Item}
-use Rattle.cp_resolved.proofs.Words.{system_of, result_type, name_of, routine_of_type, routine_meant, routine_called, Here, frame_here, is_own, cell_named, Each}
-use Rattle.cp_resolved.proofs.Words.{IsSmallConstant, ValueIs, PlaceIs, DesignatedIs, Layer, added, again, settled, need_inside, pending_need, without_pending}
+use Rattle.cp_resolved.proofs.Words.{none-some, same_Some, Constant, Identifier, Direction, LayoutMeaning, most, Name, Ty, Item}
+use Rattle.cp_resolved.proofs.Words.{system_of, name_of, routine_of_type, routine_meant, routine_called, Here, cell_named, Each}
+use Rattle.cp_resolved.proofs.Words.{IsSmallConstant, ValueIs, DesignatedIs, Layer, added, again, settled, need_inside, pending_need, without_pending}
 use Rattle.cp_resolved.proofs.Words.{starts_calls, calls_laid, all_calls_laid, arms_calls_laid, arm_calls_laid, AreHeld, IsCell, Assigns, Means}
+use Rattle.cp_tree.specs.declared.statement.AssertionKind.{AssertionKind}
+use Rattle.cp_tree.specs.declared.statement.AssertionKind.TheVariants as kinds
 use Rattle.cp_tree.specs.declared.statement.Direction.TheVariants as direction
 use Rattle.cp_tree.specs.Syntax as syntax
-use Rattle.cp_slots.specs.declared.place.PlaceOrigin.TheVariants as origin
 use Rattle.cp_slots.specs.declared.item.ShownKind.TheVariants as shown
 use Rattle.cp_symbols.specs.declared.kinds.CellType.TheVariants as types
 use Rattle.cp_symbols.specs.declared.names.LayoutMeaning.TheVariants as meaning
-use Rattle.cp_symbols.specs.declared.names.PredeclaredRoutine.TheVariants as predeclared
 use Rattle.cp_slots.specs.Code as code
 use Rattle.cp_layout.specs.Values as values
-use Rattle.cp_layout.specs.Values.{place_at, place_of, ordinal_of}
+use Rattle.cp_layout.specs.Values.{place_of, ordinal_of}
 use Rattle.cp_layout.specs.Layers as layers
 use Rattle.cp_layout.specs.LaidTypes as laid_types
 use Rattle.cp_layout.specs.LaidExpressions.{begun_as, begun, entry_found, counted, arguments_from, arguments, expression, designator, selectors, first_value}
 use Rattle.cp_layout.specs.LaidStatements as laid
-use Rattle.cp_layout.specs.LaidStatements.{statement, statements, arms, one_arm, arms_need, chosen, while_item, until_item, selected, for_item, blocked, repeated, assigned, invoked, standard, procedure, begun_component, started, starts, Target, target_of, result_target, low_of, high_of, origin_of, token_of}
+use Rattle.cp_layout.specs.LaidStatements.{checked, assertion, statement, statements, arms, one_arm, arms_need, chosen, while_item, until_item, selected, for_item, blocked, repeated, assigned, invoked, standard, procedure, begun_component, started, starts, Target, target_of, low_of, high_of, origin_of, token_of}
 use Rattle.cp_meaning.specs.Types as named
 use Rattle.cp_meaning.specs.Scopes as scopes
 use Rattle.cp_meaning.specs.Declarations as meant
-use Rattle.cp_meaning.specs.Lifting.{last_field, designator_calls, expression_calls, expressions_calls, selectors_calls}
+use Rattle.cp_meaning.specs.Lifting.{check_items, last_field, designator_calls, expression_calls, expressions_calls, selectors_calls}
 use Rattle.cp_meaning.specs.Steps.{at_expression}
-use Rattle.cp_resolved.specs.Compiled.{Form, as_ordinal, as_set, as_place, Formed, then_form, Designated, a_variable, some_components, a_component, result_begun, permanent_begun, begun_form, ordinal_form, with_index_form, with_element_form, expression_form, designator_form, selected_form}
+use Rattle.cp_meaning.specs.Calls.{last_checks}
+use Rattle.cp_layout.specs.LaidDeclarations.{end_of_body}
+use Rattle.cp_resolved.specs.Compiled.{Form, as_ordinal, as_set, as_place, Formed, then_form, Designated, a_variable, a_component, permanent_begun, begun_form, expression_form, designator_form, selected_form}
 use Rattle.cp_resolved.specs.FormedParts.{CanGiveAll, CallFormed, AreReady, parameters_in, HeadingIs}
-use Rattle.cp_resolved.specs.FormedStatements.{IsTarget, PerformFormed, StartFormed, StartIs, EntryFormed, InvokeFormed, TestFormed, OrdinalFormed, AssignFormed, OwnResult, ForFormed, IsNotRoutine, StatementFormed, AllFormed, ArmsFormed, ArmFormed}
+use Rattle.cp_resolved.specs.FormedStatements.{PerformFormed, StartFormed, StartIs, EntryFormed, InvokeFormed, TestFormed, OrdinalFormed, AssignFormed, ForFormed, IsNotRoutine, StatementFormed, AllFormed, ArmsFormed, ArmFormed}
 use Rattle.cp_resolved.specs.InStep.{Numbering, base_of, range_on, predeclared_as, FoundIs, TypeIs}
-use Rattle.cp_resolved.specs.ItemsStand.{Surroundings, CanStand, StatementsLaw}
-use Rattle.cp_resolved.specs.Stands.{AssignedBy, StartItem, StartsAre, Ground, ItemAt, CalleeIs, CallItem, CallsAre, kind_of, first_of, Performed, InvokedBy, IsOrdinal, labels_of, is_down, OwnAll, OwnArms, OwnArm, StatementIs}
-use Rattle.cp_resolved.specs.Used.{HasResult, IsUsed, AreUsed, SelectorsUsed, system_type}
-use Rattle.cp_resolved.proofs.names.Alike.{same_inside}
+use Rattle.cp_resolved.specs.ItemsStand.{Surroundings, CanStand, body_items, StatementsLaw}
+use Rattle.cp_resolved.specs.Stands.{ChecksAre, BodyIs, said_of, AssignedBy, StartItem, StartsAre, Ground, ItemAt, CalleeIs, CallItem, CallsAre, kind_of, first_of, Performed, InvokedBy, IsOrdinal, labels_of, is_down, OwnAll, OwnArms, OwnArm, StatementIs}
+use Rattle.cp_resolved.specs.Used.{IsUsed, AreUsed, SelectorsUsed, system_type}
 use Rattle.cp_resolved.proofs.forms.Designating.{IsNoRoutine, begun_same}
 use Rattle.cp_resolved.proofs.items.Expressions as known
 use Rattle.cp_resolved.proofs.items.Expressions.{cells, TakesFrom, takes_none, takes_both}
+use Rattle.cp_resolved.proofs.items.ChecksStand.{kept_lines, checks_of, checks_go, before_go}
+use Rattle.cp_resolved.proofs.items.Targets.{TargetIs, own_target}
 use Rattle.cp_resolved.proofs.items.Going.{Goes, goes_none, goes_both, ready_next, ready_held, ready_first, ready_rest, grown_room, heading_parameters, expression_goes, arguments_go, selectors_go}
 use Rattle.cp_resolved.proofs.laid.Grown.{Grew, grew_trans, kept_grew, settled_grew, with_more}
-use Rattle.cp_resolved.proofs.items.ItemsMean.{NewItems, none_new, both_new, ended_new}
-use Rattle.cp_resolved.proofs.laid.Kept.{Kept, kept_trans, expression_kept, designator_kept, arguments_kept}
+use Rattle.cp_resolved.proofs.items.ItemsMean.{NewItems, none_new, both_new, ended_new, checked_new, end_new}
+use Rattle.cp_resolved.proofs.laid.Kept.{Kept, kept_trans, checked_kept, before_kept, expression_kept, designator_kept, arguments_kept}
 use Rattle.cp_resolved.proofs.forms.Moved.{assigned_same}
-use Rattle.cp_resolved.proofs.laid.SettledItems.{all_frame, all_pending, Holds, holds_first, Led, ended, finish, again_first}
+use Rattle.cp_resolved.proofs.laid.SettledItems.{ChecksGo, checks_none, LedChecked, finish_checked, checks_end, all_frame, all_pending, Holds, holds_first, Led, ended, finish, again_first}
 use Rattle.cp_resolved.proofs.names.Steps.{found_in}
 use Rattle.cp_resolved.proofs.names.StepsOfTypes.{constant_same}
 
@@ -50,12 +53,6 @@ no_sum_stops n h = omega (arith, h)
 not_routine : (o : Option scopes.Meaning) → IsNotRoutine o → IsNoRoutine o
 not_routine (Some (scopes.routine_meaning r)) h = h
 not_routine _ h = tt
-
-place_inside : (p q : code.Place) (t u : Ty) → a_variable p t ≡ a_variable q u → p ≡ q
-place_inside p q t u e = cc
-
-type_inside : (p q : code.Place) (t u : Ty) → a_variable p t ≡ a_variable q u → t ≡ u
-type_inside p q t u e = cc
 
 range_inside : (r s : named.Range) → named.ordinal r ≡ named.ordinal s → r ≡ s
 range_inside r s e = cc
@@ -91,6 +88,7 @@ module _ (k : Numbering) (h : Here) (g : Ground) (few : length g.tables.items �
         result = λ x r e f a. (let i = w.result x r e f a in record { number = i.number; there = i.there; own = i.own; result = i.result; held = i.held; cell = i.cell; belongs = i.belongs });
         starts = λ d c n e. (let i = w.starts d c n e in record { initial = i.initial; parameters = i.parameters });
         lines = w.lines;
+        checks = w.checks;
       }
 
   -- it is known after statements too
@@ -122,9 +120,6 @@ module _ (k : Numbering) (h : Here) (g : Ground) (few : length g.tables.items �
   then_does : (l m : Layer) (is : List Item) (A B : Type 0) → (A → B) → Does l m is A → Does l m is B
   then_does l m is A B f a = record { taken = a.taken; pending = a.pending; grew = a.grew; means = a.means; stands = λ b. f (a.stands b) }
 
-  kept_lines : (l m : Layer) → World l → Kept l m → m.lines ≡ g.lines
-  kept_lines l m w s = ap (λ (j : Layer). j.lines) s ∙ w.lines
-
   -- the calls of a statement and its own item
   own_does : (l m : Layer) (is : List Item) (at : ℕ) (a : code.Action) (need : ℕ) (next : Option ℕ) → World l → l.pending ≡ [] → Kept l m → Goes g.lines h l m is → Means h a → Does l (ended g h m at a need next).1 is (Led g h (ended g h m at a need next).0 is at a next)
   own_does l m is at a need next w none s i x =
@@ -134,7 +129,19 @@ module _ (k : Numbering) (h : Here) (g : Ground) (few : length g.tables.items �
         pending = all_pending (without_pending j) j.pending next;
         grew = grew_trans l j (ended g h m at a need next).1 (kept_grew l j (kept_trans l m j s refl)) (settled_grew j next);
         means = ended_new g h l m is at a need next none s i x;
-        stands = λ b. finish g h l m is at a need next none i (kept_lines l m w s) b;
+        stands = λ b. finish g h l m is at a need next none i (kept_lines k h g l m w s) b;
+      }
+
+  -- the calls of a statement, the checks before it, and its own item
+  checked_does : (l m o : Layer) (is cs : List Item) (at : ℕ) (a : code.Action) (need : ℕ) (next : Option ℕ) → World l → l.pending ≡ [] → Kept l o → Goes g.lines h l m is → ChecksGo g h m o cs → Means h a → Does l (ended g h o at a need next).1 is (LedChecked g h (ended g h o at a need next).0 is cs at a next)
+  checked_does l m o is cs at a need next w none s i c x =
+      let j : Layer = added o at a need in
+      record {
+        taken = ap (λ (f : layers.Frame). length f.image) (all_frame (without_pending j) j.pending next) ∙ c.image ∙ i.taken;
+        pending = all_pending (without_pending j) j.pending next;
+        grew = grew_trans l j (ended g h o at a need next).1 (kept_grew l j (kept_trans l o j s refl)) (settled_grew j next);
+        means = checked_new g h l m o is cs at a need next none s i c x;
+        stands = λ b. finish_checked g h l m o is cs at a need next none i c (kept_lines k h g l o w s) b;
       }
 
   -- with no calls
@@ -183,68 +190,6 @@ module _ (k : Numbering) (h : Here) (g : Ground) (few : length g.tables.items �
 
   -- ---- assignments
 
-  pub record TargetIs (l : Layer) (place : code.Place) (t : Ty) (x : Target) : Type 0 where
-    pub place_is : x.place ≡ place
-    pub belongs : TypeIs k l.types t x.value_type
-
-  no_variable : (ss : syntax.Selectors) (c : code.ComponentPlace) (n : ℕ) (p : code.Place) (t : Ty) → selected_form h ss (a_component c n) ≡ Some (a_variable p t) → ⊥
-  no_variable syntax.no_selectors c n p t e = cc
-  no_variable (syntax.more_selectors (syntax.field x) ss) c n p t e = no_variable ss c n p t e
-  no_variable (syntax.more_selectors (syntax.index o) ss) c n p t e =
-      let q = known.inside (then_form (expression_form h o) (with_index_form h (a_component c n))) _ (a_variable p t) e in
-      let r = known.inside (expression_form h o) _ q.0 q.1 in
-      let s = known.inside (ordinal_form r.0.form) (with_element_form h (a_component c n)) q.0 r.2 in
-      let w : with_element_form h (a_component c n) s.0 ≡ Some q.0 = s.2 in cc
-
-  no_array : (ss : syntax.Selectors) (first : ℕ) (r : named.Range) (n : ℕ) (p : code.Place) (t : Ty) → selected_form h ss (some_components first r n) ≡ Some (a_variable p t) → ⊥
-  no_array syntax.no_selectors first r n p t e = cc
-  no_array (syntax.more_selectors (syntax.field x) ss) first r n p t e = absurd (cc)
-  no_array (syntax.more_selectors (syntax.index o) ss) first r n p t e =
-      let q = known.inside (then_form (expression_form h o) (with_index_form h (some_components first r n))) _ (a_variable p t) e in
-      let u = known.inside (expression_form h o) _ q.0 q.1 in
-      let s = known.inside (ordinal_form u.0.form) (with_element_form h (some_components first r n)) q.0 u.2 in
-      let w : Some (a_component (code.element first r.low r.high (h.layouts.systems n).count s.0) n) ≡ Some q.0 = s.2 in
-      no_variable ss (code.element first r.low r.high (h.layouts.systems n).count s.0) n p t (ap (selected_form h ss) (same_inside _ q.0 w) ∙ q.2)
-
-  no_entry : (d : Designated) (ss : syntax.Selectors) (p : code.Place) (t : Ty) → selected_form h ss d ≡ Some (a_variable p t) → known.NoEntry d ss
-  no_entry (a_variable q u) ss p t e = tt
-  no_entry (some_components first r n) ss p t e = absurd (no_array ss first r n p t e)
-  no_entry (a_component c n) ss p t e = absurd (no_variable ss c n p t e)
-
-  -- a variable, or a part of one
-  variable_target : (l : Layer) (x : Identifier) (ss : syntax.Selectors) (q : code.Place) (t : Ty) → World l → IsNoRoutine (scopes.find x.name h.scope) → SelectorsUsed h ss → AreReady h (cells l) (selectors_calls h.scope ss) → designator_form h (syntax.designator x ss) ≡ Some (a_variable q t) →
-      TargetIs l q t (target_of (designator l (syntax.designator x ss)).1 (designator l (syntax.designator x ss)).0)
-  unfolding designator
-  variable_target l x ss q t w r u n f =
-      let p : (d : Designated) × (begun_form h x.name (scopes.find x.name h.scope) ≡ Some d) × (selected_form h ss d ≡ Some (a_variable q t)) = known.inside (begun_form h x.name (scopes.find x.name h.scope)) (selected_form h ss) (a_variable q t) f in
-      let begins : DesignatedIs k l.types p.0 (begun l x.name) = begun_same k h l w.names x.name p.0 r p.1 in
-      let i = known.selected_is k h l w.names w.calls l p.0 (a_variable q t) (begun l x.name) ss refl u begins (no_entry p.0 ss q t p.2) (ready_next h (cells l) (selectors_calls h.scope ss) n) p.2 in
-      let y : PlaceIs k l.types q t (selectors l (begun l x.name) ss).0 = i.leads in
-      let m : Layer = (selectors l (begun l x.name) ss).1 in
-      record { place_is = ap (λ d. (target_of m d).place) y.is; belongs = subst (λ (v : Target). TypeIs k l.types t v.value_type) (sym (ap (target_of m) y.is)) y.belongs }
-
-  -- a function's own result
-  result_of_own : (l : Layer) (x : Identifier) (q : code.Place) (t : Ty) (b : Bool) (r : syntax.Routine) → World l → is_own h x.name ≡ b → scopes.find x.name h.scope ≡ Some (scopes.routine_meaning r) → HasResult (h.layouts.meanings h.routine).result → then_form (result_begun h b) (λ d. Some d) ≡ Some (a_variable q t) → TargetIs l q t (target_of l (begun l x.name))
-  result_of_own l x q t false r w e me a f = absurd (cc)
-  result_of_own l x q t true r w e me a f =
-      let o : OwnResult k h l x.name = w.result x.name r e me a in
-      let same : a_variable (code.place ((frame_here h).origins result_name) 0 code.no_indices) (result_type (h.layouts.meanings h.routine).result) ≡ a_variable q t = same_inside _ (a_variable q t) f in
-      let begins : begun l x.name ≡ values.a_routine o.number = ap begun_as o.there in
-      let target : target_of l (begun l x.name) ≡ (let z : Target = record { place = place_at (origin.Local o.result.slot); value_type = o.result.value_type } in z) =
-      ap (target_of l) begins ∙ ap (λ c. result_target c (layers.result_of l o.number)) o.own ∙ ap (result_target true) o.held in
-      record {
-        place_is = ap (λ (z : Target). z.place) target ∙ ap place_at (sym o.cell) ∙ place_inside _ q _ t same;
-        belongs = subst (λ u. TypeIs k l.types u (target_of l (begun l x.name)).value_type) (type_inside _ q _ t same) (subst (λ (z : Target). TypeIs k l.types (result_type (h.layouts.meanings h.routine).result) z.value_type) (sym target) o.belongs);
-      }
-
-  own_target : (l : Layer) (x : Identifier) (ss : syntax.Selectors) (q : code.Place) (t : Ty) (m : Option scopes.Meaning) → World l → scopes.find x.name h.scope ≡ m → IsTarget h m (syntax.designator x ss) → SelectorsUsed h ss → AreReady h (cells l) (selectors_calls h.scope ss) → designator_form h (syntax.designator x ss) ≡ Some (a_variable q t) →
-      TargetIs l q t (target_of (designator l (syntax.designator x ss)).1 (designator l (syntax.designator x ss)).0)
-  unfolding designator selectors
-  own_target l x syntax.no_selectors q t (Some (scopes.routine_meaning r)) w e i u n f = result_of_own l x q t (is_own h x.name) r w refl e i.1 (ap (λ m. then_form (begun_form h x.name m) (λ d. Some d)) (sym e) ∙ f)
-  own_target l x (syntax.more_selectors s ss) q t (Some (scopes.routine_meaning r)) w e i u n f = absurd i.0
-  own_target l x ss q t (Some (scopes.constant_meaning b z)) w e i u n f = variable_target l x ss q t w (subst IsNoRoutine (sym e) tt) u n f
-  own_target l x ss q t _ w e i u n f = variable_target l x ss q t w (subst IsNoRoutine (sym e) tt) u n f
-
   designator_goes : (l : Layer) (x : Identifier) (ss : syntax.Selectors) (q : Designated) → World l → SelectorsUsed h ss → AreReady h (cells l) (selectors_calls h.scope ss) → designator_form h (syntax.designator x ss) ≡ Some q → Goes g.lines h l (designator l (syntax.designator x ss)).1 (selectors_calls h.scope ss)
   unfolding designator
   designator_goes l x ss q w u n f =
@@ -273,7 +218,7 @@ module _ (k : Numbering) (h : Here) (g : Ground) (few : length g.tables.items �
       let rest : AreReady h (cells m) js = ready_rest h (cells l) m is js i.taken n in
       let j : Goes g.lines h m o js = expression_goes k h l w.names w.calls w.headings g.lines w.lines m e f.value kept f.used rest f.formed in
       let v = known.expression_is k h l w.names w.calls m e f.value kept f.used (ready_next h (cells m) js rest) f.formed in
-      let t : TargetIs l f.place f.ty (target_of m (designator l d).0) = own_target l x ss f.place f.ty (scopes.find x.name h.scope) w refl f.named f.chosen first f.target in
+      let t : TargetIs k l f.place f.ty (target_of m (designator l d).0) = own_target k h g l x ss f.place f.ty (scopes.find x.name h.scope) w refl f.named f.chosen first f.target in
       let whole : Kept l o = kept_trans l m o kept (expression_kept m e) in
       let types : o.types ≡ l.types = ap (λ (j : Layer). j.types) whole in
       let value : ValueIs k o.types f.value (expression m e).0 = subst (λ ts. ValueIs k ts f.value (expression m e).0) (sym types) v.value in
@@ -287,41 +232,48 @@ module _ (k : Numbering) (h : Here) (g : Ground) (few : length g.tables.items �
       then_does l (ended g h o at a 0 next).1 (is ++ js) (Led g h (ended g h o at a 0 next).0 (is ++ js) at a next) (StatementIs g h (ended g h o at a 0 next).0 (syntax.assign at d e) next)
       (λ y. (let z = led_as (ended g h o at a 0 next).0 (is ++ js) at a f.act next same y in (z.number, z.calls, record { place = f.place; ty = f.ty; value = f.value; act = f.act; target = f.target; formed = f.formed; assigned = f.assigned; item = z.item }))) done
 
+  led_checked_as : (first : Option ℕ) (is cs : List Item) (at : ℕ) (a c : code.Action) (next : Option ℕ) → a ≡ c → LedChecked g h first is cs at a next → LedChecked g h first is cs at c next
+  led_checked_as first is cs at a c next e x = subst (λ y. LedChecked g h first is cs at y next) e x
+
   -- ---- the standard procedures
 
   shown_same : (c : code.OrdinalExpression) (b : named.Base) → laid.shown_kind (values.ordinal_value c (base_of k b)) ≡ kind_of g.firsts b
   shown_same c (named.enumerated at xs) = ap shown.Constant (sym (numbered at))
   shown_same c _ = refl
 
-  performed_does : (l : Layer) (at : ℕ) (q : PredeclaredRoutine) (e : syntax.Expression) (z : Formed) (a : code.Action) (next : Option ℕ) → World l → l.pending ≡ [] → expression_form h e ≡ Some z → IsUsed h e → AreReady h (cells l) (expression_calls h.scope e ++ []) → (ValueIs k l.types z (expression l e).0 → laid.performed q (expression l e).0 ≡ a) → Means h a →
-      Does l (settled (standard l at q (syntax.more_expressions e syntax.no_expressions)) next).1 (expression_calls h.scope e ++ []) (Led g h (settled (standard l at q (syntax.more_expressions e syntax.no_expressions)) next).0 (expression_calls h.scope e ++ []) at a next)
+  performed_does : (l : Layer) (at : ℕ) (p : scopes.Standard) (e : syntax.Expression) (z : Formed) (a : code.Action) (next : Option ℕ) → World l → l.pending ≡ [] → expression_form h e ≡ Some z → IsUsed h e → AreReady h (cells l) (expression_calls h.scope e ++ []) → (ValueIs k l.types z (expression l e).0 → laid.performed (predeclared_as p) (expression l e).0 ≡ a) → Means h a →
+      Does l (settled (standard l at (predeclared_as p) (syntax.more_expressions e syntax.no_expressions)) next).1 (expression_calls h.scope e ++ []) (LedChecked g h (settled (standard l at (predeclared_as p) (syntax.more_expressions e syntax.no_expressions)) next).0 (expression_calls h.scope e ++ []) (checks_of h at (Some (scopes.standard_meaning p))) at a next)
   unfolding standard first_value
-  performed_does l at q e z a next w none f u n same means =
+  performed_does l at p e z a next w none f u n same means =
       let is : List Item = expression_calls h.scope e in
+      let cs : List Item = checks_of h at (Some (scopes.standard_meaning p)) in
       let m : Layer = (expression l e).1 in
-      let c : code.Action = laid.performed q (expression l e).0 in
+      let o : Layer = laid.checked_before m at (predeclared_as p) in
+      let c : code.Action = laid.performed (predeclared_as p) (expression l e).0 in
       let r : AreReady h (cells l) is = ready_first h (cells l) is [] n in
       let i : Goes g.lines h l m is = expression_goes k h l w.names w.calls w.headings g.lines w.lines l e z refl u r f in
       let v = known.expression_is k h l w.names w.calls l e z refl u (ready_next h (cells l) is r) f in
       let all : Goes g.lines h l m (is ++ []) = subst (Goes g.lines h l m) (sym (append-nil is)) i in
-      then_does l (ended g h m at c 0 next).1 (is ++ []) (Led g h (ended g h m at c 0 next).0 (is ++ []) at c next) (Led g h (ended g h m at c 0 next).0 (is ++ []) at a next)
-      (led_as (ended g h m at c 0 next).0 (is ++ []) at c a next (same v.value)) (own_does l m (is ++ []) at c 0 next w none (expression_kept l e) all (subst (Means h) (sym (same v.value)) means))
+      then_does l (ended g h o at c 0 next).1 (is ++ []) (LedChecked g h (ended g h o at c 0 next).0 (is ++ []) cs at c next) (LedChecked g h (ended g h o at c 0 next).0 (is ++ []) cs at a next)
+      (led_checked_as (ended g h o at c 0 next).0 (is ++ []) cs at c a next (same v.value)) (checked_does l m o (is ++ []) cs at c 0 next w none (kept_trans l m o (expression_kept l e) (before_kept m at (predeclared_as p))) all (before_go k h g l m at p w (expression_kept l e)) (subst (Means h) (sym (same v.value)) means))
 
   abbrev Performs : Layer → ℕ → scopes.Standard → syntax.Expressions → Option ℕ → Type 0
-  Performs l at s es next = Does l (settled (standard l at (predeclared_as s) es) next).1 (expressions_calls h.scope es) ((n : ℕ) × CallsAre g h (settled (standard l at (predeclared_as s) es) next).0 (expressions_calls h.scope es) (Some n) × Performed g h n at s (first_of es) next)
+  Performs l at s es next =
+      Does l (settled (standard l at (predeclared_as s) es) next).1 (expressions_calls h.scope es)
+      ((n : ℕ) × (check : Option ℕ) × CallsAre g h (settled (standard l at (predeclared_as s) es) next).0 (expressions_calls h.scope es) check × ChecksAre g h check (checks_of h at (Some (scopes.standard_meaning s))) (Some n) × Performed g h n at s (first_of es) next)
 
   standard_does : (l : Layer) (at : ℕ) (s : scopes.Standard) (e : syntax.Expression) (next : Option ℕ) → World l → l.pending ≡ [] → PerformFormed h s (Some e) → AreReady h (cells l) (expression_calls h.scope e ++ []) → Performs l at s (syntax.more_expressions e syntax.no_expressions) next
   standard_does l at scopes.display_procedure e next w none f n =
-      then_does l _ (expression_calls h.scope e ++ []) _ _ (λ y. (y.number, y.calls, record { range = f.range; cell = f.cell; formed = f.formed; item = y.item }))
-      (performed_does l at predeclared.Display e _ (code.display f.cell (kind_of g.firsts f.range.base)) next w none f.formed f.used n (λ v.
+      then_does l _ (expression_calls h.scope e ++ []) _ _ (λ y. (y.number, y.check, y.calls, y.checks, record { range = f.range; cell = f.cell; formed = f.formed; item = y.item }))
+      (performed_does l at scopes.display_procedure e _ (code.display f.cell (kind_of g.firsts f.range.base)) next w none f.formed f.used n (λ v.
       ap laid.displayed v.2 ∙ ap (code.display f.cell) (shown_same f.cell v.0.base) ∙ ap (λ (r : named.Range). code.display f.cell (kind_of g.firsts r.base)) (range_inside v.0 f.range (sym v.1)))
       (record { expression = e; ty = named.ordinal f.range; formed = f.formed; held = ready_held h (cells l) (expression_calls h.scope e) (ready_first h (cells l) (expression_calls h.scope e) [] n) }))
   standard_does l at scopes.delay_procedure e next w none f n =
-      then_does l _ (expression_calls h.scope e ++ []) _ _ (λ y. (y.number, y.calls, record { place = f.place; formed = f.formed; item = y.item }))
-      (performed_does l at predeclared.Delay e _ (code.delay f.place) next w none f.formed f.used n (λ v. ap (λ y. code.delay (place_of y)) v.1) (record { expression = e; formed = f.formed; held = ready_held h (cells l) (expression_calls h.scope e) (ready_first h (cells l) (expression_calls h.scope e) [] n) }))
+      then_does l _ (expression_calls h.scope e ++ []) _ _ (λ y. (y.number, y.check, y.calls, y.checks, record { place = f.place; formed = f.formed; item = y.item }))
+      (performed_does l at scopes.delay_procedure e _ (code.delay f.place) next w none f.formed f.used n (λ v. ap (λ y. code.delay (place_of y)) v.1) (record { expression = e; formed = f.formed; held = ready_held h (cells l) (expression_calls h.scope e) (ready_first h (cells l) (expression_calls h.scope e) [] n) }))
   standard_does l at scopes.continue_procedure e next w none f n =
-      then_does l _ (expression_calls h.scope e ++ []) _ _ (λ y. (y.number, y.calls, record { place = f.place; formed = f.formed; item = y.item }))
-      (performed_does l at predeclared.Continue e _ (code.continue_at f.place) next w none f.formed f.used n (λ v. ap (λ y. code.continue_at (place_of y)) v.1) (record { expression = e; formed = f.formed; held = ready_held h (cells l) (expression_calls h.scope e) (ready_first h (cells l) (expression_calls h.scope e) [] n) }))
+      then_does l _ (expression_calls h.scope e ++ []) _ _ (λ y. (y.number, y.check, y.calls, y.checks, record { place = f.place; formed = f.formed; item = y.item }))
+      (performed_does l at scopes.continue_procedure e _ (code.continue_at f.place) next w none f.formed f.used n (λ v. ap (λ y. code.continue_at (place_of y)) v.1) (record { expression = e; formed = f.formed; held = ready_held h (cells l) (expression_calls h.scope e) (ready_first h (cells l) (expression_calls h.scope e) [] n) }))
   standard_does l at _ e next w none f n = absurd f
 
   -- ---- calls of procedures
@@ -353,7 +305,7 @@ module _ (k : Numbering) (h : Here) (g : Ground) (few : length g.tables.items �
 
   abbrev InvokeDoes : Layer → ℕ → Identifier → syntax.Selectors → syntax.Expressions → Option scopes.Meaning → Option ℕ → Type 0
   InvokeDoes l at x ss es m next =
-      Does l (settled (invoked l at (syntax.designator x ss) es) next).1 (selectors_calls h.scope ss ++ expressions_calls h.scope es) ((n : ℕ) × CallsAre g h (settled (invoked l at (syntax.designator x ss) es) next).0 (selectors_calls h.scope ss ++ expressions_calls h.scope es) (Some n) × InvokedBy g h n at m (syntax.designator x ss) es next)
+      Does l (settled (invoked l at (syntax.designator x ss) es) next).1 (selectors_calls h.scope ss ++ expressions_calls h.scope es) ((n : ℕ) × (check : Option ℕ) × CallsAre g h (settled (invoked l at (syntax.designator x ss) es) next).0 (selectors_calls h.scope ss ++ expressions_calls h.scope es) check × ChecksAre g h check (checks_of h at m) (Some n) × InvokedBy g h n at m (syntax.designator x ss) es next)
 
   invoke_standard : (l : Layer) (at : ℕ) (x : Identifier) (ss : syntax.Selectors) (es : syntax.Expressions) (q : scopes.Standard) (next : Option ℕ) → World l → l.pending ≡ [] → scopes.find x.name h.scope ≡ Some (scopes.standard_meaning q) → InvokeFormed h (Some (scopes.standard_meaning q)) (syntax.designator x ss) es →
       AreReady h (cells l) (selectors_calls h.scope ss ++ expressions_calls h.scope es) → InvokeDoes l at x ss es (Some (scopes.standard_meaning q)) next
@@ -363,7 +315,7 @@ module _ (k : Numbering) (h : Here) (g : Ground) (few : length g.tables.items �
       let is : List Item = expressions_calls h.scope es in
       let found = subst (λ m. FoundIs k l.types (layers.find x.name l.names) m (scopes.since x.name h.scope)) me (found_in k l.types x.name l.names h.scope w.names.names) in
       let begins : begun l x.name ≡ values.a_standard (predeclared_as q) = known.standard_found k h l w.names w.calls x.name (layers.find x.name l.names) q (scopes.since x.name h.scope) refl found in
-      subst (λ y. Does l (settled (laid.invoked_as l at (laid.callee_of y) es) next).1 is ((n : ℕ) × CallsAre g h (settled (laid.invoked_as l at (laid.callee_of y) es) next).0 is (Some n) × Performed g h n at q (Some e) next)) (sym begins) (standard_does l at q e next w none f.2 n)
+      subst (λ y. Does l (settled (laid.invoked_as l at (laid.callee_of y) es) next).1 is ((n : ℕ) × (check : Option ℕ) × CallsAre g h (settled (laid.invoked_as l at (laid.callee_of y) es) next).0 is check × ChecksAre g h check (checks_of h at (Some (scopes.standard_meaning q))) (Some n) × Performed g h n at q (Some e) next)) (sym begins) (standard_does l at q e next w none f.2 n)
   invoke_standard l at x (syntax.more_selectors s ss) es q next w none me f n = absurd f.0
   invoke_standard l at x syntax.no_selectors _ q next w none me f n = absurd f.1
 
@@ -381,8 +333,9 @@ module _ (k : Numbering) (h : Here) (g : Ground) (few : length g.tables.items �
       let met : routine_called h.program h.scope d ≡ Some q = ap (λ m. routine_meant h.program h.scope x.name m None) me in
       let given = w.headings.own x.name number there in
       let callee : CalleeIs h d (scopes.find x.name h.scope) code.own false number = subst (λ m. CalleeIs h d m code.own false number) (sym me) (refl, refl, given.0) in
-      subst (λ z. Does l (settled (laid.invoked_as l at (laid.callee_of z) es) next).1 is ((n : ℕ) × CallsAre g h (settled (laid.invoked_as l at (laid.callee_of z) es) next).0 is (Some n) × CallItem g h n at d es None next)) (sym (ap begun_as there))
-      (procedure_does l l [] at d es code.own false number q next w none refl (goes_none g.lines h l) met callee (subst (HeadingIs k h l number) fi.2 given.1) f.2 f.1 tt n)
+      then_does l (settled (invoked l at d es) next).1 is ((n : ℕ) × CallsAre g h (settled (invoked l at d es) next).0 is (Some n) × CallItem g h n at d es None next) _ (λ c. (c.0, Some c.0, c.1, refl, c.2))
+      (subst (λ z. Does l (settled (laid.invoked_as l at (laid.callee_of z) es) next).1 is ((n : ℕ) × CallsAre g h (settled (laid.invoked_as l at (laid.callee_of z) es) next).0 is (Some n) × CallItem g h n at d es None next)) (sym (ap begun_as there))
+      (procedure_does l l [] at d es code.own false number q next w none refl (goes_none g.lines h l) met callee (subst (HeadingIs k h l number) fi.2 given.1) f.2 f.1 tt n))
 
   invoke_entry : (l : Layer) (at : ℕ) (x : Identifier) (ss : syntax.Selectors) (es : syntax.Expressions) (t : Ty) (o : Option Name) (next : Option ℕ) → World l → l.pending ≡ [] → scopes.find x.name h.scope ≡ Some (scopes.permanent_variable t) → last_field ss ≡ o → EntryFormed h (syntax.designator x ss) es →
       AreReady h (cells l) (selectors_calls h.scope ss ++ expressions_calls h.scope es) → InvokeDoes l at x ss es (Some (scopes.permanent_variable t)) next
@@ -408,8 +361,9 @@ module _ (k : Numbering) (h : Here) (g : Ground) (few : length g.tables.items �
       let part_is : designator_form h d ≡ Some (a_component e.part (h.layouts.owners entry.number)) = f.formed ∙ ap (λ z. Some z) e.is_part ∙ ap (λ c. Some (a_component e.part c)) (sym heading.0) in
       let callee : CalleeIs h d (scopes.find x.name h.scope) e.part true entry.number = subst (λ z. CalleeIs h d z e.part true entry.number) (sym me) (part_is, refl) in
       let leads : (selectors l (begun l x.name) ss).0 ≡ values.an_entry e.part entry.number = e.leads ∙ ap (λ z. entry_found e.part (known.entry_named k h l w.names w.calls (system_type t) z)) last ∙ ap (entry_found e.part) entry.there in
-      subst (λ z. Does l (settled (laid.invoked_as m at (laid.callee_of z) es) next).1 (is ++ js) ((n : ℕ) × CallsAre g h (settled (laid.invoked_as m at (laid.callee_of z) es) next).0 (is ++ js) (Some n) × CallItem g h n at d es None next)) (sym leads)
-      (procedure_does l m is at d es e.part true entry.number routine next w none (designator_kept l d) moved f.call.called callee heading.1 f.call f.used (ready_held h (cells l) is first) (ready_rest h (cells l) m is js moved.taken n))
+      then_does l (settled (invoked l at d es) next).1 (is ++ js) ((n : ℕ) × CallsAre g h (settled (invoked l at d es) next).0 (is ++ js) (Some n) × CallItem g h n at d es None next) _ (λ c. (c.0, Some c.0, c.1, refl, c.2))
+      (subst (λ z. Does l (settled (laid.invoked_as m at (laid.callee_of z) es) next).1 (is ++ js) ((n : ℕ) × CallsAre g h (settled (laid.invoked_as m at (laid.callee_of z) es) next).0 (is ++ js) (Some n) × CallItem g h n at d es None next)) (sym leads)
+      (procedure_does l m is at d es e.part true entry.number routine next w none (designator_kept l d) moved f.call.called callee heading.1 f.call f.used (ready_held h (cells l) is first) (ready_rest h (cells l) m is js moved.taken n)))
 
   no_call : (l : Layer) (x : Identifier) (ss : syntax.Selectors) (es : syntax.Expressions) (m : Option scopes.Meaning) → scopes.find x.name h.scope ≡ m → routine_meant h.program h.scope x.name m (last_field ss) ≡ None → EntryFormed h (syntax.designator x ss) es → ⊥
   no_call l x ss es m me e f = none-some f.call.routine (sym e ∙ sym (ap (λ z. routine_meant h.program h.scope x.name z (last_field ss)) me) ∙ f.call.called)
@@ -446,8 +400,8 @@ module _ (k : Numbering) (h : Here) (g : Ground) (few : length g.tables.items �
       let to : ordinal_of (expression m f).0 ≡ x.last.cell = known.ordinal_is k h l w.names w.calls x.last.ty (as_ordinal x.last.cell) (expression m f).0 x.last.cell v.value refl in
       let from : ordinal_of (expression l e).0 ≡ x.first.cell = cell_is l e x.first.ty x.first.cell w x.first.formed x.first.used first in
       let t : Target = target_of l (begun l i.name) in
-      let counts : TargetIs l (code.place x.origin 0 code.no_indices) (named.ordinal x.range) t =
-      own_target l i syntax.no_selectors (code.place x.origin 0 code.no_indices) (named.ordinal x.range) (scopes.find i.name h.scope) w refl x.named tt tt (ap (λ q. then_form q (selected_form h syntax.no_selectors)) x.variable) in
+      let counts : TargetIs k l (code.place x.origin 0 code.no_indices) (named.ordinal x.range) t =
+      own_target k h g l i syntax.no_selectors (code.place x.origin 0 code.no_indices) (named.ordinal x.range) (scopes.find i.name h.scope) w refl x.named tt tt (ap (λ q. then_form q (selected_form h syntax.no_selectors)) x.variable) in
       let ty : t.value_type ≡ types.Ordinal (range_on k x.range) = counts.belongs in
       let place : origin_of t.place ≡ x.origin = ap origin_of counts.place_is in
       let need : ℕ = need_inside o.items body in
@@ -591,6 +545,17 @@ module _ (k : Numbering) (h : Here) (g : Ground) (few : length g.tables.items �
   unfolding chosen
   choose_does l at e first other next w none f n = test_does l e f at (λ c. code.choose c first other) (max (need_inside (expression l e).1.items first) (need_inside (expression l e).1.items other)) next (λ c. c) w none n
 
+  said_same : (kind : AssertionKind) → laid.said_of kind ≡ said_of kind
+  said_same kinds.Assertion = refl
+  said_same kinds.Invariant = refl
+
+  assert_does : (l : Layer) (at : ℕ) (kind : AssertionKind) (e : syntax.Expression) (next : Option ℕ) → World l → l.pending ≡ [] → (f : TestFormed h e) → AreReady h (cells l) (expression_calls h.scope e) →
+      Does l (settled (assertion l at kind e) next).1 (expression_calls h.scope e) (Led g h (settled (assertion l at kind e) next).0 (expression_calls h.scope e) at (code.assert_that f.cell (said_of kind)) next)
+  unfolding assertion
+  assert_does l at kind e next w none f n =
+      let done = test_does l e f at (λ c. code.assert_that c (laid.said_of kind)) 0 next (λ c. c) w none n in
+      subst (λ y. Does l (settled (assertion l at kind e) next).1 (expression_calls h.scope e) (Led g h (settled (assertion l at kind e) next).0 (expression_calls h.scope e) at (code.assert_that f.cell y) next)) (said_same kind) done
+
   select_does : (l : Layer) (at : ℕ) (e : syntax.Expression) (as' : List code.Arm) (next : Option ℕ) → World l → l.pending ≡ [] → (f : OrdinalFormed h e) → AreReady h (cells l) (expression_calls h.scope e) →
       Does l (settled (selected l at e as') next).1 (expression_calls h.scope e) (Led g h (settled (selected l at e as') next).0 (expression_calls h.scope e) at (code.select f.cell as') next)
   unfolding selected
@@ -606,14 +571,14 @@ module _ (k : Numbering) (h : Here) (g : Ground) (few : length g.tables.items �
     statement_does l (syntax.assign at (syntax.designator x ss) e) next w none f n = assign_does l at x ss e next w none f n
     statement_does l (syntax.invoke at (syntax.designator x ss) es) next w none f n = invoke_does l at x ss es next w none (scopes.find x.name h.scope) refl f n
     statement_does l (syntax.block at ss) next w none f n =
-        let x : Option ℕ × Layer = statements l ss in
-        let a = statements_do l ss w none f n in
+        let x : Option ℕ × Layer = statements l ss None in
+        let a = statements_do l ss None w none f n in
         let c = alone_does x.1 at (code.block x.0) (need_inside x.1.items x.0) next (world_grown l x.1 a.grew w) a.pending tt in
         subst (λ is. Does l (statement l (syntax.block at ss) next).1 is (StatementIs g h (statement l (syntax.block at ss) next).0 (syntax.block at ss) next)) (append-nil (all_calls_laid h.scope ss))
         (both_do l x.1 (statement l (syntax.block at ss) next).1 (all_calls_laid h.scope ss) [] _ _ (StatementIs g h (statement l (syntax.block at ss) next).0 (syntax.block at ss) next) a c (λ y z. (z.number, z.calls, (x.0, y, z.item))))
     statement_does l (syntax.cycle at ss) next w none f n =
-        let x : Option ℕ × Layer = statements l ss in
-        let a = statements_do l ss w none f n in
+        let x : Option ℕ × Layer = statements l ss None in
+        let a = statements_do l ss None w none f n in
         let c = alone_does x.1 at (code.cycle x.0) (need_inside x.1.items x.0) next (world_grown l x.1 a.grew w) a.pending tt in
         subst (λ is. Does l (statement l (syntax.cycle at ss) next).1 is (StatementIs g h (statement l (syntax.cycle at ss) next).0 (syntax.cycle at ss) next)) (append-nil (all_calls_laid h.scope ss))
         (both_do l x.1 (statement l (syntax.cycle at ss) next).1 (all_calls_laid h.scope ss) [] _ _ (StatementIs g h (statement l (syntax.cycle at ss) next).0 (syntax.cycle at ss) next) a c (λ y z. (z.number, z.calls, (x.0, y, z.item))))
@@ -657,10 +622,10 @@ module _ (k : Numbering) (h : Here) (g : Ground) (few : length g.tables.items �
           record { test = f.0.cell; body = x.0; again = again (expression x.1 e).1; formed = f.0.test; list = y; calls = subst (λ q. CallsAre g h q js (Some z.0.number)) z.1 z.0.calls; item = z.0.item },
         ))
     statement_does l (syntax.repeat_until at ss e) next w none f n =
-        let x : Option ℕ × Layer = statements l ss in
+        let x : Option ℕ × Layer = statements l ss None in
         let is : List Item = all_calls_laid h.scope ss in
         let js : List Item = expression_calls h.scope e in
-        let a = statements_do l ss w none f.0 (ready_first h (cells l) is js n) in
+        let a = statements_do l ss None w none f.0 (ready_first h (cells l) is js n) in
         repeat_does l x.1 at x.0 ss e next (world_grown l x.1 a.grew w) none f.1 a (ready_rest h (cells l) x.1 is js a.taken n)
     statement_does l (syntax.for_do at i e d f s) next w none x n =
         let y : Option ℕ × Layer = statement l s None in
@@ -674,16 +639,23 @@ module _ (k : Numbering) (h : Here) (g : Ground) (few : length g.tables.items �
           record { origin = x.0.origin; range = x.0.range; from_ty = x.0.first.ty; to_ty = x.0.last.ty; from = x.0.first.cell; to = x.0.last.cell; body = y.0; variable = x.0.variable; first = x.0.first.formed; last = x.0.last.formed; list = u; item = v.item },
         ))
     statement_does l (syntax.init at ts) next w none f n = starts_do l ts next w none f n
+    statement_does l (syntax.asserted at kind e s) next w none f n =
+        let x : Option ℕ × Layer = statement l s next in
+        let is : List Item = calls_laid h.scope s in
+        let js : List Item = expression_calls h.scope e in
+        let a = statement_does l s next w none f.1 (ready_first h (cells l) is js n) in
+        let c = assert_does x.1 at kind e x.0 (world_grown l x.1 a.grew w) a.pending f.0 (ready_rest h (cells l) x.1 is js a.taken n) in
+        both_do l x.1 (statement l (syntax.asserted at kind e s) next).1 is js _ _ (StatementIs g h (statement l (syntax.asserted at kind e s) next).0 (syntax.asserted at kind e s) next) a c (λ y z. (z.number, z.calls, (f.0.cell, x.0, f.0.test, y, z.item)))
 
-    pub statements_do : (l : Layer) (ss : syntax.Statements) → World l → l.pending ≡ [] → AllFormed h ss → AreReady h (cells l) (all_calls_laid h.scope ss) → Does l (statements l ss).1 (all_calls_laid h.scope ss) (OwnAll g h ss (statements l ss).0 None)
-    statements_do l syntax.no_statements w none f n = record { taken = takes_none l; pending = none; grew = kept_grew l l refl; means = none_new h l; stands = λ b. refl }
-    statements_do l (syntax.more_statements s ss) w none f n =
-        let rest : Option ℕ × Layer = statements l ss in
+    pub statements_do : (l : Layer) (ss : syntax.Statements) (after : Option ℕ) → World l → l.pending ≡ [] → AllFormed h ss → AreReady h (cells l) (all_calls_laid h.scope ss) → Does l (statements l ss after).1 (all_calls_laid h.scope ss) (OwnAll g h ss (statements l ss after).0 after)
+    statements_do l syntax.no_statements after w none f n = record { taken = takes_none l; pending = none; grew = kept_grew l l refl; means = none_new h l; stands = λ b. refl }
+    statements_do l (syntax.more_statements s ss) after w none f n =
+        let rest : Option ℕ × Layer = statements l ss after in
         let is : List Item = all_calls_laid h.scope ss in
         let js : List Item = calls_laid h.scope s in
-        let a = statements_do l ss w none f.1 (ready_first h (cells l) is js n) in
+        let a = statements_do l ss after w none f.1 (ready_first h (cells l) is js n) in
         let c = statement_does rest.1 s rest.0 (world_grown l rest.1 a.grew w) a.pending f.0 (ready_rest h (cells l) rest.1 is js a.taken n) in
-        both_do l rest.1 (statement rest.1 s rest.0).1 is js _ _ (OwnAll g h (syntax.more_statements s ss) (statement rest.1 s rest.0).0 None) a c (λ y z. (rest.0, z, y))
+        both_do l rest.1 (statement rest.1 s rest.0).1 is js _ _ (OwnAll g h (syntax.more_statements s ss) (statement rest.1 s rest.0).0 after) a c (λ y z. (rest.0, z, y))
 
     arms_do : (l : Layer) (as' : syntax.Arms) → World l → l.pending ≡ [] → ArmsFormed h as' → AreReady h (cells l) (arms_calls_laid h.scope as') → Does l (arms l as').1 (arms_calls_laid h.scope as') (OwnArms g h as' (arms l as').0)
     arms_do l syntax.no_arms w none f n = record { taken = takes_none l; pending = none; grew = kept_grew l l refl; means = none_new h l; stands = λ b. tt }
@@ -701,12 +673,46 @@ module _ (k : Numbering) (h : Here) (g : Ground) (few : length g.tables.items �
         let a = statement_does l s None w none f.1 n in
         then_does l x.1 (calls_laid h.scope s) _ (OwnArm g h (syntax.arm cs s) (one_arm l (syntax.arm cs s)).0) (λ y. (labels_same x.1 cs (world_grown l x.1 a.grew w) f.0, y)) a
 
--- the items of a whole list
+  -- ---- bodies
+
+  -- the checks at the end
+  ended_does : (l : Layer) (checks : Bool) → World l → l.pending ≡ [] → Does l (end_of_body l checks).1 [] (ChecksAre g h (end_of_body l checks).0 (last_checks checks h.scope) None)
+  ended_does l true w none =
+      let m : Layer = checked l 0 in
+      let c : ChecksGo g h l m (check_items 0 h.scope) = checks_go k h g l l 0 w refl in
+      let e : cells (settled m None).1 ≡ cells l = ap (λ (f : layers.Frame). length f.image) (all_frame (without_pending m) m.pending None) ∙ c.image in
+      record {
+        taken = omega (arith, e);
+        pending = all_pending (without_pending m) m.pending None;
+        grew = grew_trans l m (settled m None).1 (kept_grew l m (checked_kept l 0)) (settled_grew m None);
+        means = end_new g h l m (check_items 0 h.scope) none (checked_kept l 0) c;
+        stands = λ b. checks_end g h l m (check_items 0 h.scope) none c b;
+      }
+  ended_does l false w none =
+      let c : ChecksGo g h l l [] = checks_none g h l in
+      let e : cells (settled l None).1 ≡ cells l = ap (λ (f : layers.Frame). length f.image) (all_frame (without_pending l) l.pending None) in
+      record {
+        taken = omega (arith, e);
+        pending = all_pending (without_pending l) l.pending None;
+        grew = settled_grew l None;
+        means = end_new g h l l [] none refl c;
+        stands = λ b. checks_end g h l l [] none c b;
+      }
+
+  pub body_does : (l : Layer) (ss : syntax.Statements) (checks : Bool) → World l → l.pending ≡ [] → AllFormed h ss → AreReady h (cells l) (all_calls_laid h.scope ss) → Does l (body_items l ss checks).1 (all_calls_laid h.scope ss) (BodyIs g h ss (last_checks checks h.scope) (body_items l ss checks).0)
+  body_does l ss checks w none f n =
+      let end : Option ℕ × Layer = end_of_body l checks in
+      let is : List Item = all_calls_laid h.scope ss in
+      let a = ended_does l checks w none in
+      let c = statements_do end.1 ss end.0 (world_grown l end.1 a.grew w) a.pending f (ready_rest h (cells l) end.1 [] is a.taken n) in
+      both_do l end.1 (body_items l ss checks).1 [] is _ _ (BodyIs g h ss (last_checks checks h.scope) (body_items l ss checks).0) a c (λ y z. (end.0, z, y))
+
+-- the items of a whole body
 pub statements_law : StatementsLaw
-statements_law k h g l ss few numbered w c =
-    let d = statements_do k h g few numbered l ss w c.pending c.formed c.calls in
+statements_law k h g l ss checks few numbered w c =
+    let d = body_does k h g few numbered l ss checks w c.pending c.formed c.calls in
     record { stand = d.stands; cells = d.taken }
 
 -- and each of them means something
-pub statements_mean : (k : Numbering) (h : Here) (g : Ground) (l : Layer) (ss : syntax.Statements) → length g.tables.items ≤ most → ((at : ℕ) → g.firsts at ≡ k.firsts at) → Surroundings k h g l → CanStand h l ss → NewItems h l (statements l ss).1
-statements_mean k h g l ss few numbered w c = (statements_do k h g few numbered l ss w c.pending c.formed c.calls).means
+pub statements_mean : (k : Numbering) (h : Here) (g : Ground) (l : Layer) (ss : syntax.Statements) (checks : Bool) → length g.tables.items ≤ most → ((at : ℕ) → g.firsts at ≡ k.firsts at) → Surroundings k h g l → CanStand h l ss → NewItems h l (body_items l ss checks).1
+statements_mean k h g l ss checks few numbered w c = (body_does k h g few numbered l ss checks w c.pending c.formed c.calls).means

@@ -2,7 +2,7 @@
 use Rattle.std.proofs.Common.{◌≡◌, ℕ, ◌+◌, Bool, true, false, if◌then◌else◌, List, [], ◌∷◌, Option, Some, None, Ok, Err, is_some, refl, ap, subst, ◌∙◌}
 use Rattle.cp_resolved.proofs.Words.{nat_eq, ◌&&◌, not, eq-eqb, Identifier, Use, CheckFault, ValueType, no_use, Judged, both, ◌>>=◌, faults, Context, Operand, Label}
 use Rattle.cp_resolved.proofs.Words.{no_left, no_right, no_first, Name, C5, C10, Loud, Heard, arguments_loud}
-use Rattle.cp_tree.specs.Syntax.{Expression, alone, related, Sum, sum, Terms, no_terms, more_terms, Term, term, Factors, no_factors, more_factors, Factor, named, group, negated, set_of, Expressions, no_expressions, more_expressions, Designator, designator, Selectors, no_selectors, more_selectors, Selector, field, index, Start, Statement, empty, assign, invoke, block, if_then, if_else, case_of, while_do, repeat_until, for_do, cycle, init, Statements, no_statements, more_statements, Arms, no_arms, more_arms, Arm, arm}
+use Rattle.cp_tree.specs.Syntax.{nameless, Expression, alone, related, Sum, sum, Terms, no_terms, more_terms, Term, term, Factors, no_factors, more_factors, Factor, named, group, negated, set_of, Expressions, no_expressions, more_expressions, Designator, designator, Selectors, no_selectors, more_selectors, Selector, field, index, Start, Statement, empty, assign, invoke, block, if_then, if_else, case_of, while_do, repeat_until, for_do, cycle, init, asserted, Statements, no_statements, more_statements, Arms, no_arms, more_arms, Arm, arm}
 use Rattle.cp_scope.specs.declared.fault.CheckFault.TheVariants as check_fault
 use Rattle.cp_scope.specs.declared.types.Meaning.TheVariants as meaning
 use Rattle.cp_scope.specs.declared.types.Parameter.{Parameter}
@@ -14,9 +14,11 @@ use Rattle.cp_check.specs.declared.operand.OperandUse.TheVariants.{Function}
 use Rattle.cp_check.specs.Calls as calls
 use Rattle.cp_check.specs.Expressions as expressions
 use Rattle.cp_check.specs.Names as names
+use Rattle.cp_check.specs.Operands.{quiet}
 use Rattle.cp_check.specs.Statements as statements
 use Rattle.cp_check.specs.Cases.{joined}
 use Rattle.cp_resolved.proofs.agreeing.Agreeing.{none_of_both as both_none}
+use Rattle.cp_resolved.proofs.declarations.Nameless.{IsSaid, SaysSome}
 
 -- ---- statements that call none of some names
 
@@ -78,7 +80,8 @@ module _ (P : Name → Type 0) where
     pub AvoidsStatement : Statement → Type 0
     AvoidsStatement (empty at) = Unit {0}
     AvoidsStatement (assign at d e) = AvoidsDesignator d × AvoidsExpression e
-    AvoidsStatement (invoke at d es) = AvoidsCall d × AvoidExpressions es
+    -- a check may come before it
+    AvoidsStatement (invoke at d es) = AvoidsCall d × AvoidExpressions es × (P nameless → ⊥)
     AvoidsStatement (block at ss) = AvoidStatements ss
     AvoidsStatement (if_then at e s) = AvoidsExpression e × AvoidsStatement s
     AvoidsStatement (if_else at e s t) = AvoidsExpression e × AvoidsStatement s × AvoidsStatement t
@@ -88,6 +91,7 @@ module _ (P : Name → Type 0) where
     AvoidsStatement (for_do at i e d f s) = AvoidsExpression e × AvoidsExpression f × AvoidsStatement s
     AvoidsStatement (cycle at ss) = AvoidStatements ss
     AvoidsStatement (init at ts) = AvoidStarts ts
+    AvoidsStatement (asserted at k e s) = AvoidsExpression e × AvoidsStatement s
 
     pub AvoidStatements : Statements → Type 0
     AvoidStatements no_statements = Unit {0}
@@ -267,14 +271,37 @@ module _ (s : Scopes) (w : Context) (heard : Heard s) (P : Name → Type 0) (own
   designator_avoids : (d : Designator) → faults (expressions.designator s w d) ≡ [] → AvoidsDesignator P d
   designator_avoids (designator i ss) h = selected_avoids i ss h
 
-  -- ---- statements
+-- ---- statements
 
+module _ (s : Scopes) (w : Context) (heard : Heard s) (P : Name → Type 0) (own : (x : Name) → P x → (n : ℕ) × ((w.routine ≡ Some n) × (look x s ≡ Some (Some (meaning.Routine n))))) where
+  -- in an annotation, which is of the same routine
+  assertion_avoids : (e : Expression) → faults (statements.assertion s w e) ≡ [] → AvoidsExpression P e
+  unfolding statements.assertion
+  assertion_avoids e h = expression_avoids s (quiet w) heard P own false e (no_first (expressions.expression s (quiet w) false e) _ h)
+
+  -- what the invariants of a block say
+  said_avoids : (t : Statement) → IsSaid t → faults (statements.statement s w t) ≡ [] → AvoidsStatement P t
+  unfolding statements.statement
+  said_avoids (empty at) i h = tt
+  said_avoids (asserted at k e t) i h =
+      let x = both_none (statements.assertion s w e) (statements.statement s w t) (no_first (both (statements.assertion s w e) (statements.statement s w t)) statements.together h) in
+      (assertion_avoids e x.0, said_avoids t i x.1)
+  said_avoids _ i h = absurd i
+
+  pub says_avoid : (ss : Statements) (j : Judged Use) → SaysSome ss → faults (statements.statements s w j ss) ≡ [] → AvoidStatements P ss
+  unfolding statements.statements
+  says_avoid (more_statements (asserted at k e t) no_statements) j i h =
+      let x = both_none j (statements.statement s w (asserted at k e t)) (no_first (both j (statements.statement s w (asserted at k e t))) statements.together h) in
+      (said_avoids (asserted at k e t) i x.1, tt)
+  says_avoid _ j i h = absurd i
+
+module _ (s : Scopes) (w : Context) (heard : Heard s) (P : Name → Type 0) (own : (x : Name) → P x → (n : ℕ) × ((w.routine ≡ Some n) × (look x s ≡ Some (Some (meaning.Routine n))))) (none : P nameless → ⊥) where
   assign_avoids : (at : ℕ) (d : Designator) (e : Expression) → faults (statements.assignment s w at d e) ≡ [] → AvoidsDesignator P d × AvoidsExpression P e
   unfolding statements.assignment
   assign_avoids at d e h =
       let aim : Judged _ = expressions.designator s w d >>= statements.with_target s w (statements.name_at d) in
       let x = both_none aim (expressions.expression s w false e) (no_first (both aim (expressions.expression s w false e)) (statements.finish_assignment at) h) in
-      (designator_avoids d (no_first (expressions.designator s w d) (statements.with_target s w (statements.name_at d)) x.0), expression_avoids false e x.1)
+      (designator_avoids s w heard P own d (no_first (expressions.designator s w d) (statements.with_target s w (statements.name_at d)) x.0), expression_avoids s w heard P own false e x.1)
 
   procedure_avoided : (at : ℕ) (i : Identifier) (es : Expressions) → faults (statements.call s w at (designator i no_selectors) es) ≡ [] → P i.name → ⊥
   unfolding statements.call statements.invoked
@@ -286,8 +313,8 @@ module _ (s : Scopes) (w : Context) (heard : Heard s) (P : Name → Type 0) (own
       let parts = both_none d os (no_first (both d os) (statements.invoked s w at) h) in
       let x = loud_ok os (arguments_loud s w heard ps 0 es) parts.1 in
       let h' : faults (both d (Ok x.0) >>= statements.invoked s w at) ≡ [] = subst (λ (j : Judged (List Operand)). faults (both d j >>= statements.invoked s w at) ≡ []) x.1 h in
-      let h'' : faults (both (Ok (names.designated i.at no_use (names_for.Routine o.0))) (Ok x.0) >>= statements.invoked s w at) ≡ [] = subst (λ (j : Judged DesignatedName). faults (both j (Ok x.0) >>= statements.invoked s w at) ≡ []) (own_designated i o.0 o.1.1) h' in
-      procedure_refused at i.at o.0 x.0 no_use o.1.0 h''
+      let h'' : faults (both (Ok (names.designated i.at no_use (names_for.Routine o.0))) (Ok x.0) >>= statements.invoked s w at) ≡ [] = subst (λ (j : Judged DesignatedName). faults (both j (Ok x.0) >>= statements.invoked s w at) ≡ []) (own_designated s w heard P own i o.0 o.1.1) h' in
+      procedure_refused s w heard P own at i.at o.0 x.0 no_use o.1.0 h''
 
   invoked_name : (at : ℕ) (i : Identifier) (ss : Selectors) (es : Expressions) → faults (statements.call s w at (designator i ss) es) ≡ [] → AvoidsName P i ss
   invoked_name at i no_selectors es h = procedure_avoided at i es h
@@ -300,7 +327,7 @@ module _ (s : Scopes) (w : Context) (heard : Heard s) (P : Name → Type 0) (own
       let ps : List Parameter = statements.parameters_named s (statements.number_of es) d in
       let os : Judged (List Operand) = expressions.arguments s w ps 0 es in
       let x = both_none d os (no_first (both d os) (statements.invoked s w at) h) in
-      ((invoked_name at i ss es h, selected_avoids i ss x.0), arguments_avoid ps 0 es x.1)
+      ((invoked_name at i ss es h, selected_avoids s w heard P own i ss x.0), arguments_avoid s w heard P own ps 0 es x.1)
 
   starts_avoid : (ts : List Start) (j : Judged Use) → faults (statements.starts s w j ts) ≡ [] → AvoidStarts P ts
   unfolding statements.starts statements.start
@@ -311,7 +338,7 @@ module _ (s : Scopes) (w : Context) (heard : Heard s) (P : Name → Type 0) (own
       let d : Judged DesignatedName = expressions.designator s w t.target in
       let os : Judged (List Operand) = expressions.arguments s w [] 0 t.arguments in
       let z = both_none d os (no_first (both d os) (statements.started s (statements.name_at t.target)) y.1) in
-      (designator_avoids t.target z.0, arguments_avoid [] 0 t.arguments z.1, starts_avoid ts (both j (statements.start s w t) >>= statements.together) h)
+      (designator_avoids s w heard P own t.target z.0, arguments_avoid s w heard P own [] 0 t.arguments z.1, starts_avoid ts (both j (statements.start s w t) >>= statements.together) h)
     where
       start_none : (us : List Start) (k : Judged Use) → faults (statements.starts s w k us) ≡ [] → faults k ≡ []
       start_none [] k f = f
@@ -323,34 +350,37 @@ module _ (s : Scopes) (w : Context) (heard : Heard s) (P : Name → Type 0) (own
     statement_avoids : (t : Statement) → faults (statements.statement s w t) ≡ [] → AvoidsStatement P t
     statement_avoids (empty at) h = tt
     statement_avoids (assign at d e) h = assign_avoids at d e h
-    statement_avoids (invoke at d es) h = invoke_avoids at d es h
+    statement_avoids (invoke at d es) h = (let x = invoke_avoids at d es h in (x.0, x.1, none))
     statement_avoids (block at ss) h = (statements_avoid ss (Ok no_use) h).1
     statement_avoids (cycle at ss) h = (statements_avoid ss (Ok no_use) h).1
     statement_avoids (if_then at e t) h =
         let x = both_none (expressions.expression s w false e) (statements.statement s w t) (no_first (both (expressions.expression s w false e) (statements.statement s w t)) (statements.test_then at) h) in
-        (expression_avoids false e x.0, statement_avoids t x.1)
+        (expression_avoids s w heard P own false e x.0, statement_avoids t x.1)
     statement_avoids (if_else at e t u) h =
         let b : Judged Use = both (statements.statement s w t) (statements.statement s w u) >>= statements.together in
         let x = both_none (expressions.expression s w false e) b (no_first (both (expressions.expression s w false e) b) (statements.test_then at) h) in
         let y = both_none (statements.statement s w t) (statements.statement s w u) (no_first (both (statements.statement s w t) (statements.statement s w u)) statements.together x.1) in
-        (expression_avoids false e x.0, statement_avoids t y.0, statement_avoids u y.1)
+        (expression_avoids s w heard P own false e x.0, statement_avoids t y.0, statement_avoids u y.1)
     statement_avoids (while_do at e t) h =
         let x = both_none (expressions.expression s w false e) (statements.statement s w t) (no_first (both (expressions.expression s w false e) (statements.statement s w t)) (statements.test_then at) h) in
-        (expression_avoids false e x.0, statement_avoids t x.1)
+        (expression_avoids s w heard P own false e x.0, statement_avoids t x.1)
     statement_avoids (repeat_until at ss e) h =
         let x = both_none (statements.statements s w (Ok no_use) ss) (expressions.expression s w false e) (no_first (both (statements.statements s w (Ok no_use) ss) (expressions.expression s w false e)) (statements.test_last at) h) in
-        ((statements_avoid ss (Ok no_use) x.0).1, expression_avoids false e x.1)
+        ((statements_avoid ss (Ok no_use) x.0).1, expression_avoids s w heard P own false e x.1)
     statement_avoids (for_do at i a d b t) h =
         let first : Judged _ = both (names.begun s i) (expressions.expression s w false a) in
         let second : Judged _ = both first (expressions.expression s w false b) in
         let x = both_none second (statements.statement s w t) (no_first (both second (statements.statement s w t)) (statements.count_over s w at i.at) h) in
         let y = both_none first (expressions.expression s w false b) x.0 in
         let z = both_none (names.begun s i) (expressions.expression s w false a) y.0 in
-        (expression_avoids false a z.1, expression_avoids false b y.1, statement_avoids t x.1)
+        (expression_avoids s w heard P own false a z.1, expression_avoids s w heard P own false b y.1, statement_avoids t x.1)
+    statement_avoids (asserted at k e t) h =
+        let x = both_none (statements.assertion s w e) (statements.statement s w t) (no_first (both (statements.assertion s w e) (statements.statement s w t)) statements.together h) in
+        (assertion_avoids s w heard P own e x.0, statement_avoids t x.1)
     statement_avoids (init at ts) h = starts_avoid ts (Ok no_use) (no_first (statements.starts s w (Ok no_use) ts) (statements.initial at w) h)
     statement_avoids (case_of at e bs b) h =
         let x = both_none (expressions.expression s w false e) (statements.arms s w (Ok ([], no_use)) bs) (no_first (both (expressions.expression s w false e) (statements.arms s w (Ok ([], no_use)) bs)) _ h) in
-        (expression_avoids false e x.0, (arms_avoid bs (Ok ([], no_use)) x.1).1)
+        (expression_avoids s w heard P own false e x.0, (arms_avoid bs (Ok ([], no_use)) x.1).1)
 
     arms_avoid : (bs : Arms) (j : Judged (List Label × Use)) → faults (statements.arms s w j bs) ≡ [] → (faults j ≡ []) × AvoidArms P bs
     arms_avoid no_arms j h = (h, tt)

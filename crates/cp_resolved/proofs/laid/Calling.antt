@@ -2,6 +2,7 @@
 use Rattle.std.proofs.Common.{◌≡◌, ℕ, ◌+◌, ◌*◌, ◌<◌, ◌≤◌, Bool, List, [], ◌∷◌, ◌++◌, length, Option, Some, None, slice_get, slice_index, refl, sym, ap, subst, ◌∙◌, ◌⊎◌, inl, inr, append_assoc, append-nil, arith, length-append}
 use Rattle.cp_resolved.proofs.Words.{Each, slice_get_within, plus, RoutineView}
 use Rattle.cp_tree.specs.Syntax as syntax
+use Rattle.cp_symbols.specs.declared.names.LayoutMeaning.TheVariants as meaning
 use Rattle.cp_slots.specs.Code as code
 use Rattle.cp_slots.specs.Code.{ComponentPlace, Argument, Arm, Action, Item}
 use Rattle.cp_layout.specs.Values.{Designated, a_routine, an_entry, ordinal_of}
@@ -12,7 +13,7 @@ use Rattle.cp_resolved.proofs.names.Entries.{not_there, past_there}
 use Rattle.cp_resolved.proofs.laid.Fitting.{ListFits, list_longer, need_longer}
 use Rattle.cp_resolved.proofs.laid.Grown.{Grew, grew_trans, kept_grew}
 use Rattle.cp_resolved.proofs.laid.Kept.{Kept, kept_trans, expression_kept, selector_kept}
-use Rattle.cp_resolved.proofs.laid.Named.{Named, DesignatedIn, begun_there, field_there, element_there}
+use Rattle.cp_resolved.proofs.laid.Named.{Named, IsFound, found, DesignatedIn, begun_there, field_there, element_there}
 use Rattle.cp_resolved.proofs.laid.Walked.{IsCallee, CallSteps, never, expression_walked}
 use Rattle.cp_resolved.proofs.frames.FrameCells.{each_both}
 
@@ -307,12 +308,20 @@ callee_is l _ h = tt
 pub still_below : (l m : Layer) (r : ℕ) → Ran l m → r ≤ length l.routines → r ≤ length m.routines
 still_below l m r h le = let e : length m.routines ≡ length l.routines = ap (λ (j : Layer). length j.routines) h.kept in omega (arith, e, le)
 
+-- what a name stands for, before and after
+named_below : (l m : Layer) (r : ℕ) → Ran l m → Named m → layers.find syntax.nameless m.names ≡ Some (meaning.Routine r) → r ≤ length l.routines
+named_below l m r h n e =
+    let i : r ≤ length m.routines = subst (IsFound (length m.systems) (length m.routines)) e (found (length m.systems) (length m.routines) syntax.nameless m.names n.names) in
+    let q : length m.routines ≡ length l.routines = ap (λ (j : Layer). length j.routines) h.kept in
+    omega (arith, i, q)
+
 pub ran_calls : (l : Layer) → Ground l → CallSteps (Ran l) (λ r. r ≤ length l.routines) ⊥ (λ x. ⊥)
 ran_calls l g =
     record {
       callee = λ m d h b. callee_is l (designator m d).0 (designated_back l m (designator m d).0 h.kept (designator_there m d (named_kept l m h.kept g.named)));
       counts = λ m k h. ran_trans l m (with_count m k) h (count_ran m k);
       call = λ m r at c b as' i e h. ran_trans l m (layers.added (with_room (with_cell m) r) at (code.call r c b as' (Some (length m.frame.image))) (call_need (with_cell m) r)) h (called_ran m at c b r as' (still_below l m r h i) e (ground_kept l m h.kept g));
+      check = λ m r h b e. named_below l m r h (named_kept l m h.kept g.named) e;
     }
 
 pub expression_ran : (l : Layer) (e : syntax.Expression) → Ground l → Ran l (expression l e).1

@@ -2,7 +2,7 @@
 use Rattle.std.proofs.Common.{◌≡◌, ℕ, zero, suc, List, [], ◌∷◌, ◌++◌, length, Some, slice_get, refl, sym, ap, subst, ◌∙◌, arith, length-append}
 use Rattle.cp_tree.specs.Syntax as syntax
 use Rattle.cp_slots.specs.Code as code
-use Rattle.cp_resolved.proofs.Words.{Each, Layer, nothing_laid, statements, routine_in, Scope, seen_inside, nothing_declared, whole_laid}
+use Rattle.cp_resolved.proofs.Words.{Each, Layer, nothing_laid, routine_in, Scope, seen_inside, nothing_declared, whole_laid}
 use Rattle.cp_layout.specs.LaidDeclarations.{heading, with_heading, opened, routine, routines, entered, system_groups, system, definition, system_definition, system_definitions, program_part, program_parts, program}
 use Rattle.cp_meaning.specs.Systems.{Declared, definition_in, program_part_in, declared, program_system, own_meaning, system_in}
 use Rattle.cp_resolved.specs.Begun.{routine_begun, routines_begun, initial_begun, parameters_of, parts_begun, system_begun, definition_begun, definitions_begun, part_begun, program_parts_begun, all_begun}
@@ -10,6 +10,7 @@ use Rattle.cp_resolved.specs.Openings.{Opening, routine_openings, parts_scope, i
 use Rattle.cp_resolved.specs.Openings.{with_routine as with_named}
 use Rattle.cp_resolved.proofs.laid.Declares.{heading_declares, local_parts_declare, permanent_parts_declare, system_groups_declare, type_declares, constants_declare, variables_declare}
 use Rattle.cp_resolved.proofs.frames.FrameCells.{each_both}
+use Rattle.cp_resolved.specs.ItemsStand.{body_items}
 
 module _ (Q : code.Item → Type 0) where
   abbrev pub All : List code.Item → Type 0
@@ -18,7 +19,7 @@ module _ (Q : code.Item → Type 0) where
   -- the statements that begin in this state append items of which this holds
   pub record Adds (l : Layer) (o : Opening) : Type 0 where
     pub new : List code.Item
-    pub same : (statements l o.meaning.body).1.items ≡ l.items ++ new
+    pub same : (body_items l o.meaning.body o.meaning.checks).1.items ≡ l.items ++ new
     pub all : All new
 
   abbrev pub EachAdds : List Layer → List Opening → Type 0
@@ -75,7 +76,7 @@ module _ (Q : code.Item → Type 0) where
 
   -- ---- through the declarations
 
-  body_covers : (l b : Layer) (o : Opening) → b.items ≡ l.items → Adds b o → All l.items → All (statements b o.meaning.body).1.items
+  body_covers : (l b : Layer) (o : Opening) → b.items ≡ l.items → Adds b o → All l.items → All (body_items b o.meaning.body o.meaning.checks).1.items
   body_covers l b o e a h = subst All (sym (a.same ∙ ap (λ is. is ++ a.new) e)) (each_both Q l.items a.new h a.all)
 
   begun_items : (l : Layer) (r : syntax.Routine) → (routine_begun l r).items ≡ l.items

@@ -207,6 +207,7 @@ module _ {R : Layer → Layer → Type 0} {N : Layer → Type 0} {T : Layer → 
     heading_leads l x (syntax.function gs y) i =
         let p = constant_groups l [] gs in
         then_leads l p.1 (heading l x (syntax.function gs y)).1 (constant_groups_lead l [] gs i) (f.result p.1 (named_type p.1 y.name))
+    heading_leads l x syntax.invariants i = s.same l i
 
   -- ---- permanent variables and the parameters of system types
 

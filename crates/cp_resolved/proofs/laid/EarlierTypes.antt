@@ -11,7 +11,7 @@ use Rattle.cp_layout.specs.LaidTypes.{type_meant, with_constant, fields_of_type}
 use Rattle.cp_layout.specs.LaidDeclarations.{with_local, variable_with, permanent_parts, local, Parameters, var_parameter, heading, heading_with, body, with_new_frame, with_heading, opened, routine, routines, entered, system_parameter, system_groups, system, definition, system_definition, system_definitions, program_part, program_parts, program}
 use Rattle.cp_resolved.proofs.names.Entries.{last_or_before}
 use Rattle.cp_resolved.proofs.laid.Extends.{Longer, routine_extends, routine_names, system_extends}
-use Rattle.cp_resolved.proofs.laid.Grown.{statements_grew}
+use Rattle.cp_resolved.proofs.laid.Grown.{body_grew}
 use Rattle.cp_resolved.proofs.frames.EncodedCells.{IsBelow, AreBelow, HoldsBelow, HoldEarlier}
 use Rattle.cp_resolved.proofs.laid.Declaring.{latest_type, TypeSteps, FrameSteps, SystemSteps, type_leads, constants_lead, variables_lead, permanent_parts_lead, local_parts_lead, heading_leads, system_groups_lead}
 use Rattle.cp_resolved.proofs.frames.FrameCells.{each_both}
@@ -130,8 +130,8 @@ orderly_name l x m h o = record { names = (h, o.names); types = o.types }
 
 -- ---- routines
 
-body_types : (l : Layer) (b : syntax.Body) → (body l b).types ≡ l.types
-body_types l b = ap (λ (j : Layer). j.types) (statements_grew l b.statements).1
+body_types : (l : Layer) (b : syntax.Body) (c : Bool) → (body l b c).types ≡ l.types
+body_types l b c = ap (λ (j : Layer). j.types) (body_grew l b.statements c).1
 
 routine_orderly : (l : Layer) (r : syntax.Routine) → Orderly l → Orderly (routine l r)
 routine_orderly l r o =
@@ -143,7 +143,7 @@ routine_orderly l r o =
     let e : Longer l.types (routine l r).types = (routine_extends l r).types in
     record {
       names = subst (λ (ns : Names). KindsBelow (length (routine l r).types) ns) (sym (routine_names l r)) (tt, kinds_higher (length l.types) (length (routine l r).types) l.names (longer_length l.types (routine l r).types e) o.names);
-      types = subst HoldEarlier (sym (body_types (routine_begun l r) r.body)) c.types;
+      types = subst HoldEarlier (sym (body_types (routine_begun l r) r.body r.is_entry)) c.types;
     }
 
 routines_orderly : (l : Layer) (rs : List syntax.Routine) → Orderly l → Orderly (routines l rs)
@@ -172,7 +172,7 @@ system_orderly l s o =
     let le : length l.types ≤ length (system l s).1.types = longer_length l.types (system l s).1.types e in
     record {
       names = kinds_higher (length l.types) (length (system l s).1.types) l.names le o.names;
-      types = subst HoldEarlier (sym (body_types (with_heading (with_new_frame (system_begun l s)) (heading_with [] y.0 None)) s.body)) b.types;
+      types = subst HoldEarlier (sym (body_types (with_heading (with_new_frame (system_begun l s)) (heading_with [] y.0 None)) s.body true)) b.types;
     }
 
 -- ---- the program
@@ -203,4 +203,4 @@ program_earlier lines p =
     let m : Layer = program_parts (nothing_laid lines) p.parts in
     let a : Orderly (nothing_laid lines) = record { names = (tt, (tt, (tt, (tt, (tt, (tt, (tt, (tt, (tt, (tt, (tt, (tt, (tt, (tt, (tt, tt))))))))))))))); types = λ n c e. absurd (none-some c e) } in
     let b : Orderly (routines m p.routines) = routines_orderly m p.routines (parts_orderly (nothing_laid lines) p.parts a) in
-    subst HoldEarlier (sym (body_types (with_heading (with_new_frame (routines m p.routines)) (heading_with [] [] None)) p.body)) b.types
+    subst HoldEarlier (sym (body_types (with_heading (with_new_frame (routines m p.routines)) (heading_with [] [] None)) p.body true)) b.types

@@ -6,10 +6,11 @@ use Rattle.cp_tree.specs.Syntax as syntax
 use Rattle.cp_symbols.specs.declared.names.LayoutMeaning.TheVariants as meaning
 use Rattle.cp_symbols.specs.Symbols.{Noted}
 use Rattle.cp_layout.specs.Layers.{Names, Layer, Heading, Owned, Frame, no_frame, with_routine}
-use Rattle.cp_resolved.proofs.Words.{statements, routine_begun, system_begun}
+use Rattle.cp_resolved.proofs.Words.{routine_begun, system_begun, Bool, true}
 use Rattle.cp_layout.specs.LaidDeclarations.{Parameters, heading, heading_with, body, with_new_frame, with_heading, opened, closed, routine, routines, initial_statement, entered, system_groups, permanent_parts, system, definition, system_definition, system_definitions, program_part, program_parts, constants, variables}
-use Rattle.cp_resolved.proofs.laid.Grown.{Grew, statements_grew}
+use Rattle.cp_resolved.proofs.laid.Grown.{Grew, body_grew}
 use Rattle.cp_resolved.proofs.laid.Declares.{Declares, heading_declares, local_parts_declare, permanent_parts_declare, system_groups_declare, type_declares, constants_declare, variables_declare}
+use Rattle.cp_resolved.specs.ItemsStand.{body_items}
 
 abbrev pub Longer : {A : Type 0} → List A → List A → Type 0
 Longer {A} xs ys = (more : List A) × (ys ≡ xs ++ more)
@@ -107,19 +108,19 @@ whole_extends l o =
       systems = longer_same l.systems;
     }
 
-pub body_extends : (l : Layer) (b : syntax.Body) → Extends l (body l b)
-body_extends l b =
-    let x : Option ℕ × Layer = statements l b.statements in
-    extends_trans l x.1 (body l b) (grew_extends l x.1 (statements_grew l b.statements)) (whole_extends x.1 x.0)
+pub body_extends : (l : Layer) (b : syntax.Body) (c : Bool) → Extends l (body l b c)
+body_extends l b c =
+    let x : Option ℕ × Layer = body_items l b.statements c in
+    extends_trans l x.1 (body l b c) (grew_extends l x.1 (body_grew l b.statements c)) (whole_extends x.1 x.0)
 
-pub body_names : (l : Layer) (b : syntax.Body) → (body l b).names ≡ l.names
-body_names l b = ap (λ (j : Layer). j.names) (statements_grew l b.statements).1
+pub body_names : (l : Layer) (b : syntax.Body) (c : Bool) → (body l b c).names ≡ l.names
+body_names l b c = ap (λ (j : Layer). j.names) (body_grew l b.statements c).1
 
 pub initial_extends : (l : Layer) (ps : Parameters) (b : syntax.Body) → Extends l (initial_statement l ps b)
 initial_extends l ps b =
     let k : Layer = with_heading (with_new_frame l) (heading_with [] ps None) in
     let e : Extends l k = extends_trans l (with_new_frame l) k (extends_with l l.names l.owned no_frame l.noted) (heading_extends (with_new_frame l) (heading_with [] ps None)) in
-    extends_trans l k (initial_statement l ps b) e (body_extends k b)
+    extends_trans l k (initial_statement l ps b) e (body_extends k b true)
 
 -- ---- routines
 
@@ -134,7 +135,7 @@ begun_extends l r =
 pub routine_extends : (l : Layer) (r : syntax.Routine) → Extends l (routine l r)
 routine_extends l r =
     let k : Layer = routine_begun l r in
-    let e : Extends l (body k r.body) = extends_trans l k (body k r.body) (begun_extends l r) (body_extends k r.body) in
+    let e : Extends l (body k r.body r.is_entry) = extends_trans l k (body k r.body r.is_entry) (begun_extends l r) (body_extends k r.body r.is_entry) in
     record { lines = e.lines; types = e.types; constants = e.constants; items = e.items; headings = e.headings; routines = e.routines; systems = e.systems }
 
 taken_off : (ns xs : Names) → drop (length (ns ++ xs) - length xs) (ns ++ xs) ≡ xs
@@ -154,7 +155,7 @@ routine_names l r =
     let d : Declares x h.1 = heading_declares x r.name.name r.kind in
     let e : Declares k (routine_begun l r) = local_parts_declare k r.parts in
     let n : (routine_begun l r).names ≡ e.names ++ (d.names ++ x.names) = ap (λ (j : Layer). j.names) e.same ∙ ap (λ (ns : Names). e.names ++ ns) (ap (λ (j : Layer). j.names) d.same) in
-    closed_names (body (routine_begun l r) r.body) (e.names ++ d.names) x.names (body_names (routine_begun l r) r.body ∙ n ∙ sym (append_assoc e.names d.names x.names))
+    closed_names (body (routine_begun l r) r.body r.is_entry) (e.names ++ d.names) x.names (body_names (routine_begun l r) r.body r.is_entry ∙ n ∙ sym (append_assoc e.names d.names x.names))
 
 pub routines_extend : (l : Layer) (rs : List syntax.Routine) → Extends l (routines l rs)
 unfolding routines

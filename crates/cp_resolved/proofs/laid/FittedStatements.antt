@@ -1,6 +1,7 @@
 -- All statements: their items have what they need.
-use Rattle.std.proofs.Common.{◌≡◌, ℕ, ◌+◌, ◌*◌, ◌≤◌, max, List, [], ◌∷◌, length, Option, None, slice_index, refl, ap, arith}
+use Rattle.std.proofs.Common.{Bool, true, false, ◌≡◌, ℕ, ◌+◌, ◌*◌, ◌≤◌, max, List, [], ◌∷◌, length, Option, None, slice_index, refl, ap, arith}
 use Rattle.cp_resolved.proofs.Words.{Direction, CellType, PredeclaredRoutine, Layer, Pending, settled, added, again, need_of, need_inside, call_need, with_room}
+use Rattle.cp_tree.specs.declared.statement.AssertionKind.{AssertionKind}
 use Rattle.cp_tree.specs.Syntax as syntax
 use Rattle.cp_symbols.specs.declared.kinds.CellType.TheVariants as types
 use Rattle.cp_symbols.specs.declared.names.PredeclaredRoutine.TheVariants as predeclared
@@ -8,7 +9,8 @@ use Rattle.cp_slots.specs.Code as code
 use Rattle.cp_slots.specs.Code.{Action, Arm, Place}
 use Rattle.cp_layout.specs.Values.{Value, Designated, a_component, ordinal_of}
 use Rattle.cp_layout.specs.LaidExpressions.{expression, designator}
-use Rattle.cp_layout.specs.LaidStatements.{assigned_as, assigned, invoked, performed, chosen, selected, arms_need, while_item, until_item, for_item, blocked, cycled, repeated, placed_of, started, starts, statement, statements, arms, one_arm, token_of}
+use Rattle.cp_layout.specs.LaidStatements.{assigned_as, assigned, invoked, performed, chosen, selected, arms_need, while_item, until_item, for_item, blocked, cycled, repeated, placed_of, started, starts, checked, assertion, statement, statements, arms, one_arm, token_of}
+use Rattle.cp_layout.specs.LaidDeclarations.{end_of_body}
 use Rattle.cp_resolved.proofs.laid.Calling.{ActionFits, ArmsFit, CallFits, IsNoLoop, Onward, onward_trans, onward_items, onward_routines, action_onward, Ran, ran_same, ran_trans, then_ran, call_step, Ground, ground_kept, designated_kept, designated_back, expression_ran, ran_calls, still_below, designator_there}
 use Rattle.cp_resolved.proofs.laid.Fitted.{Result, moved, alone, own_settled, loop_settled, inside_bounded, list_kept, onward_same, plain_settled as own_item}
 use Rattle.cp_resolved.proofs.laid.Fitting.{ListFits, list_longer, need_longer}
@@ -16,7 +18,8 @@ use Rattle.cp_resolved.proofs.laid.Grown.{kept_grew}
 use Rattle.cp_resolved.proofs.laid.Kept.{Kept}
 use Rattle.cp_resolved.proofs.laid.Named.{Named, DesignatedIn, initial_below}
 use Rattle.cp_resolved.proofs.laid.Settled.{Fitted}
-use Rattle.cp_resolved.proofs.laid.Walked.{IsBegun, ItemSteps, never, assigned_walked, invoked_walked, started_walked}
+use Rattle.cp_resolved.proofs.laid.Walked.{IsBegun, ItemSteps, never, assigned_walked, checked_walked, invoked_walked, started_walked}
+use Rattle.cp_resolved.specs.ItemsStand.{body_items}
 
 -- ---- own items
 
@@ -102,6 +105,10 @@ for_ran l at n e d f o g h =
     let b = inside_bound y.1 o (ground_kept l y.1 q.kept g) u in
     ran_trans l y.1 (for_item l at n e d f o) q (added_ran y.1 at (code.for_do _ _ _ _ _ _ o) (need_inside y.1.items o) (u, omega arith) tt (omega (arith, b)))
 
+assertion_ran : (l : Layer) (at : ℕ) (k : AssertionKind) (e : syntax.Expression) → Ground l → Ran l (assertion l at k e)
+unfolding assertion
+assertion_ran l at k e g = let x = expression l e in ran_trans l x.1 (assertion l at k e) (expression_ran l e g) (added_ran x.1 at (code.assert_that _ _) 0 tt tt (omega arith))
+
 -- ---- arms
 
 abbrev ArmsIn : Layer → List Arm → Type 0
@@ -185,11 +192,11 @@ repeated_fitted l at x e next f r =
 mutual
   unfolding statements statement arms one_arm
 
-  pub statements_fitted : (l : Layer) (ss : syntax.Statements) → Fitted l None → Result l (statements l ss)
-  statements_fitted l syntax.no_statements f = record { onward = onward_same l; fitted = f }
-  statements_fitted l (syntax.more_statements t ts) f =
-      let x : Option ℕ × Layer = statements l ts in
-      let r : Result l x = statements_fitted l ts f in
+  pub statements_fitted : (l : Layer) (ss : syntax.Statements) (after : Option ℕ) → Fitted l after → Result l (statements l ss after)
+  statements_fitted l syntax.no_statements after f = record { onward = onward_same l; fitted = f }
+  statements_fitted l (syntax.more_statements t ts) after f =
+      let x : Option ℕ × Layer = statements l ts after in
+      let r : Result l x = statements_fitted l ts after f in
       then_result l x (statement x.1 t x.0) r (statement_fitted x.1 t x.0 r.fitted)
 
   pub statement_fitted : (l : Layer) (t : syntax.Statement) (next : Option ℕ) → Fitted l next → Result l (statement l t next)
@@ -197,8 +204,8 @@ mutual
   statement_fitted l (syntax.assign at d e) next f = own_item l (assigned l at d e) next f (assigned_walked (ran_calls l f.ground) (ran_items l f.ground) l at d e (ran_same l) never)
   statement_fitted l (syntax.invoke at d es) next f = own_item l (invoked l at d es) next f (invoked_walked (ran_calls l f.ground) (ran_items l f.ground) l at d es (ran_same l) never)
   statement_fitted l (syntax.block at ts) next f =
-      let x : Option ℕ × Layer = statements l ts in
-      let r : Result l x = statements_fitted l ts (alone l next f) in
+      let x : Option ℕ × Layer = statements l ts None in
+      let r : Result l x = statements_fitted l ts None (alone l next f) in
       own_settled l x.1 (blocked x.1 at x.0) next x.0 f r.onward r.fitted (blocked_ran x.1 at x.0 r.fitted.ground r.fitted.first)
   statement_fitted l (syntax.if_then at e t) next f =
       let x : Option ℕ × Layer = statement l t None in
@@ -218,16 +225,20 @@ mutual
       let x : Option ℕ × Layer = statement l t None in
       let r : Result l x = statement_fitted l t None (alone l next f) in
       onward_result l x.1 (settled (while_item x.1 at e x.0) next) r.onward (while_fitted x.1 at e x.0 next (moved l x.1 next x.0 r.onward f r.fitted) r.fitted.first)
-  statement_fitted l (syntax.repeat_until at ts e) next f = repeated_fitted l at (statements l ts) e next f (statements_fitted l ts (alone l next f))
+  statement_fitted l (syntax.repeat_until at ts e) next f = repeated_fitted l at (statements l ts None) e next f (statements_fitted l ts None (alone l next f))
   statement_fitted l (syntax.for_do at i e d g t) next f =
       let x : Option ℕ × Layer = statement l t None in
       let r : Result l x = statement_fitted l t None (alone l next f) in
       own_settled l x.1 (for_item x.1 at i.name e d g x.0) next x.0 f r.onward r.fitted (for_ran x.1 at i.name e d g x.0 r.fitted.ground r.fitted.first)
   statement_fitted l (syntax.cycle at ts) next f =
-      let x : Option ℕ × Layer = statements l ts in
-      let r : Result l x = statements_fitted l ts (alone l next f) in
+      let x : Option ℕ × Layer = statements l ts None in
+      let r : Result l x = statements_fitted l ts None (alone l next f) in
       own_settled l x.1 (cycled x.1 at x.0) next x.0 f r.onward r.fitted (cycled_ran x.1 at x.0 r.fitted.ground r.fitted.first)
   statement_fitted l (syntax.init at ts) next f = starts_fitted l ts next f
+  statement_fitted l (syntax.asserted at k e t) next f =
+      let x : Option ℕ × Layer = statement l t next in
+      let r : Result l x = statement_fitted l t next f in
+      then_result l x (settled (assertion x.1 at k e) x.0) r (own_item x.1 (assertion x.1 at k e) x.0 r.fitted (assertion_ran x.1 at k e r.fitted.ground))
 
   arms_fitted : (l : Layer) (as' : syntax.Arms) → Fitted l None → ArmsResult l (arms l as')
   arms_fitted l syntax.no_arms f = record { onward = onward_same l; fitted = f; arms = tt }
@@ -239,3 +250,16 @@ mutual
 
   arm_fitted : (l : Layer) (a : syntax.Arm) → Fitted l None → Result l ((one_arm l a).0.body, (one_arm l a).1)
   arm_fitted l (syntax.arm labels t) f = statement_fitted l t None f
+
+-- ---- bodies
+
+-- the checks at the end
+ended_fitted : (l : Layer) (checks : Bool) → Fitted l None → Result l (end_of_body l checks)
+ended_fitted l true f = own_item l (checked l 0) None f (checked_walked (ran_calls l f.ground) (ran_items l f.ground) l 0 (ran_same l) never)
+ended_fitted l false f = own_item l l None f (ran_same l)
+
+pub body_fitted : (l : Layer) (ss : syntax.Statements) (checks : Bool) → Fitted l None → Result l (body_items l ss checks)
+body_fitted l ss checks f =
+    let x : Option ℕ × Layer = end_of_body l checks in
+    let r : Result l x = ended_fitted l checks f in
+    then_result l x (statements x.1 ss x.0) r (statements_fitted x.1 ss x.0 r.fitted)

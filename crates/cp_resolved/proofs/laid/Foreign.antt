@@ -1,6 +1,6 @@
 -- Where statements avoid a routine's own name, no item that is laid out of them calls the routine.
-use Rattle.std.proofs.Common.{◌≡◌, ℕ, List, [], ◌∷◌, length, Option, Some, None, sym, ap, subst, arith}
-use Rattle.cp_resolved.proofs.Words.{CellType, ArrayType, LayoutMeaning, PredeclaredRoutine, Each}
+use Rattle.std.proofs.Common.{◌≡◌, ℕ, List, [], ◌∷◌, length, Option, Some, None, sym, ap, subst, ◌∙◌, arith}
+use Rattle.cp_resolved.proofs.Words.{CellType, ArrayType, LayoutMeaning, PredeclaredRoutine, Each, Bool, true}
 use Rattle.cp_tree.specs.Syntax as syntax
 use Rattle.cp_symbols.specs.declared.kinds.CellType.TheVariants as types
 use Rattle.cp_symbols.specs.declared.names.LayoutMeaning.TheVariants as meaning
@@ -12,13 +12,14 @@ use Rattle.cp_layout.specs.Kinds.{field_of, array_of}
 use Rattle.cp_layout.specs.Values.{Value, Designated, a_variable, a_contained, a_component, a_routine, an_entry, ordinal_of}
 use Rattle.cp_layout.specs.Layers.{Layer, Frame, Pending, find, with_cell, with_room, settled_all, settled, without_pending, added, call_need}
 use Rattle.cp_layout.specs.LaidExpressions.{begun_as, begun, field_found, entry_found, entry_of, field_selected, element_found, component_of_array, component_found, element_selected, with_count, expression, designator, selectors, selector}
-use Rattle.cp_layout.specs.LaidStatements.{assigned_as, performed, placed_of, statements}
+use Rattle.cp_layout.specs.LaidStatements.{assigned_as, performed, placed_of}
 use Rattle.cp_resolved.proofs.laid.Avoiding.{AvoidsCall, AvoidStatements}
 use Rattle.cp_resolved.proofs.laid.Calling.{designated_kept, designator_there}
 use Rattle.cp_resolved.proofs.laid.Kept.{changed, designator_kept}
 use Rattle.cp_resolved.proofs.laid.Named.{Named, IsDesignated, DesignatedIn, initial_below}
-use Rattle.cp_resolved.proofs.laid.Walked.{IsCallee, IsBegun, HasList, CallSteps, ItemSteps, ListSteps, statements_walked}
+use Rattle.cp_resolved.proofs.laid.Walked.{IsCallee, IsBegun, HasList, CallSteps, ItemSteps, ListSteps, body_walked}
 use Rattle.cp_resolved.proofs.frames.FrameCells.{each_both as each_append}
+use Rattle.cp_resolved.specs.ItemsStand.{body_items}
 
 -- ---- items that call another routine
 
@@ -150,6 +151,7 @@ module _ (P : List ℕ → Type 0) (n : ℕ) where
         callee = λ l d h b. designator_elsewhere l d h (b tt);
         counts = fine_count;
         call = λ l r at c b as' other e h. fine_added (with_room (with_cell l) r) at (code.call r c b as' (Some (length l.frame.image))) (call_need (with_cell l) r) other (fine_room (with_cell l) r (fine_cell l h));
+        check = λ l r h b e same. b tt (h.own syntax.nameless (e ∙ ap (λ j. Some (meaning.Routine j)) same));
       }
 
   assigned_foreign : (l : Layer) (p : Place) (v : Value) (t : CellType) → IsForeign n (assigned_as l p v t)
@@ -186,5 +188,5 @@ module _ (P : List ℕ → Type 0) (n : ℕ) where
   fine_lists : ListSteps (Fine P n)
   fine_lists = record { lists = λ l at a need i h. fine_added l at a need (list_foreign a i) h; settle = fine_settled }
 
-  pub statements_fine : (l : Layer) (ss : syntax.Statements) → Fine P n l → AvoidStatements P ss → Fine P n (statements l ss).1
-  statements_fine l ss h avoids = statements_walked fine_calls fine_items fine_lists l ss h (λ b. avoids)
+  pub body_fine : (l : Layer) (ss : syntax.Statements) (checks : Bool) → Fine P n l → AvoidStatements P ss → (checks ≡ true → P syntax.nameless → ⊥) → Fine P n (body_items l ss checks).1
+  body_fine l ss checks h avoids none = body_walked fine_calls fine_items fine_lists l ss checks h (λ b. (avoids, none))

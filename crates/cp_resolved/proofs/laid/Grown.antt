@@ -1,11 +1,14 @@
 -- What a statement leaves of the state: it appends items, and keeps names, types, headings and routines.
 use Rattle.std.proofs.Common.{◌≡◌, ℕ, List, [], ◌∷◌, ◌++◌, length, Option, ap, sym, ◌∙◌, refl, append_assoc}
-use Rattle.cp_resolved.proofs.Words.{max, Layer, Action, Pending, with_item, settled_all, settled, without_pending, added, need_of, with_cell, with_room, with_count, statements}
+use Rattle.cp_layout.specs.LaidStatements.{checked}
+use Rattle.cp_layout.specs.LaidDeclarations.{end_of_body}
+use Rattle.cp_resolved.proofs.Words.{Bool, max, Layer, Action, Pending, with_item, settled_all, settled, without_pending, added, need_of, with_cell, with_room, with_count, statements}
 use Rattle.std.proofs.lemmas.List.{append-nil}
 use Rattle.cp_tree.specs.Syntax as syntax
 use Rattle.cp_slots.specs.Code.{Item}
 use Rattle.cp_resolved.proofs.laid.Kept.{Kept}
-use Rattle.cp_resolved.proofs.laid.Walked.{CallSteps, ItemSteps, ListSteps, any_calls, any_items, any_lists, never, statements_walked}
+use Rattle.cp_resolved.proofs.laid.Walked.{CallSteps, ItemSteps, ListSteps, any_calls, any_items, any_lists, never, checked_walked, statements_walked, ended_walked, body_walked}
+use Rattle.cp_resolved.specs.ItemsStand.{body_items}
 
 abbrev pub with_more : Layer → List Item → Layer → Layer
 with_more l more m = record l { items = l.items ++ more; frame = m.frame; pending = m.pending; arguments = m.arguments }
@@ -49,5 +52,14 @@ grew_items l = any_items (Grew l) (λ m r h. kept_after l m (with_room m r) h re
 grew_lists : (l : Layer) → ListSteps (Grew l)
 grew_lists l = any_lists (Grew l) (added_after l) (λ m next h. grew_trans l m (settled m next).1 h (settled_grew m next))
 
-pub statements_grew : (l : Layer) (ss : syntax.Statements) → Grew l (statements l ss).1
-statements_grew l ss = statements_walked (grew_calls l) (grew_items l) (grew_lists l) l ss (kept_grew l l refl) never
+pub checked_grew : (l : Layer) (at : ℕ) → Grew l (checked l at)
+checked_grew l at = checked_walked (grew_calls l) (grew_items l) l at (kept_grew l l refl) never
+
+pub statements_grew : (l : Layer) (ss : syntax.Statements) (after : Option ℕ) → Grew l (statements l ss after).1
+statements_grew l ss after = statements_walked (grew_calls l) (grew_items l) (grew_lists l) l ss after (kept_grew l l refl) never
+
+pub ended_grew : (l : Layer) (checks : Bool) → Grew l (end_of_body l checks).1
+ended_grew l checks = ended_walked (grew_calls l) (grew_items l) (grew_lists l) l checks (kept_grew l l refl) never
+
+pub body_grew : (l : Layer) (ss : syntax.Statements) (checks : Bool) → Grew l (body_items l ss checks).1
+body_grew l ss checks = body_walked (grew_calls l) (grew_items l) (grew_lists l) l ss checks (kept_grew l l refl) never

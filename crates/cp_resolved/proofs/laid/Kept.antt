@@ -3,8 +3,10 @@ use Rattle.std.proofs.Common.{◌≡◌, ℕ, List, ap, ◌∙◌, refl}
 use Rattle.cp_tree.specs.Syntax as syntax
 use Rattle.cp_resolved.proofs.Words.{Layer, Frame, Pending, added, with_cell, with_room, with_count}
 use Rattle.cp_layout.specs.LaidExpressions.{expression, sum, term, factor, arguments_from, designator, selector}
+use Rattle.cp_layout.specs.LaidStatements.{checked, checked_before}
 use Rattle.cp_layout.specs.Values.{Designated}
-use Rattle.cp_resolved.proofs.laid.Walked.{CallSteps, any_calls, never, expression_walked, sum_walked, term_walked, factor_walked, arguments_walked, designator_walked, selector_walked}
+use Rattle.cp_symbols.specs.declared.names.PredeclaredRoutine.{PredeclaredRoutine}
+use Rattle.cp_resolved.proofs.laid.Walked.{CallSteps, ItemSteps, any_calls, any_items, checked_walked, before_walked, never, expression_walked, sum_walked, term_walked, factor_walked, arguments_walked, designator_walked, selector_walked}
 
 abbrev pub changed : Layer → Frame → List Pending → ℕ → Layer
 changed l f ps n = record l { frame = f; pending = ps; arguments = n }
@@ -38,3 +40,14 @@ designator_kept l d = designator_walked (kept_calls l) l d refl never
 
 pub selector_kept : (l : Layer) (d : Designated) (s : syntax.Selector) → Kept l (selector l d s).1
 selector_kept l d s = selector_walked (kept_calls l) l d s refl never
+
+-- ---- checks
+
+kept_items : (l : Layer) → ItemSteps (Kept l) (λ r. Unit {0})
+kept_items l = any_items (Kept l) (λ m r h. kept_trans l m (with_room m r) h refl) (λ m at a need h. kept_trans l m (added m at a need) h refl)
+
+pub checked_kept : (l : Layer) (at : ℕ) → Kept l (checked l at)
+checked_kept l at = checked_walked (kept_calls l) (kept_items l) l at refl never
+
+pub before_kept : (l : Layer) (at : ℕ) (q : PredeclaredRoutine) → Kept l (checked_before l at q)
+before_kept l at q = before_walked (kept_calls l) (kept_items l) l at q refl never

@@ -1,12 +1,19 @@
 -- What each small step of laying out statements leaves true, whole statements leave true. Where statements avoid some names (`Avoiding`), it is also known of each routine that they call.
-use Rattle.cp_resolved.proofs.Words.{ℕ, ◌+◌, ◌≤◌, Bool, true, false, List, [], ◌∷◌, length, max, arith, Option, Some, None, Direction, CellType, FunctionResult, PredeclaredRoutine, SetExpression, ComponentPlace, Argument}
+use Rattle.cp_tree.specs.declared.statement.AssertionKind.{AssertionKind}
+use Rattle.cp_symbols.specs.declared.names.LayoutMeaning.{LayoutMeaning}
+use Rattle.cp_symbols.specs.declared.names.LayoutMeaning.TheVariants as meaning
+use Rattle.cp_symbols.specs.declared.names.PredeclaredRoutine.TheVariants as predeclared
+use Rattle.cp_layout.specs.Layers.{find}
+use Rattle.cp_resolved.proofs.Words.{◌≡◌, refl, ℕ, ◌+◌, ◌≤◌, Bool, true, false, List, [], ◌∷◌, length, max, arith, Option, Some, None, Direction, CellType, FunctionResult, PredeclaredRoutine, SetExpression, ComponentPlace, Argument}
 use Rattle.cp_resolved.proofs.Words.{Arm, Action, Layer, again, with_cell, with_room, settled, added, call_need, result_of, need_inside, pending_need}
 use Rattle.cp_tree.specs.Syntax as syntax
 use Rattle.cp_slots.specs.Code as code
 use Rattle.cp_slots.specs.Code.{Place}
 use Rattle.cp_layout.specs.Values.{Value, Designated, a_routine, an_entry, a_standard, added as values_added, multiplied as values_multiplied, ordinal_of}
 use Rattle.cp_layout.specs.LaidExpressions.{begun, with_count, counted, function_as, named_as, signed, name_at, expression, sum, more_terms, term, more_factors, factor, elements, first_value, arguments_from, designator, selectors, selector, arguments}
-use Rattle.cp_layout.specs.LaidStatements.{Target, target_of, assigned_as, assigned, performed, procedure, standard, callee_of, invoked_as, invoked, blocked, cycled, chosen, while_item, until_item, token_of, repeated, arms_need, selected, origin_of, low_of, high_of, is_down, for_item, initial_of, begun_component, Placed, placed_of, started_as, started, starts, statements, statement, arms, one_arm}
+use Rattle.cp_layout.specs.LaidDeclarations.{end_of_body}
+use Rattle.cp_resolved.specs.ItemsStand.{body_items}
+use Rattle.cp_layout.specs.LaidStatements.{checked_by, checked, checked_before, said_of, assertion, Target, target_of, assigned_as, assigned, performed, procedure, standard, callee_of, invoked_as, invoked, blocked, cycled, chosen, while_item, until_item, token_of, repeated, arms_need, selected, origin_of, low_of, high_of, is_down, for_item, initial_of, begun_component, Placed, placed_of, started_as, started, starts, statements, statement, arms, one_arm}
 use Rattle.cp_resolved.proofs.laid.Avoiding.{AvoidsExpression, AvoidsSum, AvoidTerms, AvoidsTerm, AvoidFactors, AvoidsFactor, AvoidExpressions, AvoidsCall, AvoidsDesignator, AvoidSelectors, AvoidsSelector, AvoidStarts, AvoidsStatement, AvoidStatements, AvoidArms, AvoidsArm}
 
 -- ---- the small steps
@@ -21,11 +28,13 @@ abbrev pub IsBegun : (ℕ → Type 0) → Layer → Option Placed → Type 0
 IsBegun R l None = Unit {0}
 IsBegun R l (Some p) = R (initial_of l p.1)
 
--- In expressions: R is what is known of each routine that is called, and P are the names that are avoided, if B.
+-- In expressions and checks: R is what is known of each routine that is called, and P are the names that are avoided, if B.
 pub record CallSteps (F : Layer → Type 0) (R : ℕ → Type 0) (B : Type 0) (P : List ℕ → Type 0) : Type 0 where
   pub callee : (l : Layer) (d : syntax.Designator) → F l → (B → AvoidsCall P d) → IsCallee R (designator l d).0
   pub counts : (l : Layer) (k : ℕ) → F l → F (with_count l k)
   pub call : (l : Layer) (r at : ℕ) (c : ComponentPlace) (b : Bool) (as' : List Argument) → R r → length as' ≤ l.arguments → F l → F (added (with_room (with_cell l) r) at (code.call r c b as' (Some (length l.frame.image))) (call_need (with_cell l) r))
+  -- the routine that a check calls
+  pub check : (l : Layer) (r : ℕ) → F l → (B → P syntax.nameless → ⊥) → find syntax.nameless l.names ≡ Some (meaning.Routine r) → R r
 
 -- in assignments, calls and starts
 pub record ItemSteps (F : Layer → Type 0) (R : ℕ → Type 0) : Type 0 where
@@ -59,7 +68,7 @@ module _ (F : Layer → Type 0) where
   any_begun l (Some p) = tt
 
   pub any_calls : ((l : Layer) (k : ℕ) → F l → F (with_count l k)) → ((l : Layer) (r at : ℕ) (a : Action) (need : ℕ) → F l → F (added (with_room (with_cell l) r) at a need)) → CallSteps F (λ r. Unit {0}) ⊥ (λ x. ⊥)
-  any_calls counts call = record { callee = λ l d h b. any_callee (designator l d).0; counts = counts; call = λ l r at c b as' i e h. call l r at (code.call r c b as' (Some (length l.frame.image))) (call_need (with_cell l) r) h }
+  any_calls counts call = record { callee = λ l d h b. any_callee (designator l d).0; counts = counts; call = λ l r at c b as' i e h. call l r at (code.call r c b as' (Some (length l.frame.image))) (call_need (with_cell l) r) h; check = λ l r h b e. tt }
 
   pub any_items : ((l : Layer) (r : ℕ) → F l → F (with_room l r)) → ((l : Layer) (at : ℕ) (a : Action) (need : ℕ) → F l → F (added l at a need)) → ItemSteps F (λ r. Unit {0})
   any_items room add =
@@ -175,16 +184,30 @@ module _ {F : Layer → Type 0} {R : ℕ → Type 0} {B : Type 0} {P : List ℕ 
     unfolding arguments
     handed_walked l r es h b = let y = arguments_from l r 0 es in (s.counts y.1 (length y.0) (arguments_walked l r 0 es h b), omega arith)
 
-    invoked_as_walked : (l : Layer) (at : ℕ) (d : Designated) (es : syntax.Expressions) → IsCallee R d → F l → (B → AvoidExpressions P es) → F (invoked_as l at (callee_of d) es)
+    checked_by_walked : (l : Layer) (at : ℕ) (o : Option LayoutMeaning) → find syntax.nameless l.names ≡ o → F l → (B → P syntax.nameless → ⊥) → F (checked_by l at o)
+    unfolding procedure
+    checked_by_walked l at (Some (meaning.Routine r)) e h b = let x = arguments l r syntax.no_expressions in let g = handed_walked l r syntax.no_expressions h (λ c. tt) in j.invokes x.1 r at code.own false x.0 (s.check l r h b e) g.1 g.0
+    checked_by_walked l at _ e h b = h
+
+    pub checked_walked : (l : Layer) (at : ℕ) → F l → (B → P syntax.nameless → ⊥) → F (checked l at)
+    unfolding checked
+    checked_walked l at h b = checked_by_walked l at (find syntax.nameless l.names) refl h b
+
+    pub before_walked : (l : Layer) (at : ℕ) (q : PredeclaredRoutine) → F l → (B → P syntax.nameless → ⊥) → F (checked_before l at q)
+    before_walked l at predeclared.Delay h b = checked_walked l at h b
+    before_walked l at predeclared.Continue h b = checked_walked l at h b
+    before_walked l at _ h b = h
+
+    invoked_as_walked : (l : Layer) (at : ℕ) (d : Designated) (es : syntax.Expressions) → IsCallee R d → F l → (B → AvoidExpressions P es × (P syntax.nameless → ⊥)) → F (invoked_as l at (callee_of d) es)
     unfolding standard procedure
-    invoked_as_walked l at (a_standard q) es i h b = let x = first_value l es in j.performs x.1 at q x.0 (first_walked l es h b)
-    invoked_as_walked l at (a_routine r) es i h b = let x = arguments l r es in let g = handed_walked l r es h b in j.invokes x.1 r at code.own false x.0 i g.1 g.0
-    invoked_as_walked l at (an_entry c r) es i h b = let x = arguments l r es in let g = handed_walked l r es h b in j.invokes x.1 r at c true x.0 i g.1 g.0
+    invoked_as_walked l at (a_standard q) es i h b = let x = first_value l es in j.performs (checked_before x.1 at q) at q x.0 (before_walked x.1 at q (first_walked l es h (λ c. (b c).0)) (λ c. (b c).1))
+    invoked_as_walked l at (a_routine r) es i h b = let x = arguments l r es in let g = handed_walked l r es h (λ c. (b c).0) in j.invokes x.1 r at code.own false x.0 i g.1 g.0
+    invoked_as_walked l at (an_entry c r) es i h b = let x = arguments l r es in let g = handed_walked l r es h (λ c. (b c).0) in j.invokes x.1 r at c true x.0 i g.1 g.0
     invoked_as_walked l at _ es i h b = j.nothing l at h
 
-    pub invoked_walked : (l : Layer) (at : ℕ) (d : syntax.Designator) (es : syntax.Expressions) → F l → (B → AvoidsCall P d × AvoidExpressions P es) → F (invoked l at d es)
+    pub invoked_walked : (l : Layer) (at : ℕ) (d : syntax.Designator) (es : syntax.Expressions) → F l → (B → AvoidsCall P d × AvoidExpressions P es × (P syntax.nameless → ⊥)) → F (invoked l at d es)
     unfolding invoked
-    invoked_walked l at d es h b = let x = designator l d in invoked_as_walked x.1 at x.0 es (s.callee l d h (λ c. (b c).0)) (called_walked l d h (λ c. (b c).0)) (λ c. (b c).1)
+    invoked_walked l at d es h b = let x = designator l d in invoked_as_walked x.1 at x.0 es (s.callee l d h (λ c. (b c).0)) (called_walked l d h (λ c. (b c).0)) (λ c. ((b c).1, (b c).2))
 
     started_as_walked : (l : Layer) (at : ℕ) (o : Option Placed) (es : syntax.Expressions) → IsBegun R l o → F l → (B → AvoidExpressions P es) → F (started_as l at o es)
     unfolding begun_component
@@ -229,6 +252,10 @@ module _ {F : Layer → Type 0} {R : ℕ → Type 0} {B : Type 0} {P : List ℕ 
           let y = expression (expression l e).1 f in
           k.lists y.1 at (code.for_do (origin_of t.place) (low_of t.value_type) (high_of t.value_type) (ordinal_of (expression l e).0) (ordinal_of y.0) (is_down d) o) (need_inside y.1.items o) tt (expression_walked (expression l e).1 f (expression_walked l e h b) a)
 
+      pub assertion_walked : (l : Layer) (at : ℕ) (a : AssertionKind) (e : syntax.Expression) → F l → (B → AvoidsExpression P e) → F (assertion l at a e)
+      unfolding assertion
+      assertion_walked l at a e h b = let x = expression l e in k.lists x.1 at (code.assert_that (ordinal_of x.0) (said_of a)) 0 tt (expression_walked l e h b)
+
       repeated_walked : (l : Layer) (at : ℕ) (o : Option ℕ) (e : syntax.Expression) (next : Option ℕ) → F l → (B → AvoidsExpression P e) → F (repeated l at o e next).1
       repeated_walked l at o e next h b =
           let y = settled (until_item l (token_of e) e o) next in
@@ -237,15 +264,15 @@ module _ {F : Layer → Type 0} {R : ℕ → Type 0} {B : Type 0} {P : List ℕ 
       mutual
         unfolding statements statement arms one_arm
 
-        pub statements_walked : (l : Layer) (ss : syntax.Statements) → F l → (B → AvoidStatements P ss) → F (statements l ss).1
-        statements_walked l syntax.no_statements h b = h
-        statements_walked l (syntax.more_statements t ts) h b = statement_walked (statements l ts).1 t (statements l ts).0 (statements_walked l ts h (λ c. (b c).1)) (λ c. (b c).0)
+        pub statements_walked : (l : Layer) (ss : syntax.Statements) (after : Option ℕ) → F l → (B → AvoidStatements P ss) → F (statements l ss after).1
+        statements_walked l syntax.no_statements after h b = h
+        statements_walked l (syntax.more_statements t ts) after h b = statement_walked (statements l ts after).1 t (statements l ts after).0 (statements_walked l ts after h (λ c. (b c).1)) (λ c. (b c).0)
 
         statement_walked : (l : Layer) (t : syntax.Statement) (next : Option ℕ) → F l → (B → AvoidsStatement P t) → F (statement l t next).1
         statement_walked l (syntax.empty at) next h b = k.settle (added l at code.nothing 0) next (j.nothing l at h)
         statement_walked l (syntax.assign at d e) next h b = k.settle (assigned l at d e) next (assigned_walked l at d e h b)
         statement_walked l (syntax.invoke at d es) next h b = k.settle (invoked l at d es) next (invoked_walked l at d es h b)
-        statement_walked l (syntax.block at ss) next h b = let x = statements l ss in k.settle (blocked x.1 at x.0) next (k.lists x.1 at (code.block x.0) (need_inside x.1.items x.0) tt (statements_walked l ss h b))
+        statement_walked l (syntax.block at ss) next h b = let x = statements l ss None in k.settle (blocked x.1 at x.0) next (k.lists x.1 at (code.block x.0) (need_inside x.1.items x.0) tt (statements_walked l ss None h b))
         statement_walked l (syntax.if_then at e t) next h b = let x = statement l t None in k.settle (chosen x.1 at e x.0 None) next (chosen_walked x.1 at e x.0 None (statement_walked l t None h (λ c. (b c).1)) (λ c. (b c).0))
         statement_walked l (syntax.if_else at e t u) next h b =
             let x = statement l t None in
@@ -253,10 +280,11 @@ module _ {F : Layer → Type 0} {R : ℕ → Type 0} {B : Type 0} {P : List ℕ 
             k.settle (chosen y.1 at e x.0 y.0) next (chosen_walked y.1 at e x.0 y.0 (statement_walked x.1 u None (statement_walked l t None h (λ c. (b c).1)) (λ c. (b c).2)) (λ c. (b c).0))
         statement_walked l (syntax.case_of at e as' q) next h b = let x = arms l as' in k.settle (selected x.1 at e x.0) next (selected_walked x.1 at e x.0 (arms_walked l as' h (λ c. (b c).1)) (λ c. (b c).0))
         statement_walked l (syntax.while_do at e t) next h b = let x = statement l t None in k.settle (while_item x.1 at e x.0) next (while_walked x.1 at e x.0 (statement_walked l t None h (λ c. (b c).1)) (λ c. (b c).0))
-        statement_walked l (syntax.repeat_until at ss e) next h b = let x = statements l ss in repeated_walked x.1 at x.0 e next (statements_walked l ss h (λ c. (b c).0)) (λ c. (b c).1)
+        statement_walked l (syntax.repeat_until at ss e) next h b = let x = statements l ss None in repeated_walked x.1 at x.0 e next (statements_walked l ss None h (λ c. (b c).0)) (λ c. (b c).1)
         statement_walked l (syntax.for_do at i e d f t) next h b = let x = statement l t None in k.settle (for_item x.1 at i.name e d f x.0) next (for_walked x.1 at i.name e d f x.0 (statement_walked l t None h (λ c. (b c).2)) (λ c. (b c).0) (λ c. (b c).1))
-        statement_walked l (syntax.cycle at ss) next h b = let x = statements l ss in k.settle (cycled x.1 at x.0) next (k.lists x.1 at (code.cycle x.0) (need_inside x.1.items x.0) tt (statements_walked l ss h b))
+        statement_walked l (syntax.cycle at ss) next h b = let x = statements l ss None in k.settle (cycled x.1 at x.0) next (k.lists x.1 at (code.cycle x.0) (need_inside x.1.items x.0) tt (statements_walked l ss None h b))
         statement_walked l (syntax.init at ts) next h b = starts_walked l ts next h b
+        statement_walked l (syntax.asserted at a e t) next h b = let x = statement l t next in k.settle (assertion x.1 at a e) x.0 (assertion_walked x.1 at a e (statement_walked l t next h (λ c. (b c).1)) (λ c. (b c).0))
 
         arms_walked : (l : Layer) (as' : syntax.Arms) → F l → (B → AvoidArms P as') → F (arms l as').1
         arms_walked l syntax.no_arms h b = h
@@ -264,3 +292,13 @@ module _ {F : Layer → Type 0} {R : ℕ → Type 0} {B : Type 0} {P : List ℕ 
 
         arm_walked : (l : Layer) (a : syntax.Arm) → F l → (B → AvoidsArm P a) → F (one_arm l a).1
         arm_walked l (syntax.arm labels t) h b = statement_walked l t None h b
+
+      -- ---- bodies
+
+      -- the checks at the end, where there are any
+      pub ended_walked : (l : Layer) (checks : Bool) → F l → (B → checks ≡ true → P syntax.nameless → ⊥) → F (end_of_body l checks).1
+      ended_walked l true h b = k.settle (checked l 0) None (checked_walked l 0 h (λ c. b c refl))
+      ended_walked l false h b = k.settle l None h
+
+      pub body_walked : (l : Layer) (ss : syntax.Statements) (checks : Bool) → F l → (B → AvoidStatements P ss × (checks ≡ true → P syntax.nameless → ⊥)) → F (body_items l ss checks).1
+      body_walked l ss checks h b = statements_walked (end_of_body l checks).1 ss (end_of_body l checks).0 (ended_walked l checks h (λ c. (b c).1)) (λ c. (b c).0)

@@ -1,7 +1,7 @@
 -- Routines and system types, and the whole program: all items have what they need, and each routine has its room.
 use Rattle.std.proofs.Common.{◌≡◌, ℕ, ◌+◌, ◌-◌, ◌<◌, ◌≤◌, min, List, [], ◌∷◌, ◌++◌, length, Option, Some, None, slice_get, refl, sym, ap, subst, ◌∙◌, ◌⊎◌, inl, inr, append_assoc, append-nil, arith, length-append}
-use Rattle.cp_resolved.proofs.Words.{none-some, SystemKind, Body, Routine, Definition, SystemDefinition, ProgramPart, Program, CellType, Compounds, most}
-use Rattle.cp_resolved.proofs.Words.{plus, RoutineView, written_type, statements}
+use Rattle.cp_resolved.proofs.Words.{none-some, SystemKind, Body, Routine, Definition, SystemDefinition, ProgramPart, Program, CellType, Compounds, most, Bool, true}
+use Rattle.cp_resolved.proofs.Words.{plus, RoutineView, written_type}
 use Rattle.cp_tree.specs.Syntax as syntax
 use Rattle.cp_symbols.specs.declared.names.LayoutMeaning.TheVariants as meaning
 use Rattle.cp_slots.specs.Code as code
@@ -12,13 +12,14 @@ use Rattle.cp_resolved.proofs.laid.Calling.{ActionFits, CallFits, Calls, RoomFit
 use Rattle.cp_resolved.proofs.laid.Declared.{Declared, declared_same, then_declared, Typed, name_declared, constants_declared, written_typed, variables_declared, permanent_declared, local_parts_declared, heading_declared, system_groups_declared}
 use Rattle.cp_resolved.proofs.names.Entries.{there, not_there, still_there, last_entry, last_or_before}
 use Rattle.cp_resolved.proofs.laid.Fitted.{Result}
-use Rattle.cp_resolved.proofs.laid.FittedStatements.{statements_fitted}
+use Rattle.cp_resolved.proofs.laid.FittedStatements.{body_fitted}
 use Rattle.cp_resolved.proofs.laid.Fitting.{ListFits}
 use Rattle.cp_resolved.proofs.laid.Named.{Named, AreNames, IsType, names_more, types_more, systems_more, names_dropped, names_inside}
 use Rattle.cp_resolved.proofs.systems.Owning.{OwnedStep, step_same, none_owned, SystemIs, RoutineIn, RoutineIs, Owning, Outside, owning_step, owning_ended}
 use Rattle.cp_resolved.proofs.systems.Sized.{Sized, SizedBy, by_more, sized_same, resized_same}
 use Rattle.cp_resolved.proofs.laid.Settled.{ItemsFit, Fitted}
 use Rattle.cp_resolved.proofs.names.KnowingSystems.{systems_with}
+use Rattle.cp_resolved.specs.ItemsStand.{body_items}
 
 -- a routine's own frame is inside its room, where the numbers are words
 pub record HasRoom (r : RoutineView) : Type 0 where
@@ -191,10 +192,10 @@ declared_laid l m h w = record { later = later_declared l m h; whole = whole_dec
 then_laid : (l k m : Layer) → Laid l k → Laid k m → Laid l m
 then_laid l k m h i = record { later = later_trans l k m h.later i.later; whole = i.whole }
 
-pub body_laid : (l : Layer) (b : Body) → Whole l → Laid l (body l b)
-body_laid l b w =
-    let x : Option ℕ × Layer = statements l b.statements in
-    let r : Result l x = statements_fitted l b.statements (whole_fitted l w) in
+pub body_laid : (l : Layer) (b : Body) (c : Bool) → Whole l → Laid l (body l b c)
+body_laid l b c w =
+    let x : Option ℕ × Layer = body_items l b.statements c in
+    let r : Result l x = body_fitted l b.statements c (whole_fitted l w) in
     let rs : x.1.routines ≡ l.routines = onward_routines l x.1 r.onward in
     let ss : x.1.systems ≡ l.systems = ap (λ (j : Layer). j.systems) r.onward.grew.1 in
     let ts : x.1.types ≡ l.types = ap (λ (j : Layer). j.types) r.onward.grew.1 in
@@ -229,7 +230,7 @@ inside_laid l r w =
     let k : Layer = local_parts m r.parts in
     let c : Declared l k = then_declared l m k b (local_parts_declared m r.parts) in
     let d : Laid l k = declared_laid l k c w in
-    then_laid l k (body k r.body) d (body_laid k r.body d.whole)
+    then_laid l k (body k r.body r.is_entry) d (body_laid k r.body r.is_entry d.whole)
 
 pub routine_laid : (l : Layer) (r : Routine) → Whole l → Laid l (routine l r)
 routine_laid l r w =
@@ -250,12 +251,12 @@ initial_laid l ps b w =
     let k : Layer = with_heading m (heading_with [] ps None) in
     let d : Declared l k = then_declared l m k (frame_new l w.ground.named) (heading_added m (heading_with [] ps None)) in
     let a : Laid l k = declared_laid l k d w in
-    then_laid l k (body k b) a (body_laid k b a.whole)
+    then_laid l k (body k b true) a (body_laid k b true a.whole)
 
-pub body_count : (l : Layer) (b : Body) → Whole l → length (body l b).routines ≡ length l.routines + 1
-body_count l b w =
-    let x : Option ℕ × Layer = statements l b.statements in
-    let r : Result l x = statements_fitted l b.statements (whole_fitted l w) in
+pub body_count : (l : Layer) (b : Body) (c : Bool) → Whole l → length (body l b c).routines ≡ length l.routines + 1
+body_count l b c w =
+    let x : Option ℕ × Layer = body_items l b.statements c in
+    let r : Result l x = body_fitted l b.statements c (whole_fitted l w) in
     let len : length x.1.routines ≡ length l.routines = ap (λ (js : List RoutineView). length js) (onward_routines l x.1 r.onward) in
     length-append x.1.routines (routine_of x.1 x.0 ∷ []) ∙ ap (λ k. k + 1) len
 
@@ -264,7 +265,7 @@ initial_count l ps b w =
     let m : Layer = with_new_frame l in
     let k : Layer = with_heading m (heading_with [] ps None) in
     let d : Declared l k = then_declared l m k (frame_new l w.ground.named) (heading_added m (heading_with [] ps None)) in
-    body_count k b (whole_declared l k d w)
+    body_count k b true (whole_declared l k d w)
 
 initial_more : (l : Layer) (ps : Parameters) (b : Body) → Whole l → length l.routines < length (initial_statement l ps b).routines
 initial_more l ps b w = let e = initial_count l ps b w in omega (arith, e)
@@ -276,10 +277,10 @@ pub record Last (m : Layer) (number of count : ℕ) : Type 0 where
   pub system : routine.system ≡ of
   pub references : routine.references ≡ count
 
-body_last : (l : Layer) (b : Body) → Whole l → Last (body l b) (length l.routines) (length l.systems) (length l.frame.extents)
-body_last l b w =
-    let x : Option ℕ × Layer = statements l b.statements in
-    let r : Result l x = statements_fitted l b.statements (whole_fitted l w) in
+body_last : (l : Layer) (b : Body) (c : Bool) → Whole l → Last (body l b c) (length l.routines) (length l.systems) (length l.frame.extents)
+body_last l b c w =
+    let x : Option ℕ × Layer = body_items l b.statements c in
+    let r : Result l x = body_fitted l b.statements c (whole_fitted l w) in
     let v : RoutineView = routine_of x.1 x.0 in
     let len : length x.1.routines ≡ length l.routines = ap (λ (js : List RoutineView). length js) (onward_routines l x.1 r.onward) in
     record {
@@ -294,7 +295,7 @@ initial_last l ps b w =
     let m : Layer = with_new_frame l in
     let k : Layer = with_heading m (heading_with [] ps None) in
     let d : Declared l k = then_declared l m k (frame_new l w.ground.named) (heading_added m (heading_with [] ps None)) in
-    body_last k b (whole_declared l k d w)
+    body_last k b true (whole_declared l k d w)
 
 -- ---- system types
 

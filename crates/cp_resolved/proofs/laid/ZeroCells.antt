@@ -1,9 +1,11 @@
 -- What statements leave of the frame: each call has a new cell, which begins with 0, and no other cell is changed.
 use Rattle.std.proofs.Common.{◌≡◌, ℕ, ℤ, pos, List, [], ◌∷◌, ◌++◌, Option, Some, None, slice_get, ap, ◌∙◌, refl, sym, append_assoc, append-nil}
-use Rattle.cp_resolved.proofs.Words.{RoutineView, statements}
+use Rattle.cp_resolved.proofs.Words.{Bool, RoutineView}
+use Rattle.cp_layout.specs.LaidDeclarations.{end_of_body}
 use Rattle.cp_tree.specs.Syntax as syntax
 use Rattle.cp_layout.specs.Layers.{Layer, Frame, Pending, with_cell, frame_with, settled_all, without_pending}
-use Rattle.cp_resolved.proofs.laid.Walked.{CallSteps, ItemSteps, ListSteps, any_calls, any_items, any_lists, never, statements_walked}
+use Rattle.cp_resolved.proofs.laid.Walked.{CallSteps, ItemSteps, ListSteps, any_calls, any_items, any_lists, never, ended_walked, body_walked}
+use Rattle.cp_resolved.specs.ItemsStand.{body_items}
 
 abbrev pub AreZeros : List ℤ → Type 0
 AreZeros [] = Unit {0}
@@ -49,5 +51,11 @@ zeros_items l = any_items (Zeros l) (λ m r h. room_zeroed m.frame (slice_get m.
 zeros_lists : (l : Layer) → ListSteps (Zeros l)
 zeros_lists l = any_lists (Zeros l) (λ m at a need h. h) (λ m next h. all_zeroed l (without_pending m) m.pending next h)
 
-pub statements_zeroed : (l : Layer) (ss : syntax.Statements) → Zeros l (statements l ss).1
-statements_zeroed l ss = statements_walked (zeros_calls l) (zeros_items l) (zeros_lists l) l ss (record { zeros = []; are = tt; image = sym (append-nil l.frame.image); extents = refl }) never
+nothing_zeroed : (l : Layer) → Zeros l l
+nothing_zeroed l = record { zeros = []; are = tt; image = sym (append-nil l.frame.image); extents = refl }
+
+pub ended_zeroed : (l : Layer) (checks : Bool) → Zeros l (end_of_body l checks).1
+ended_zeroed l checks = ended_walked (zeros_calls l) (zeros_items l) (zeros_lists l) l checks (nothing_zeroed l) never
+
+pub body_zeroed : (l : Layer) (ss : syntax.Statements) (checks : Bool) → Zeros l (body_items l ss checks).1
+body_zeroed l ss checks = body_walked (zeros_calls l) (zeros_items l) (zeros_lists l) l ss checks (nothing_zeroed l) never

@@ -17,7 +17,7 @@ module _ (end : Layer) where
       let k : Layer = routine_begun l r in
       let m : Layer = routine l r in
       let a : Longer m.types (routines m rs).types = (routines_extend m rs).types in
-      let b : Longer k.types m.types = (body_extends k r.body).types in
+      let b : Longer k.types m.types = (body_extends k r.body r.is_entry).types in
       (longer_trans k.types m.types end.types b (longer_trans m.types (routines m rs).types end.types a h), routines_within m rs h)
 
   definition_within : (l : Layer) (v : syntax.Definition) → IsWithin (definition l v).1 → Each IsWithin (definition_begun l v)

@@ -1,6 +1,6 @@
 -- The states in which the statements of routines and initial statements begin come one after the other: each extends those before it.
 use Rattle.std.proofs.Common.{◌≡◌, ◌≤◌, ℕ, zero, suc, List, [], ◌∷◌, ◌++◌, Some, None, slice_get, refl, subst, arith}
-use Rattle.cp_resolved.proofs.Words.{none-some, same_Some, Layer, nothing_laid, no_frame, written_type, whole_laid}
+use Rattle.cp_resolved.proofs.Words.{none-some, same_Some, Layer, nothing_laid, no_frame, written_type, whole_laid, true}
 use Rattle.cp_tree.specs.Syntax as syntax
 use Rattle.cp_layout.specs.LaidDeclarations.{Parameters, heading_with, with_new_frame, entered, system_groups, body, initial_statement, routine, routines, system, type_named, definition, system_definition, system_definitions, program_part, program_parts, program}
 use Rattle.cp_resolved.specs.Begun.{routine_begun, routines_begun, initial_begun, parameters_of, parts_begun, system_begun, definition_begun, definitions_begun, part_begun, program_parts_begun, all_begun}
@@ -38,7 +38,7 @@ chain_between l (x ∷ xs) m (suc i) (suc j) a b h le e f = chain_between x xs m
 closed_extends : (l : Layer) (r : syntax.Routine) → Extends (routine_begun l r) (routine l r)
 closed_extends l r =
     let k : Layer = routine_begun l r in
-    let e : Extends k (body k r.body) = body_extends k r.body in
+    let e : Extends k (body k r.body r.is_entry) = body_extends k r.body r.is_entry in
     record { lines = e.lines; types = e.types; constants = e.constants; items = e.items; headings = e.headings; routines = e.routines; systems = e.systems }
 
 routines_chain : (l : Layer) (rs : List syntax.Routine) → Chain l (routines_begun l rs) (routines l rs)
@@ -58,7 +58,7 @@ initial_before : (l : Layer) (ps : Parameters) → Extends l (initial_begun l ps
 initial_before l ps = extends_trans l (with_new_frame l) (initial_begun l ps) (extends_with l l.names l.owned no_frame l.noted) (heading_extends (with_new_frame l) (heading_with [] ps None))
 
 initial_after : (l : Layer) (ps : Parameters) (b : syntax.Body) → Extends (initial_begun l ps) (initial_statement l ps b)
-initial_after l ps b = body_extends (initial_begun l ps) b
+initial_after l ps b = body_extends (initial_begun l ps) b true
 
 left_extends : (l : Layer) (s : syntax.System) → Extends (initial_begun (system_begun l s) (parameters_of l s)) (system l s).1
 unfolding system

@@ -11,7 +11,7 @@ use Rattle.cp_meaning.specs.Scopes as scopes
 use Rattle.cp_meaning.specs.Declarations as meant
 use Rattle.cp_resolved.proofs.laid.Declares.{heading_declares, local_parts_declare}
 use Rattle.cp_resolved.proofs.names.Entries.{last_or_before}
-use Rattle.cp_resolved.proofs.laid.Grown.{statements_grew}
+use Rattle.cp_resolved.proofs.laid.Grown.{body_grew}
 use Rattle.cp_resolved.proofs.names.Steps.{bytes_turned, type_grown}
 use Rattle.cp_resolved.proofs.names.StepsOfParts.{Reached, constant_groups_reached}
 use Rattle.cp_resolved.proofs.names.StepsOfTypes.{named_type_same}
@@ -29,7 +29,7 @@ begun_headings l r =
     ap (λ (j : Layer). j.headings) (local_parts_declare (with_heading h.1 h.0) r.parts).same ∙ ap (λ (j : Layer). j.headings ++ h.0 ∷ []) (heading_declares x r.name.name r.kind).same
 
 pub routine_headings : (l : Layer) (r : syntax.Routine) → (routine l r).headings ≡ l.headings ++ heading_of l r ∷ []
-routine_headings l r = ap (λ (j : Layer). j.headings) (statements_grew (routine_begun l r) r.body.statements).1 ∙ begun_headings l r
+routine_headings l r = ap (λ (j : Layer). j.headings) (body_grew (routine_begun l r) r.body.statements r.is_entry).1 ∙ begun_headings l r
 
 abbrev pub headings_of : Layer → List syntax.Routine → List Heading
 headings_of l [] = []
@@ -44,6 +44,7 @@ heading_name : (l : Layer) (x : List ℕ) (r : syntax.RoutineKind) → (heading 
 unfolding heading
 heading_name l x (syntax.procedure gs) = refl
 heading_name l x (syntax.function gs i) = refl
+heading_name l x syntax.invariants = refl
 
 -- the headings have the names of the routines
 abbrev pub AreNamed : List Heading → List syntax.Routine → Type 0
@@ -74,6 +75,7 @@ module _ (k : Numbering) where
   heading_result l s x (syntax.function gs j) i =
       let a : Reached k l (constant_groups l [] gs).1 (meant.with_groups scopes.local_variable (record { parameters = []; scope = s }) gs).scope [] = constant_groups_reached k l (record { parameters = []; scope = s }) [] gs i in
       named_type_same k (constant_groups l [] gs).1 (meant.with_groups scopes.local_variable (record { parameters = []; scope = s }) gs).scope j.name a.names
+  heading_result l s x syntax.invariants i = tt
 
   abbrev pub HeadingsAre : Compounds → List Heading → Type 0
   HeadingsAre ts hs = (n : ℕ) (h : Heading) → slice_get hs n ≡ Some h → ResultsAre k ts (k.routines n).result h.result

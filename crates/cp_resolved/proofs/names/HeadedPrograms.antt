@@ -119,7 +119,7 @@ module _ (k : Numbering) (p : syntax.Program) (os : List Opening) (all : List La
       let rs : List Opening = routine_openings n w s.routines in
       let own : Opening = initial_opening n (system_in u s) in
       let m : Layer = initial_statement b (parameters_of l s) s.body in
-      let es : m.systems ≡ l.systems = body_systems (initial_begun b (parameters_of l s)) s.body ∙ routines_systems (parts_begun l s) s.routines ∙ groups_systems l s in
+      let es : m.systems ≡ l.systems = body_systems (initial_begun b (parameters_of l s)) s.body true ∙ routines_systems (parts_begun l s) s.routines ∙ groups_systems l s in
       let many : length b.routines ≡ length l.routines + length s.routines = begun_many k p l d s in
       let place : length l.routines + length rs ≡ length b.routines = omega (arith, many, openings_count n w s.routines) in
       let number : n ≡ 0 + length m.systems = omega (arith, ap (λ ss. length ss) es, same) in
@@ -270,7 +270,7 @@ all_headed k t values h f distinct e o =
       fits = (m, place, subst (λ qs. ParametersAre k b.types (slots_in m.names) qs []) (sym none) tt);
       names = y.names;
     } in
-    let same : (whole_laid t).systems ≡ m.systems = body_systems (with_heading (with_new_frame b) (heading_with [] [] None)) p.body ∙ routines_systems m p.routines in
+    let same : (whole_laid t).systems ≡ m.systems = body_systems (with_heading (with_new_frame b) (heading_with [] [] None)) p.body true ∙ routines_systems m p.routines in
     record {
       headed = headed_both k p every all values 0 (program_parts_begun l p.parts) (routines_begun m p.routines ++ initial_begun b [] ∷ []) os (ps ++ own ∷ []) x.headed
           (subst (λ n. AreHeaded k p every all values n (routines_begun m p.routines ++ initial_begun b [] ∷ []) (ps ++ own ∷ [])) a.routines

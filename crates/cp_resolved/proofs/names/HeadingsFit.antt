@@ -1,6 +1,6 @@
 -- The parameters of each routine of the tables: none is a component, the `var` parameters have their numbers in order, and a result is an ordinal.
 use Rattle.std.proofs.Common.{◌≡◌, ◌+◌, ◌<◌, ℕ, suc, Bool, true, false, if◌then◌else◌, List, [], ◌∷◌, ◌++◌, length, Option, Some, None, slice_get, refl, sym, ap, subst, ◌∙◌, append_assoc, append-nil, arith, length-append}
-use Rattle.cp_resolved.proofs.Words.{Program, Tree, PlainTables, plain, laid, Layer, nothing_laid, routine_of, statements, Tables, RoutineView, routine_at, no_routine}
+use Rattle.cp_resolved.proofs.Words.{Program, Tree, PlainTables, plain, laid, Layer, nothing_laid, routine_of, Tables, RoutineView, routine_at, no_routine}
 use Rattle.cp_resolved.proofs.Words.{Name, local_variable, Variable, Parameter, RoutineMeaning, parameter_variables, all_begun, AreDifferent, AreDeclared}
 use Rattle.cp_resolved.proofs.Words.{routine_variables, IsFramed, InStep, cell_named, slot_of, look, IsPlaced, Opening, openings_of, meaning_in, meaning_at, numbering_of}
 use Rattle.cp_resolved.proofs.Words.{Each, IsFreeVariable, layer_or, begun_at, parameters_by, frame_layout, layouts_of, whole_laid}
@@ -20,7 +20,8 @@ use Rattle.cp_resolved.proofs.counts.RoutinesCounted.{Many, all_many}
 use Rattle.cp_resolved.proofs.systems.SystemKnown.{later_new}
 use Rattle.cp_resolved.proofs.names.TreeKnown.{layouts_law}
 use Rattle.cp_resolved.proofs.components.VisibleComponents.{counted, begun_there, seated_there}
-use Rattle.cp_resolved.proofs.laid.ZeroCells.{statements_zeroed}
+use Rattle.cp_resolved.proofs.laid.ZeroCells.{body_zeroed}
+use Rattle.cp_resolved.specs.ItemsStand.{body_items}
 use Rattle.cp_resolved.proofs.agreeing.AgreeingWritten.{each_left}
 
 -- ---- types
@@ -130,12 +131,12 @@ module _ (t : Tree) (r : Tables) (same : plain r ≡ laid t) (place : IsPlaced t
   extents_there : length (routine_at r n).extents ≡ length (parameters_by true m.parameters)
   extents_there =
       let w : EndsAt t (openings_of p) 0 n l = ends_at t 0 (all_begun t) (openings_of p) n l (all_end (numbering_of p) t) at in
-      let x = statements l w.opening.meaning.body in
+      let x = body_items l w.opening.meaning.body w.opening.meaning.checks in
       let v : RoutineView = routine_of x.1 x.0 in
       let zero_more : 0 + n ≡ n = omega arith in
       let routine : slice_get (whole_laid t).routines n ≡ Some v = subst (λ j. slice_get (whole_laid t).routines j ≡ Some v) zero_more w.ends.there in
       let is : routine_at r n ≡ v = entry_at r.routines n no_routine v (ap (λ rs. slice_get rs n) (ap (λ (q : PlainTables). q.routines) same ∙ laid_routines t) ∙ routine) in
-      ap (λ (q : RoutineView). length q.extents) is ∙ ap (λ (es : List ℕ). length es) ((statements_zeroed l w.opening.meaning.body).extents ∙ frames.extents) ∙ extents_length (parameters_by true m.parameters)
+      ap (λ (q : RoutineView). length q.extents) is ∙ ap (λ (es : List ℕ). length es) ((body_zeroed l w.opening.meaning.body w.opening.meaning.checks).extents ∙ frames.extents) ∙ extents_length (parameters_by true m.parameters)
 
   slot_is : (x : Name) (u : Ty) → look x (parameters_by true m.parameters) ≡ Some u → cell_named ((layouts_of t).frames n) x ≡ number_among x (parameters_by true m.parameters)
   slot_is x u e =

@@ -258,6 +258,7 @@ module _ (k : Numbering) where
   kind_others : (P : Name → Type 0) (s : Scope) (r : syntax.RoutineKind) → Each P (kind_names r) → Each (λ (q : Parameter). P q.name) (meant.heading_of s r).parameters
   kind_others P s (syntax.procedure gs) e = var_groups_others P (record { parameters = []; scope = s }) gs tt e
   kind_others P s (syntax.function gs i) e = groups_others P local_variable (record { parameters = []; scope = s }) gs tt e
+  kind_others P s syntax.invariants e = tt
 
   pub same_after : (l m : Layer) (xs : List Name) (qs : List Parameter) → ((x : Name) → IsOther x xs → find x m.names ≡ find x l.names) → AreBeside qs xs → Each (λ (q : Parameter). find q.name m.names ≡ find q.name l.names) qs
   same_after l m xs [] h e = tt
@@ -269,11 +270,13 @@ module _ (k : Numbering) where
   unfolding heading
   heading_found l s x (syntax.procedure gs) i o distinct = var_groups_found l [] (record { parameters = []; scope = s }) gs i o tt distinct tt
   heading_found l s x (syntax.function gs j) i o distinct = groups_found l [] (record { parameters = []; scope = s }) gs i o tt distinct tt
+  heading_found l s x syntax.invariants i o distinct = tt
 
   heading_types : (l : Layer) (x : List ℕ) (r : syntax.RoutineKind) → (heading l x r).1.types ≡ l.types
   unfolding heading
   heading_types l x (syntax.procedure gs) = var_groups_types l [] gs
   heading_types l x (syntax.function gs i) = groups_types l [] gs
+  heading_types l x syntax.invariants = refl
 
   -- where the statements of a routine begin
   pub begun_found : (l : Layer) (s : Scope) (r : syntax.Routine) → InStep k l.types (opened l r.name.name).1.names (with_routine s r) → AreValues (routine_in (with_routine s r) r).parameters → IsDistinctRoutine r →

@@ -98,6 +98,7 @@ module _ (Q : Names → Type 0) (A : LayoutMeaning → Type 0) (add : (x : List 
     unfolding heading
     heading_keep l x (syntax.procedure gs) h = parameter_groups_keep l [] gs h
     heading_keep l x (syntax.function gs i) h = constant_groups_keep l [] gs h
+    heading_keep l x syntax.invariants h = h
 
   -- ---- in a system type, or in the program
 

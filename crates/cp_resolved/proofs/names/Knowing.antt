@@ -1,6 +1,6 @@
 -- What is laid out so far knows the routines that are declared: the result of each, and each routine of a system type among its entries.
 use Rattle.std.proofs.Common.{◌≡◌, ◌+◌, ◌<◌, ◌≤◌, ℕ, suc, Bool, true, false, if◌then◌else◌, List, [], ◌∷◌, ◌++◌, length, Some, None, slice_get, refl, sym, ap, subst, ◌∙◌, arith, append-nil, length-append}
-use Rattle.cp_resolved.proofs.Words.{none-some, entry_among, entry_in, entry_of, Name, same_name, component_of, Scope, routine_meaning, permanent_variable, find}
+use Rattle.cp_resolved.proofs.Words.{none-some, entry_among, entry_in, entry_of, Name, same_name, component_of, Scope, permanent_variable, find}
 use Rattle.cp_resolved.proofs.Words.{seen_inside, is_seen, routine_of_system, routine_of_type, routine_begun, initial_begun, parts_begun, with_routine, parts_scope}
 use Rattle.cp_resolved.proofs.Words.{initial_meaning, ResultsAre, Numbering, InStep, IsOuter, AreOuter}
 use Rattle.cp_tree.specs.Syntax as syntax
@@ -16,7 +16,7 @@ use Rattle.cp_resolved.proofs.laid.Declares.{Declares, heading_declares, local_p
 use Rattle.cp_resolved.proofs.names.Entries.{there, still_there}
 use Rattle.cp_resolved.proofs.names.EntriesKnown.{heading_of, begun_headings, routine_headings, heading_result, HeadingsAre, headings_grown, heading_added, entry_longer}
 use Rattle.cp_resolved.proofs.laid.Extends.{Longer, routine_names}
-use Rattle.cp_resolved.proofs.laid.Grown.{statements_grew}
+use Rattle.cp_resolved.proofs.laid.Grown.{body_grew}
 use Rattle.cp_resolved.proofs.laid.Named.{Named, AreNames, AreTypes, AreSystems, names_more, systems_more, names_inside}
 use Rattle.cp_resolved.proofs.agreeing.Outer.{outer_type, outer_constants, outer_variables}
 use Rattle.cp_resolved.proofs.names.StepsOfRoutines.{body_count, body_systems, routine_count, routine_systems, groups_routines, groups_systems, begun_routines, begun_systems as begun_same}
@@ -91,17 +91,17 @@ begun_named l r n =
     let b : Named (with_heading h.1 h.0) = record { names = a.names; types = a.types; systems = a.systems } in
     (local_parts_declared (with_heading h.1 h.0) r.parts b).named
 
-pub body_named : (l : Layer) (b : syntax.Body) → Named l → Named (body l b)
-body_named l b n =
-    let g = (statements_grew l b.statements).1 in
-    let names : (body l b).names ≡ l.names = ap (λ (j : Layer). j.names) g in
-    named_moved l (body l b) (subst (AreNames (length l.systems) (length l.routines)) (sym names) n.names) (ap (λ (j : Layer). j.types) g) (body_systems l b) (omega (arith, body_count l b)) n
+pub body_named : (l : Layer) (b : syntax.Body) (c : Bool) → Named l → Named (body l b c)
+body_named l b c n =
+    let g = (body_grew l b.statements c).1 in
+    let names : (body l b c).names ≡ l.names = ap (λ (j : Layer). j.names) g in
+    named_moved l (body l b c) (subst (AreNames (length l.systems) (length l.routines)) (sym names) n.names) (ap (λ (j : Layer). j.types) g) (body_systems l b c) (omega (arith, body_count l b c)) n
 
 -- after a routine its own name is visible beside those before it
 routine_named : (l : Layer) (r : syntax.Routine) → Named l → Named (routine l r)
 routine_named l r n =
-    let b : Layer = body (routine_begun l r) r.body in
-    let a : Named b = body_named (routine_begun l r) r.body (begun_named l r n) in
+    let b : Layer = body (routine_begun l r) r.body r.is_entry in
+    let a : Named b = body_named (routine_begun l r) r.body r.is_entry (begun_named l r n) in
     let es : (routine l r).systems ≡ l.systems = routine_systems l r in
     let names : AreNames (length l.systems) (length l.routines) ((r.name.name, meaning.Routine (length l.routines)) ∷ l.names) = (omega arith, n.names) in
     let more : AreNames (length l.systems) (length (routine l r).routines) ((r.name.name, meaning.Routine (length l.routines)) ∷ l.names) =
@@ -197,7 +197,7 @@ module _ (k : Numbering) (p : syntax.Program) where
   pub routine_knows : (l : Layer) (s : Scope) (r : syntax.Routine) → InStep k l.types l.names s → Opens l s r → length l.headings ≡ length l.routines → Knowing l → Knowing (routine l r)
   routine_knows l s r i o c h =
       let b : Layer = routine_begun l r in
-      let g = (statements_grew b r.body.statements).1 in
+      let g = (body_grew b r.body.statements r.is_entry).1 in
       let hs : (routine l r).headings ≡ b.headings = ap (λ (j : Layer). j.headings) g in
       let ts : (routine l r).types ≡ b.types = ap (λ (j : Layer). j.types) g in
       record {

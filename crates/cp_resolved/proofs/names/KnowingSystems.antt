@@ -1,6 +1,6 @@
 -- What is laid out knows the routines of each system type once that is whole, and so through all declarations of the program.
 use Rattle.std.proofs.Common.{◌≡◌, ◌+◌, ◌<◌, ℕ, suc, List, [], ◌∷◌, ◌++◌, length, Some, None, slice_get, refl, sym, ap, subst, ◌∙◌, inl, inr, arith, append_assoc, append-nil, length-append}
-use Rattle.cp_resolved.proofs.Words.{◌⊎◌, none-some, same_Some, slice_get_within, LayoutMeaning, entry_among, entry_in, written_type, Name, component_of, Scope, find}
+use Rattle.cp_resolved.proofs.Words.{◌⊎◌, none-some, same_Some, slice_get_within, LayoutMeaning, entry_among, entry_in, written_type, Name, component_of, Scope, find, true}
 use Rattle.cp_resolved.proofs.Words.{seen_inside, RoutineMeaning, routine_of_system, routine_of_type, initial_begun, parameters_of, parts_begun, system_begun}
 use Rattle.cp_resolved.proofs.Words.{IsFitDefinition, AreFitDefinitions, IsFitPart, AreFitParts, Numbering, InStep, AreOuter, AreOnce, IsOnceDefinition, IsOncePart}
 use Rattle.cp_resolved.proofs.Words.{initial_meaning, Enumerated, each_in, in_part, in_routine, in_system, in_definition, in_program_part}
@@ -17,7 +17,7 @@ use Rattle.cp_resolved.proofs.laid.Declares.{Declares, type_declares, constants_
 use Rattle.cp_resolved.proofs.names.Entries.{there, still_there, last_entry, last_or_before}
 use Rattle.cp_resolved.proofs.names.EntriesKnown.{headings_of, routines_headings, headings_named, headings_count, HeadingsAre, entry_skips, EntryOr, entries_found, AreNamed}
 use Rattle.cp_resolved.proofs.laid.Extends.{Longer, longer_trans as longer_both}
-use Rattle.cp_resolved.proofs.laid.Grown.{statements_grew}
+use Rattle.cp_resolved.proofs.laid.Grown.{body_grew}
 use Rattle.cp_resolved.proofs.names.Knowing.{no_routine, outer_inside, body_named, IsThere, Knowing, still_known, entries_more, declares_know, routine_knows, routine_even, routines_even, initial_knows, parts_headings, parts_know, parts_even}
 use Rattle.cp_resolved.proofs.laid.Named.{Named, IsType, IsMeaning, AreNames, AreSystems, names_more, types_more}
 use Rattle.cp_resolved.proofs.names.StepsOfParts.{Reached}
@@ -86,19 +86,19 @@ module _ (k : Numbering) (p : syntax.Program) where
 
     ended_headings : ended.headings ≡ l.headings ++ (headings_of (parts_begun l d) d.routines ++ own ∷ [])
     ended_headings =
-        ap (λ (j : Layer). j.headings) (statements_grew (initial_begun begun (parameters_of l d)) d.body.statements).1
+        ap (λ (j : Layer). j.headings) (body_grew (initial_begun begun (parameters_of l d)) d.body.statements true).1
         ∙ ap (λ hs. hs ++ own ∷ []) (routines_headings (parts_begun l d) d.routines)
         ∙ ap (λ hs. (hs ++ headings_of (parts_begun l d) d.routines) ++ own ∷ []) (parts_headings k p l d)
         ∙ append_assoc l.headings (headings_of (parts_begun l d) d.routines) (own ∷ [])
 
     ended_systems : ended.systems ≡ l.systems
-    ended_systems = body_systems (initial_begun begun (parameters_of l d)) d.body ∙ routines_systems (parts_begun l d) d.routines ∙ groups_systems l d
+    ended_systems = body_systems (initial_begun begun (parameters_of l d)) d.body true ∙ routines_systems (parts_begun l d) d.routines ∙ groups_systems l d
 
     pub begun_many : length begun.routines ≡ length l.routines + length d.routines
     begun_many = routines_count (parts_begun l d) d.routines ∙ ap (λ rs. length rs + length d.routines) (groups_routines l d)
 
     ended_many : length ended.routines ≡ suc (length begun.routines)
-    ended_many = body_count (initial_begun begun (parameters_of l d)) d.body
+    ended_many = body_count (initial_begun begun (parameters_of l d)) d.body true
 
     pub system_knows : IsSmallSystem d → IsFitDefinition from (syntax.system_definition d) → AreOnce d.routines → AreOuter from.scope → AreNumbered k.firsts (length l.constants) (in_system d) →
         AreOpened k.routines (length l.routines) (definition_openings from (syntax.system_definition d)) → InStep k l.types l.names from.scope → length l.headings ≡ length l.routines → systems.system_of p (length l.systems) ≡ system_in (seen_inside from.scope) d → Knowing k p l → Knowing k p (system l d).1
@@ -116,8 +116,8 @@ module _ (k : Numbering) (p : syntax.Program) where
         let even : length z.headings ≡ length z.routines = parts_even k p l d c in
         let a : Knowing k p begun = routines_know z scope_before (length from.systems) d.routines small.1 (numbered_after k l.constants z.constants es fs r.constants numbered) (parts_opened k l (length from.systems) scope_before d o) r.names even (parts_know k p l d w) in
         let b : Knowing k p (initial_begun begun (parameters_of l d)) = initial_knows k p begun (parameters_of l d) (system_in (seen_inside from.scope) d) number (routines_even k p z d.routines even) a in
-        let g = (statements_grew (initial_begun begun (parameters_of l d)) d.body.statements).1 in
-        let n : Named ended = body_named (initial_begun begun (parameters_of l d)) d.body b.named in
+        let g = (body_grew (initial_begun begun (parameters_of l d)) d.body.statements true).1 in
+        let n : Named ended = body_named (initial_begun begun (parameters_of l d)) d.body true b.named in
         let ts : ended.types ≡ begun.types = ap (λ (j : Layer). j.types) g in
         let more : length (ended.systems ++ made ∷ []) ≡ length ended.systems + 1 = length-append ended.systems (made ∷ []) in
         let same : length ended.systems ≡ length l.systems = ap (λ ss. length ss) ended_systems in

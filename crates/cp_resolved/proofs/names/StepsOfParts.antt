@@ -215,6 +215,7 @@ module _ (k : Numbering) where
   heading_reached l s x (syntax.function gs j) i =
       let a : Reached l (constant_groups l [] gs).1 (meant.with_groups scopes.local_variable (record { parameters = []; scope = s }) gs).scope [] = constant_groups_reached l (record { parameters = []; scope = s }) [] gs i in
       record { names = a.names; constants = a.constants }
+  heading_reached l s x syntax.invariants i = reached_same l s i
 
   -- ---- parameters of system types
 

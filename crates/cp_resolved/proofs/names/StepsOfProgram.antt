@@ -1,5 +1,5 @@
 -- Names stay in step through the whole program, whose constants of enumerations are those of the tables.
-use Rattle.cp_resolved.proofs.Words.{◌≡◌, ◌+◌, ℕ, suc, List, [], ◌∷◌, ◌++◌, length, refl, sym, ap, subst, ◌∙◌, arith, length-append, None, Layer, nothing_laid}
+use Rattle.cp_resolved.proofs.Words.{◌≡◌, ◌+◌, ℕ, suc, List, [], ◌∷◌, ◌++◌, length, refl, sym, ap, subst, ◌∙◌, arith, length-append, None, Layer, nothing_laid, true}
 use Rattle.cp_resolved.proofs.Words.{written_type, laid, tables_laid, Scope, predeclared, Block, Numbering, InStep, AreOuter, system_begun, Each, IsSmallDefinition}
 use Rattle.cp_resolved.proofs.Words.{IsSmallProgramPart, IsSmallProgram, AreNumbered, IsFitDefinition, AreFitDefinitions, IsFitPart, AreFitParts, nothing_declared}
 use Rattle.std.proofs.lemmas.List.{append-nil}
@@ -48,12 +48,12 @@ module _ (k : Numbering) where
   system_count l s =
       let z : Layer = permanent_parts (system_groups (entered l).1 [] s.parameters).1 s.parts in
       let e : suc (length l.routines + length s.routines) ≡ length l.routines + (length s.routines + 1) = omega arith in
-      body_count (with_heading (with_new_frame (system_begun l s)) (heading_with [] (system_groups (entered l).1 [] s.parameters).0 None)) s.body ∙ ap suc (routines_count z s.routines) ∙ ap (λ rs. suc (length rs + length s.routines)) (groups_routines l s) ∙ e
+      body_count (with_heading (with_new_frame (system_begun l s)) (heading_with [] (system_groups (entered l).1 [] s.parameters).0 None)) s.body true ∙ ap suc (routines_count z s.routines) ∙ ap (λ rs. suc (length rs + length s.routines)) (groups_routines l s) ∙ e
 
   pub initial_systems : (l : Layer) (s : syntax.System) → (initial_statement (system_begun l s) (system_groups (entered l).1 [] s.parameters).0 s.body).systems ≡ l.systems
   initial_systems l s =
       let z : Layer = permanent_parts (system_groups (entered l).1 [] s.parameters).1 s.parts in
-      body_systems (with_heading (with_new_frame (system_begun l s)) (heading_with [] (system_groups (entered l).1 [] s.parameters).0 None)) s.body ∙ routines_systems z s.routines ∙ groups_systems l s
+      body_systems (with_heading (with_new_frame (system_begun l s)) (heading_with [] (system_groups (entered l).1 [] s.parameters).0 None)) s.body true ∙ routines_systems z s.routines ∙ groups_systems l s
 
   system_number : (l : Layer) (s : syntax.System) → (system l s).0 ≡ types.System (length l.systems)
   unfolding system
@@ -180,4 +180,4 @@ pub names_laid : (k : Numbering) (t : syntax.Tree) → IsSmallProgram t.program 
 unfolding laid tables_laid program
 names_laid k t h f e o =
     let m : Layer = routines (program_parts (nothing_laid t.lines) t.program.parts) t.program.routines in
-    body_constants (with_heading (with_new_frame m) (heading_with [] [] None)) t.program.body ∙ (program_reached k t.lines t.program h f e o).constants
+    body_constants (with_heading (with_new_frame m) (heading_with [] [] None)) t.program.body true ∙ (program_reached k t.lines t.program h f e o).constants

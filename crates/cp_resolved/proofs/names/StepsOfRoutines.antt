@@ -4,18 +4,19 @@ use Rattle.std.proofs.lemmas.List.{append-nil}
 use Rattle.cp_tree.specs.Syntax as syntax
 use Rattle.cp_symbols.specs.declared.names.LayoutMeaning.TheVariants as meaning
 use Rattle.cp_layout.specs.Layers.{Names, Layer, Heading, routine_of}
-use Rattle.cp_resolved.proofs.Words.{statements, Scope, routine_in, with_routines, system_in, Enumerated, each_in, in_part, in_routine, in_system, names_among, Numbering}
+use Rattle.cp_resolved.proofs.Words.{Scope, routine_in, with_routines, system_in, Enumerated, each_in, in_part, in_routine, in_system, names_among, Numbering, Bool, true}
 use Rattle.cp_resolved.proofs.Words.{InStep, AreOuter, Opening, with_routine, routine_openings, parts_scope, AreOpened, routine_begun, parts_begun, system_begun}
 use Rattle.cp_layout.specs.LaidDeclarations.{heading, heading_with, body, with_new_frame, with_heading, opened, routine, routines, entered, system_groups, permanent_parts, system}
 use Rattle.cp_meaning.specs.Scopes as scopes
 use Rattle.cp_meaning.specs.Declarations as meant
 use Rattle.cp_resolved.specs.Small.{Each, IsSmallPart, IsSmallRoutine, IsSmallSystem, AreNumbered, AreParameters}
-use Rattle.cp_resolved.proofs.laid.Grown.{statements_grew}
+use Rattle.cp_resolved.proofs.laid.Grown.{body_grew}
 use Rattle.cp_resolved.proofs.laid.Declares.{heading_declares, local_parts_declare, permanent_parts_declare, system_groups_declare}
 use Rattle.cp_resolved.proofs.laid.Extends.{Extends, routine_extends, routine_names, system_extends}
 use Rattle.cp_resolved.proofs.names.Steps.{names_grown, all_inside}
 use Rattle.cp_resolved.proofs.names.StepsOfTypes.{constants_trans, numbered_left, numbered_after}
 use Rattle.cp_resolved.proofs.names.StepsOfParts.{Reached, reached_same, reached_trans, heading_reached, local_parts_reached, permanent_parts_reached, system_groups_reached}
+use Rattle.cp_resolved.specs.ItemsStand.{body_items}
 
 -- ---- how many routines and system types there are
 
@@ -31,23 +32,23 @@ begun_systems l r =
     let h : Heading × Layer = heading x r.name.name r.kind in
     ap (λ (j : Layer). j.systems) (local_parts_declare (with_heading h.1 h.0) r.parts).same ∙ ap (λ (j : Layer). j.systems) (heading_declares x r.name.name r.kind).same
 
-pub body_count : (l : Layer) (b : syntax.Body) → length (body l b).routines ≡ suc (length l.routines)
-body_count l b =
-    let x : Option ℕ × Layer = statements l b.statements in
-    let e : x.1.routines ≡ l.routines = ap (λ (j : Layer). j.routines) (statements_grew l b.statements).1 in
+pub body_count : (l : Layer) (b : syntax.Body) (c : Bool) → length (body l b c).routines ≡ suc (length l.routines)
+body_count l b c =
+    let x : Option ℕ × Layer = body_items l b.statements c in
+    let e : x.1.routines ≡ l.routines = ap (λ (j : Layer). j.routines) (body_grew l b.statements c).1 in
     length-append x.1.routines (routine_of x.1 x.0 ∷ []) ∙ ap (λ rs. length rs + 1) e ∙ (let w : length l.routines + 1 ≡ suc (length l.routines) = omega arith in w)
 
-pub body_systems : (l : Layer) (b : syntax.Body) → (body l b).systems ≡ l.systems
-body_systems l b = ap (λ (j : Layer). j.systems) (statements_grew l b.statements).1
+pub body_systems : (l : Layer) (b : syntax.Body) (c : Bool) → (body l b c).systems ≡ l.systems
+body_systems l b c = ap (λ (j : Layer). j.systems) (body_grew l b.statements c).1
 
-pub body_constants : (l : Layer) (b : syntax.Body) → (body l b).constants ≡ l.constants
-body_constants l b = ap (λ (j : Layer). j.constants) (statements_grew l b.statements).1
+pub body_constants : (l : Layer) (b : syntax.Body) (c : Bool) → (body l b c).constants ≡ l.constants
+body_constants l b c = ap (λ (j : Layer). j.constants) (body_grew l b.statements c).1
 
 pub routine_count : (l : Layer) (r : syntax.Routine) → length (routine l r).routines ≡ suc (length l.routines)
-routine_count l r = body_count (routine_begun l r) r.body ∙ ap (λ rs. suc (length rs)) (begun_routines l r)
+routine_count l r = body_count (routine_begun l r) r.body r.is_entry ∙ ap (λ rs. suc (length rs)) (begun_routines l r)
 
 pub routine_systems : (l : Layer) (r : syntax.Routine) → (routine l r).systems ≡ l.systems
-routine_systems l r = body_systems (routine_begun l r) r.body ∙ begun_systems l r
+routine_systems l r = body_systems (routine_begun l r) r.body r.is_entry ∙ begun_systems l r
 
 pub routines_systems : (l : Layer) (rs : List syntax.Routine) → (routines l rs).systems ≡ l.systems
 unfolding routines
@@ -116,7 +117,7 @@ module _ (k : Numbering) where
       let c : InStep k (routine l r).types ds (with_routine s r) = subst (λ ts. InStep k ts ds (with_routine s r)) (sym x.types.1) b in
       record {
         names = subst (λ ns. InStep k (routine l r).types ns (with_routine s r)) (sym (routine_names l r)) c;
-        constants = body_constants (routine_begun l r) r.body ∙ (begun_reached l s r h n e i).constants;
+        constants = body_constants (routine_begun l r) r.body r.is_entry ∙ (begun_reached l s r h n e i).constants;
       }
 
   pub routines_reached : (l : Layer) (s : Scope) (owner : ℕ) (rs : List syntax.Routine) → Each IsSmallRoutine rs → AreNumbered k.firsts (length l.constants) (each_in in_routine rs) → AreOpened k.routines (length l.routines) (routine_openings owner s rs) → InStep k l.types l.names s →
@@ -171,5 +172,5 @@ module _ (k : Numbering) where
       let b : InStep k (l.types ++ x.types.0) l.names s = names_grown k l.types x.types.0 l.names s i in
       record {
         names = subst (λ ts. InStep k ts l.names s) (sym x.types.1) b;
-        constants = body_constants (with_heading (with_new_frame (system_begun l d)) (heading_with [] (system_groups (entered l).1 [] d.parameters).0 None)) d.body ∙ a.constants;
+        constants = body_constants (with_heading (with_new_frame (system_begun l d)) (heading_with [] (system_groups (entered l).1 [] d.parameters).0 None)) d.body true ∙ a.constants;
       }

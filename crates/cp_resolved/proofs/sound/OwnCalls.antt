@@ -24,10 +24,13 @@ use Rattle.cp_layout.specs.Layers as layers
 use Rattle.cp_layout.specs.Layers.{Layer, Pending, find, seen_inside, with_open, nothing_laid}
 use Rattle.cp_layout.specs.LaidDeclarations as lays
 use Rattle.cp_layout.specs.LaidDeclarations.{body, Parameters, heading, heading_with, with_heading, with_new_frame, opened, local_parts, permanent_parts, system_groups, entered, initial_statement, definition, system, system_definition, system_definitions, program_part, program_parts, program}
-use Rattle.cp_resolved.proofs.laid.Avoiding.{statements_avoid}
+use Rattle.cp_tree.specs.Spelling.{is_nameless}
+use Rattle.cp_resolved.proofs.declarations.NamedRoutines.{IsApartBy, IsRoutine}
+use Rattle.cp_resolved.proofs.declarations.Nameless.{IsKnownBy, EachIn, EachInPart, EachRoutine}
+use Rattle.cp_resolved.proofs.laid.Avoiding.{AvoidStatements, statements_avoid, says_avoid}
 use Rattle.cp_resolved.proofs.laid.Declared.{Declared, then_declared, heading_declared, local_parts_declared, permanent_declared, system_groups_declared, constants_declared, variables_declared, written_typed}
 use Rattle.cp_resolved.proofs.laid.Extends.{routine_names, system_names}
-use Rattle.cp_resolved.proofs.laid.Foreign.{IsForeign, AreForeign, Fine, statements_fine}
+use Rattle.cp_resolved.proofs.laid.Foreign.{IsForeign, AreForeign, Fine, body_fine}
 use Rattle.cp_resolved.proofs.laid.Named.{IsFound, found}
 use Rattle.cp_resolved.proofs.systems.Owning.{Outside}
 use Rattle.cp_resolved.proofs.agreeing.OwnNames.{Inside, moved, one_inside, constants_inside, variables_inside, type_inside, local_parts_inside, permanent_parts_inside, heading_inside, system_groups_inside}
@@ -62,18 +65,22 @@ seen_no_routine y (d ∷ ds) n e = open_no_routine y d.0 d.1 ds n (seen_no_routi
 
 -- ---- bodies
 
-body_foreign : (l : Layer) (b : Body) (s : Scopes) (w : Context) → Whole l → AreForeign l.items → Heard s → faults (statements s w (Ok no_use) b.statements) ≡ [] → ((x : List ℕ) → find x l.names ≡ Some (meaning.Routine (length l.routines)) → (n : ℕ) × ((w.routine ≡ Some n) × (look x s ≡ Some (Some (checked_meaning.Routine n))))) → AreForeign (body l b).items
-body_foreign l b s w whole foreign hears none agree =
-    let P : List ℕ → Type 0 = λ x. find x l.names ≡ Some (meaning.Routine (length l.routines)) in
-    let fine : Fine P (length l.routines) l = record { number = refl; own = λ x e. e; named = whole.ground.named; pending = subst (λ (ps : List Pending). Each (λ (p : Pending). IsForeign (length l.routines) p.action) ps) (sym whole.pending) tt; items = foreign } in
-    (statements_fine P (length l.routines) l b.statements fine (statements_avoid s w hears P agree b.statements (Ok no_use) none).1).items
+-- the names that stand for the routine that is laid out
+abbrev Own : Layer → List ℕ → Type 0
+Own l x = find x l.names ≡ Some (meaning.Routine (length l.routines))
+
+body_foreign : (l : Layer) (b : Body) (checks : Bool) → Whole l → AreForeign l.items → AvoidStatements (Own l) b.statements → (checks ≡ true → Own l syntax.nameless → ⊥) → AreForeign (body l b checks).items
+body_foreign l b checks whole foreign avoids none =
+    let fine : Fine (Own l) (length l.routines) l = record { number = refl; own = λ x e. e; named = whole.ground.named; pending = subst (λ (ps : List Pending). Each (λ (p : Pending). IsForeign (length l.routines) p.action) ps) (sym whole.pending) tt; items = foreign } in
+    (body_fine (Own l) (length l.routines) l b.statements checks fine avoids none).items
 
 initial_foreign : (l : Layer) (ps : Parameters) (b : Body) (s : Scopes) (w : Context) → Whole l → IsNew l → AreForeign l.items → Heard s → faults (statements s w (Ok no_use) b.statements) ≡ [] → AreForeign (initial_statement l ps b).items
 initial_foreign l ps b s w whole new foreign hears none =
     let m : Layer = with_new_frame l in
     let k : Layer = with_heading m (heading_with [] ps None) in
     let d : Declared l k = then_declared l m k (frame_new l whole.ground.named) (heading_added m (heading_with [] ps None)) in
-    body_foreign k b s w (whole_declared l k d whole) foreign hears none (λ x e. absurd (new x e))
+    let never : Own k syntax.nameless → ⊥ = new syntax.nameless in
+    body_foreign k b true (whole_declared l k d whole) foreign (statements_avoid s w hears (Own k) (λ x e. absurd (new x e)) never b.statements (Ok no_use) none).1 (λ c. never)
 
 -- ---- routines
 
@@ -127,7 +134,32 @@ nothing_entered : (s : Scopes) (y : List ℕ) → scopes.find y (enter false s).
 unfolding enter
 nothing_entered s y = refl
 
--- under its own name alone the routine is seen in its statements, and there it is the one that is checked
+-- under its own name alone the routine is known in its statements
+own_named : (k : Option SystemKind) (l : Layer) (s : Scopes) (r : Routine) → IsNew l →
+    (y : List ℕ) → find y (local_parts (with_heading (heading (opened l r.name.name).1 r.name.name r.kind).1 (heading (opened l r.name.name).1 r.name.name r.kind).0) r.parts).names ≡ Some (meaning.Routine (length l.routines)) → y ≡ r.name.name
+own_named k l s r new y e =
+    let n : ℕ = length l.routines in
+    let d : Step = reserve_name s r.name in
+    let g : headings.Headed = headings.heading k r d in
+    let known : Scopes = headings.announced_of r g.result g.scopes in
+    let after : Scopes = (part_steps spot.Other known r.parts).scopes in
+    let Q : List ℕ → Type 0 = λ z. z ≡ r.name.name in
+    let x : Layer = (opened l r.name.name).1 in
+    let h = heading x r.name.name r.kind in
+    let begun : Inside Q n x.names (enter false d.scopes) = λ z. first z in
+    let headed : Inside Q n h.1.names (headings.written (enter false d.scopes) r.kind).scopes = heading_inside Q n x (enter false d.scopes) r.name.name r.kind begun in
+    let there : Inside Q n h.1.names known = moved Q n h.1.names (headings.written (enter false d.scopes) r.kind).scopes known (announced_names r g.result g.scopes ∙ ap (λ (u : Scopes). u.inner.names) (heading_scopes k r d)) headed in
+    let last : Inside Q n (local_parts (with_heading h.1 h.0) r.parts).names after = local_parts_inside Q n spot.Other (with_heading h.1 h.0) known r.parts there in
+    (last y e).0
+  where
+    first : (z : List ℕ) → find z ((r.name.name, meaning.Routine (length l.routines)) ∷ l.names) ≡ Some (meaning.Routine (length l.routines)) → (z ≡ r.name.name) × (scopes.find z (enter false (reserve_name s r.name).scopes).inner.names ≡ None)
+    first z = go (bytes_eq r.name.name z) refl
+      where
+        go : (b : Bool) → bytes_eq r.name.name z ≡ b → (if b then Some (meaning.Routine (length l.routines)) else find z l.names) ≡ Some (meaning.Routine (length l.routines)) → (z ≡ r.name.name) × (scopes.find z (enter false (reserve_name s r.name).scopes).inner.names ≡ None)
+        go true same f = (sym ((bytes_eq-Decides r.name.name z).0 same), nothing_entered (reserve_name s r.name).scopes z)
+        go false same f = absurd (new z f)
+
+-- and there it is the one that is checked
 seen_as : (k : Option SystemKind) (l : Layer) (s : Scopes) (r : Routine) → IsNew l → Told s → faults (headings.heading k r (reserve_name s r.name)).result ≡ [] →
     (y : List ℕ) → find y (local_parts (with_heading (heading (opened l r.name.name).1 r.name.name r.kind).1 (heading (opened l r.name.name).1 r.name.name r.kind).0) r.parts).names ≡ Some (meaning.Routine (length l.routines)) →
     look y (part_steps spot.Other (headings.announced_of r (headings.heading k r (reserve_name s r.name)).result (headings.heading k r (reserve_name s r.name)).scopes) r.parts).scopes ≡ Some (Some (checked_meaning.Routine r.name.at))
@@ -171,8 +203,14 @@ uses_sound k r s e =
     let j : Judged Use = statements d.scopes (routines.routine_context k r) (Ok no_use) r.body.statements in
     (none_before d.faults j e, told.none_after d.faults j e)
 
-routine_foreign : (k : Option SystemKind) (l : Layer) (s : Scopes) (r : Routine) → Whole l → IsNew l → Told s → (routines.routine_step k s r).faults ≡ [] → AreForeign l.items → AreForeign (lays.routine l r).items
-routine_foreign k l s r whole new tells e foreign =
+-- its statements call it neither by its name nor by a check
+calm_body : (b : Bool) (r : Routine) (m : Layer) (s : Scopes) (w : Context) → IsKnownBy b r → IsApartBy b r → Heard s → ((y : List ℕ) → Own m y → (n : ℕ) × ((w.routine ≡ Some n) × (look y s ≡ Some (Some (checked_meaning.Routine n))))) → ((r.name.name ≡ syntax.nameless → ⊥) → Own m syntax.nameless → ⊥) → faults (statements s w (Ok no_use) r.body.statements) ≡ [] →
+    AvoidStatements (Own m) r.body.statements × (r.is_entry ≡ true → Own m syntax.nameless → ⊥)
+calm_body true r m s w known other hears own apart none = (says_avoid s w hears (Own m) own r.body.statements (Ok no_use) known.says none, λ e. absurd (let bad : true ≡ false = sym e ∙ known.no_entry in cc))
+calm_body false r m s w known other hears own apart none = ((statements_avoid s w hears (Own m) own (apart other) r.body.statements (Ok no_use) none).1, λ e. apart other)
+
+routine_foreign : (k : Option SystemKind) (l : Layer) (s : Scopes) (r : Routine) → IsRoutine r → Whole l → IsNew l → Told s → (routines.routine_step k s r).faults ≡ [] → AreForeign l.items → AreForeign (lays.routine l r).items
+routine_foreign k l s r is whole new tells e foreign =
     let d : Step = reserve_name s r.name in
     let g : headings.Headed = headings.heading k r d in
     let known : Scopes = headings.announced_of r g.result g.scopes in
@@ -191,8 +229,11 @@ routine_foreign k l s r whole new tells e foreign =
     let named : Told d.scopes = told.name_reserved_told s r.name tells in
     let before : Told known = told.announced_told r g.result g.scopes (told.heading_loud k r d named) sound.0 (told.heading_told k r d sound.0 named) in
     let inside : Told after.scopes = told.parts_told spot.Other known r.parts uses.0 before in
-    body_foreign m r.body after.scopes (routines.routine_context k r) (whole_declared x m c begun) (subst AreForeign (sym same_items) foreign) (heard after.scopes inside) uses.1
-    (λ y f. (r.name.at, (refl, seen_as k l s r new tells sound.0 y (subst (λ (n : ℕ). find y m.names ≡ Some (meaning.Routine n)) same_count f))))
+    let mine : (y : List ℕ) → Own m y → find y m.names ≡ Some (meaning.Routine (length l.routines)) = λ y f. subst (λ (n : ℕ). find y m.names ≡ Some (meaning.Routine n)) same_count f in
+    let own : (y : List ℕ) → Own m y → (n : ℕ) × (((routines.routine_context k r).routine ≡ Some n) × (look y after.scopes ≡ Some (Some (checked_meaning.Routine n)))) = λ y f. (r.name.at, (refl, seen_as k l s r new tells sound.0 y (mine y f))) in
+    let apart : (r.name.name ≡ syntax.nameless → ⊥) → Own m syntax.nameless → ⊥ = λ other f. other (sym (own_named k l s r new syntax.nameless (mine syntax.nameless f))) in
+    let calm = calm_body (is_nameless r.kind) r m after.scopes (routines.routine_context k r) is.known is.apart (heard after.scopes inside) own apart uses.1 in
+    body_foreign m r.body r.is_entry (whole_declared x m c begun) (subst AreForeign (sym same_items) foreign) calm.0 calm.1
 
 routine_count : (l : Layer) (r : Routine) → Whole l → length (lays.routine l r).routines ≡ length l.routines + 1
 routine_count l r whole =
@@ -203,7 +244,7 @@ routine_count l r whole =
     let a : Declared x h.1 = heading_declared x r.name.name r.kind begun.ground.named in
     let b : Declared x (with_heading h.1 h.0) = then_declared x h.1 (with_heading h.1 h.0) a (heading_added h.1 h.0) in
     let c : Declared x m = then_declared x (with_heading h.1 h.0) m b (local_parts_declared (with_heading h.1 h.0) r.parts) in
-    body_count m r.body (whole_declared x m c begun) ∙ ap (λ (j : Layer). length j.routines + 1) c.same
+    body_count m r.body r.is_entry (whole_declared x m c begun) ∙ ap (λ (j : Layer). length j.routines + 1) c.same
 
 same_routine : (n m : ℕ) → Some (meaning.Routine n) ≡ Some (meaning.Routine m) → n ≡ m
 same_routine n m e = cc
@@ -219,13 +260,13 @@ routine_new l r whole y e =
         let le : length l.routines + 1 ≤ length l.routines = subst (IsFound (length l.systems) (length l.routines)) f (found (length l.systems) (length l.routines) y l.names whole.ground.named.names) in
         omega (arith, le)
 
-routines_foreign : (k : Option SystemKind) (l : Layer) (s : Scopes) (rs : List Routine) → Whole l → IsNew l → Told s → (routines.routine_steps k s rs).faults ≡ [] → AreForeign l.items → AreForeign (lays.routines l rs).items × IsNew (lays.routines l rs)
+routines_foreign : (k : Option SystemKind) (l : Layer) (s : Scopes) (rs : List Routine) → Each IsRoutine rs → Whole l → IsNew l → Told s → (routines.routine_steps k s rs).faults ≡ [] → AreForeign l.items → AreForeign (lays.routines l rs).items × IsNew (lays.routines l rs)
 unfolding lays.routines routines.routine_steps
-routines_foreign k l s [] whole new tells e foreign = (foreign, new)
-routines_foreign k l s (r ∷ rs) whole new tells e foreign =
+routines_foreign k l s [] is whole new tells e foreign = (foreign, new)
+routines_foreign k l s (r ∷ rs) is whole new tells e foreign =
     let middle : Scopes = (routines.routine_step k s r).scopes in
     let first : (routines.routine_step k s r).faults ≡ [] = no_left (routines.routine_step k s r).faults (routines.routine_steps k middle rs).faults e in
-    routines_foreign k (lays.routine l r) middle rs (routine_laid l r whole).whole (routine_new l r whole) (told.routine_told k s r first tells) (no_right (routines.routine_step k s r).faults (routines.routine_steps k middle rs).faults e) (routine_foreign k l s r whole new tells first foreign)
+    routines_foreign k (lays.routine l r) middle rs is.1 (routine_laid l r whole).whole (routine_new l r whole) (told.routine_told k s r first tells) (no_right (routines.routine_step k s r).faults (routines.routine_steps k middle rs).faults e) (routine_foreign k l s r is.0 whole new tells first foreign)
 
 -- ---- system types
 
@@ -243,9 +284,9 @@ record SystemForeign (l : Layer) (s : Scopes) (y : System) : Type 0 where
   new : IsNew (lays.system_inside (system_groups (entered l).1 [] y.parameters).1 y)
   whole : Whole (lays.system_inside (system_groups (entered l).1 [] y.parameters).1 y)
 
-inside_foreign : (l : Layer) (s : Scopes) (y : System) → Whole l → Outside l → Told s → (systems.inside (enter true s) y).faults ≡ [] → AreForeign l.items → SystemForeign l s y
+inside_foreign : (l : Layer) (s : Scopes) (y : System) → Each IsRoutine y.routines → Whole l → Outside l → Told s → (systems.inside (enter true s) y).faults ≡ [] → AreForeign l.items → SystemForeign l s y
 unfolding systems.inside
-inside_foreign l s y whole outside tells e foreign =
+inside_foreign l s y is whole outside tells e foreign =
     let k : SystemKind = y.kind in
     let before : Scopes = enter true s in
     let given : Step = systems.group_steps k before y.parameters in
@@ -266,18 +307,18 @@ inside_foreign l s y whole outside tells e foreign =
     let told_given : Told given.scopes = told.system_groups_told k before y.parameters given_none (told.enter_told true s tells) in
     let told_parts : Told parts.scopes = told.parts_told (spot.Permanent (Some k)) given.scopes y.parts parts_none told_given in
     let same_items : p.items ≡ l.items = ap (λ (j : Layer). j.items) b.same in
-    let done = routines_foreign (Some k) p parts.scopes y.routines whole_p (λ z f. (nobody_parts z f).0) told_parts (no_right parts.faults (routines.routine_steps (Some k) parts.scopes y.routines).faults later) (subst AreForeign (sym same_items) foreign) in
+    let done = routines_foreign (Some k) p parts.scopes y.routines is whole_p (λ z f. (nobody_parts z f).0) told_parts (no_right parts.faults (routines.routine_steps (Some k) parts.scopes y.routines).faults later) (subst AreForeign (sym same_items) foreign) in
     record { inside = done.0; new = done.1; whole = (routines_laid p y.routines whole_p).whole }
 
 defined_is : (s : Scopes) (y : System) → faults (systems.system_typed s y).type ≡ [] → faults (systems.defined s (syntax.system_definition y)).type ≡ []
 unfolding systems.defined
 defined_is s y h = h
 
-system_foreign : (l : Layer) (s : Scopes) (y : System) → Whole l → Outside l → Told s → faults (systems.system_typed s y).type ≡ [] → AreForeign l.items → AreForeign (system l y).1.items
+system_foreign : (l : Layer) (s : Scopes) (y : System) → Each IsRoutine y.routines → Whole l → Outside l → Told s → faults (systems.system_typed s y).type ≡ [] → AreForeign l.items → AreForeign (system l y).1.items
 unfolding system
-system_foreign l s y whole outside tells e foreign =
+system_foreign l s y is whole outside tells e foreign =
     let sound : (systems.inside (enter true s) y).faults ≡ [] = inside_sound s y (defined_is s y e) in
-    let inside : SystemForeign l s y = inside_foreign l s y whole outside tells sound foreign in
+    let inside : SystemForeign l s y = inside_foreign l s y is whole outside tells sound foreign in
     let x = system_groups (entered l).1 [] y.parameters in
     let hears : Heard (systems.inside (enter true s) y).scopes = heard (systems.inside (enter true s) y).scopes (told.inside_told (enter true s) y sound (told.enter_told true s tells)) in
     initial_foreign (lays.system_inside x.1 y) x.0 y.body (systems.inside (enter true s) y).scopes (systems.initial_context y.kind) inside.whole inside.new inside.inside hears (initial_sound s y e)
@@ -291,23 +332,23 @@ record Outer (l : Layer) (s : Scopes) : Type 0 where
   foreign : AreForeign l.items
   none : NoneInside l.names s
 
-defined_foreign : (l : Layer) (s : Scopes) (v : Definition) → Outer l s → faults (systems.defined s v).type ≡ [] → AreForeign (definition l v).1.items × NoneInside (definition l v).1.names (systems.defined s v).scopes
+defined_foreign : (l : Layer) (s : Scopes) (v : Definition) → EachIn IsRoutine v → Outer l s → faults (systems.defined s v).type ≡ [] → AreForeign (definition l v).1.items × NoneInside (definition l v).1.names (systems.defined s v).scopes
 unfolding systems.defined
-defined_foreign l s (syntax.type_definition t) h e = (subst AreForeign (sym (ap (λ (j : Layer). j.items) (written_typed l t h.whole.ground.named).declared.same)) h.foreign, λ n. type_inside nobody n l s spot.Definition t (h.none n))
-defined_foreign l s (syntax.system_definition y) h e = (
-  system_foreign l s y h.whole h.outside h.tells e h.foreign,
+defined_foreign l s (syntax.type_definition t) is h e = (subst AreForeign (sym (ap (λ (j : Layer). j.items) (written_typed l t h.whole.ground.named).declared.same)) h.foreign, λ n. type_inside nobody n l s spot.Definition t (h.none n))
+defined_foreign l s (syntax.system_definition y) is h e = (
+  system_foreign l s y is h.whole h.outside h.tells e h.foreign,
   λ n. subst (λ (ns : layers.Names). Inside nobody n ns (systems.system_typed s y).scopes) (sym (system_names l y)) (moved nobody n l.names s (systems.system_typed s y).scopes (told.system_names s y) (h.none n)),
 )
 
 outer_reserved : (l : Layer) (s : Scopes) (i : Identifier) → Outer l s → Outer l (reserve_name s i).scopes
 outer_reserved l s i h = record { whole = h.whole; outside = h.outside; tells = told.name_reserved_told s i h.tells; foreign = h.foreign; none = λ n. moved nobody n l.names s (reserve_name s i).scopes (classes.reserved_names s i) (h.none n) }
 
-definition_outer : (l : Layer) (s : Scopes) (d : SystemDefinition) → Outer l s → (systems.definition_step s d).faults ≡ [] → Outer (system_definition l d) (systems.definition_step s d).scopes
+definition_outer : (l : Layer) (s : Scopes) (d : SystemDefinition) → EachIn IsRoutine d.value → Outer l s → (systems.definition_step s d).faults ≡ [] → Outer (system_definition l d) (systems.definition_step s d).scopes
 unfolding systems.definition_step
-definition_outer l s d h e =
+definition_outer l s d is h e =
     let named : Scopes = (reserve_name s d.name).scopes in
     let begun : Outer l named = outer_reserved l s d.name h in
-    let done = defined_foreign l named d.value begun (defined_sound s d e) in
+    let done = defined_foreign l named d.value is begun (defined_sound s d e) in
     let laid_here = named_laid d.name.name (definition l d.value) (definition_laid l d.value h.whole h.outside) in
     record {
       whole = laid_here.0;
@@ -317,16 +358,16 @@ definition_outer l s d h e =
       none = λ n. one_inside nobody n (definition l d.value).1.names (systems.defined named d.value).scopes d.name (meaning.Kind (definition l d.value).0) (as_declared ((systems.defined named d.value).type >>= to_kind)) tt (done.1 n);
     }
 
-definitions_outer : (l : Layer) (s : Scopes) (ds : List SystemDefinition) → Outer l s → (systems.definition_steps s ds).faults ≡ [] → Outer (system_definitions l ds) (systems.definition_steps s ds).scopes
+definitions_outer : (l : Layer) (s : Scopes) (ds : List SystemDefinition) → Each (λ (d : SystemDefinition). EachIn IsRoutine d.value) ds → Outer l s → (systems.definition_steps s ds).faults ≡ [] → Outer (system_definitions l ds) (systems.definition_steps s ds).scopes
 unfolding systems.definition_steps system_definitions
-definitions_outer l s [] h e = h
-definitions_outer l s (d ∷ ds) h e =
+definitions_outer l s [] is h e = h
+definitions_outer l s (d ∷ ds) is h e =
     let middle : Scopes = (systems.definition_step s d).scopes in
-    definitions_outer (system_definition l d) middle ds (definition_outer l s d h (no_left (systems.definition_step s d).faults (systems.definition_steps middle ds).faults e)) (no_right (systems.definition_step s d).faults (systems.definition_steps middle ds).faults e)
+    definitions_outer (system_definition l d) middle ds is.1 (definition_outer l s d is.0 h (no_left (systems.definition_step s d).faults (systems.definition_steps middle ds).faults e)) (no_right (systems.definition_step s d).faults (systems.definition_steps middle ds).faults e)
 
-part_outer : (l : Layer) (s : Scopes) (q : ProgramPart) → Outer l s → (systems.program_part_step s q).faults ≡ [] → Outer (program_part l q) (systems.program_part_step s q).scopes
+part_outer : (l : Layer) (s : Scopes) (q : ProgramPart) → EachInPart IsRoutine q → Outer l s → (systems.program_part_step s q).faults ≡ [] → Outer (program_part l q) (systems.program_part_step s q).scopes
 unfolding systems.program_part_step
-part_outer l s (syntax.program_constants at ds) h e =
+part_outer l s (syntax.program_constants at ds) is h e =
     let laid_here = part_laid l (syntax.program_constants at ds) h.whole h.outside in
     record {
       whole = laid_here.0;
@@ -335,8 +376,8 @@ part_outer l s (syntax.program_constants at ds) h e =
       foreign = subst AreForeign (sym (ap (λ (j : Layer). j.items) (constants_declared l ds h.whole.ground.named).same)) h.foreign;
       none = λ n. constants_inside nobody n l s ds (h.none n);
     }
-part_outer l s (syntax.program_types at ds) h e = definitions_outer l s ds h e
-part_outer l s (syntax.program_variables at gs) h e =
+part_outer l s (syntax.program_types at ds) is h e = definitions_outer l s ds is h e
+part_outer l s (syntax.program_variables at gs) is h e =
     let laid_here = part_laid l (syntax.program_variables at gs) h.whole h.outside in
     record {
       whole = laid_here.0;
@@ -346,12 +387,12 @@ part_outer l s (syntax.program_variables at gs) h e =
       none = λ n. variables_inside nobody n (spot.Permanent None) l s gs (h.none n);
     }
 
-parts_outer : (l : Layer) (s : Scopes) (qs : List ProgramPart) → Outer l s → (systems.program_part_steps s qs).faults ≡ [] → Outer (program_parts l qs) (systems.program_part_steps s qs).scopes
+parts_outer : (l : Layer) (s : Scopes) (qs : List ProgramPart) → Each (EachInPart IsRoutine) qs → Outer l s → (systems.program_part_steps s qs).faults ≡ [] → Outer (program_parts l qs) (systems.program_part_steps s qs).scopes
 unfolding systems.program_part_steps program_parts
-parts_outer l s [] h e = h
-parts_outer l s (q ∷ qs) h e =
+parts_outer l s [] is h e = h
+parts_outer l s (q ∷ qs) is h e =
     let middle : Scopes = (systems.program_part_step s q).scopes in
-    parts_outer (program_part l q) middle qs (part_outer l s q h (no_left (systems.program_part_step s q).faults (systems.program_part_steps middle qs).faults e)) (no_right (systems.program_part_step s q).faults (systems.program_part_steps middle qs).faults e)
+    parts_outer (program_part l q) middle qs is.1 (part_outer l s q is.0 h (no_left (systems.program_part_step s q).faults (systems.program_part_steps middle qs).faults e)) (no_right (systems.program_part_step s q).faults (systems.program_part_steps middle qs).faults e)
 
 -- whether a meaning is that of a routine
 abbrev is_routine : Option laid_meaning.LayoutMeaning → Bool
@@ -388,15 +429,15 @@ unfolding declarations
 routines_sound t h = no_right (systems.program_part_steps start t.program.parts).faults (routines.routine_steps None (systems.program_part_steps start t.program.parts).scopes t.program.routines).faults (declarations_sound t h)
 
 -- in what is laid out of a program no item calls the routine that it stands in
-pub program_foreign : (t : Tree) → faults_of t ≡ [] → AreForeign (program (nothing_laid t.lines) t.program).items
+pub program_foreign : (t : Tree) → EachRoutine IsRoutine t.program → faults_of t ≡ [] → AreForeign (program (nothing_laid t.lines) t.program).items
 unfolding program
-program_foreign t h =
+program_foreign t is h =
     let l : Layer = nothing_laid t.lines in
     let k : Layer = program_parts l t.program.parts in
     let s : Scopes = (systems.program_part_steps start t.program.parts).scopes in
-    let o : Outer k s = parts_outer l start t.program.parts (nothing_foreign t.lines) (parts_sound t h) in
+    let o : Outer k s = parts_outer l start t.program.parts is.0 (nothing_foreign t.lines) (parts_sound t h) in
     let none : (routines.routine_steps None s t.program.routines).faults ≡ [] = routines_sound t h in
-    let done = routines_foreign None k s t.program.routines o.whole (λ y e. (o.none (length k.routines) y e).0) o.tells none o.foreign in
+    let done = routines_foreign None k s t.program.routines is.1 o.whole (λ y e. (o.none (length k.routines) y e).0) o.tells none o.foreign in
     let m : Layer = lays.routines k t.program.routines in
     let u : Scopes = (routines.routine_steps None s t.program.routines).scopes in
     initial_foreign m [] t.program.body u program_context (routines_laid k t.program.routines o.whole).whole done.1 done.0 (heard u (told.routines_told None s t.program.routines none o.tells)) (body_sound t h)

@@ -6,6 +6,7 @@ use Rattle.cp_slots.specs.declared.item.Action as code_action
 use Rattle.cp_slots.specs.declared.item.Action.TheVariants as action
 use Rattle.cp_resolved.specs.OwnCalls.{OwnCallsLaw}
 use Rattle.cp_resolved.proofs.laid.Foreign.{IsForeign, AreForeign}
+use Rattle.cp_resolved.proofs.declarations.NamedRoutines.{read_routines}
 use Rattle.cp_resolved.proofs.sound.OwnCalls.{program_foreign}
 
 foreign_at : (xs : List code_item.Item) (at : ℕ) → at < length xs → AreForeign (map item_seen xs) → IsForeign (slice_index_or xs at no_item).routine (action_seen (slice_index_or xs at no_item).action)
@@ -23,6 +24,6 @@ unfolding laid tables_laid
 laid_items t = refl
 
 pub own_calls_law : OwnCallsLaw
-own_calls_law t tree is accepted at lt =
+own_calls_law t tree is read accepted at lt =
     let items : map item_seen t.items ≡ (program (nothing_laid tree.lines) tree.program).items = ap (λ (p : PlainTables). p.items) is ∙ laid_items tree in
-    no_own_call _ _ (foreign_at t.items at lt (subst AreForeign (sym items) (program_foreign tree accepted)))
+    no_own_call _ _ (foreign_at t.items at lt (subst AreForeign (sym items) (program_foreign tree (read_routines tree.program read) accepted)))

@@ -231,7 +231,8 @@ module _ (s : Scopes) (w : Context) (f : Bool) where
 
   pub entry_call : (n : ℕ) (os : List Operand) (u r : Use) → CalledOk false n os u r → (heading_at n s).is_entry ≡ true
   entry_call n os u r c =
-      let after = none_right (calls.fit_faults c.none.0 (heading_at n s).parameters os) _ c.none.2 in
+      let before = none_right (calls.fit_faults c.none.0 (heading_at n s).parameters os) _ c.none.2 in
+      let after = none_right (calls.quiet_faults c.none.0 w true) _ before in
       an_entry c.none.1 (heading_at n s).is_entry (none_left (calls.entry_faults c.none.1 false (heading_at n s).is_entry) _ after)
 
   -- the call of a function

@@ -27,7 +27,7 @@ use Rattle.cp_resolved.proofs.forms.FormedTargets.{OwnRoutine, begun_routine, no
 use Rattle.cp_resolved.proofs.forms.FormsOfTrees.{all_heard}
 use Rattle.cp_resolved.proofs.forms.StatementsFit.{AllFine, all_formed}
 use Rattle.cp_resolved.specs.FormedBodies.{IsFormedAt}
-use Rattle.cp_resolved.proofs.statements.RoutinesNoted.{is_monitor, delays_in, entry_with, entry_at, waits_at, Done, Numbered}
+use Rattle.cp_resolved.proofs.statements.RoutinesNoted.{is_monitor, delays_in, entry_with, entry_at, waits_at, IsOwner, Done, Numbered}
 use Rattle.cp_resolved.proofs.statements.StatementsJudged.{InvokedAs, IsInvoked, InvokeSaid, StatementsSaid}
 use Rattle.cp_resolved.proofs.forms.TypingExpressions.{designator_named}
 use Rattle.cp_resolved.proofs.forms.TypingNames.{IsComponentMeaning, written, IsCalled, NamedIs}
@@ -180,8 +180,8 @@ module _ (t : Tree) (read : IsRead t.program) (accepted : IsAccepted t) (n : ℕ
       no_entry : q.is_entry ≡ false
       no_entry = sym (routine_entry y scope q e) ∙ (sym i.2 ∙ own.entry)
 
-      go : (w.routine ≡ Some q.name.at) ⊎ Done p w.owner s.shapes (since y scope) q → CalleeKnown p n (Some (routine_meaning q)) r
-      go (inl self) = absurd (own.other (self ∙ ap (λ (z : ℕ). Some z) (sym marked.token)))
+      go : IsOwner p a.place a.opening (since y scope) q ⊎ Done p w.owner s.shapes (since y scope) q → CalleeKnown p n (Some (routine_meaning q)) r
+      go (inl self) = absurd (own.other (self.0 ∙ ap (λ (z : ℕ). Some z) (sym marked.token)))
       go (inr d) =
           let body : body_at k s ≡ d.body = ap (λ (z : Option Shape). body_of z s.shapes) marked.there ∙ ap as_body d.there in
           record {

@@ -1,7 +1,7 @@
 -- What holds of each statement of a list, at any depth; and where a list is judged without a fault, so is each statement of it.
 use Rattle.cp_resolved.proofs.Words.{◌≡◌, ℕ, false, List, [], Ok, Use, no_use, Judged, both, ◌>>=◌, Scopes, Context, Label, expression, IsSmallStatement}
 use Rattle.cp_resolved.proofs.Words.{AreSmallStatements, AreSmallArms}
-use Rattle.cp_tree.specs.Syntax.{Expression, Statement, empty, assign, invoke, block, if_then, if_else, case_of, while_do, repeat_until, for_do, cycle, init, Statements, no_statements, more_statements, Arms, no_arms, more_arms, arm}
+use Rattle.cp_tree.specs.Syntax.{Expression, Statement, empty, assign, invoke, block, if_then, if_else, case_of, while_do, repeat_until, for_do, cycle, init, asserted, Statements, no_statements, more_statements, Arms, no_arms, more_arms, arm}
 use Rattle.cp_check.specs.Names as names
 use Rattle.cp_check.specs.Cases as cases
 use Rattle.cp_check.specs.Statements as statements
@@ -24,6 +24,7 @@ abbrev mutual
   EachIn P (for_do at i e d f t) = P (for_do at i e d f t) × EachIn P t
   EachIn P (cycle at ss) = P (cycle at ss) × EachOf P ss
   EachIn P (init at ts) = P (init at ts)
+  EachIn P (asserted at k e t) = P (asserted at k e t) × EachIn P t
 
   pub EachOf : (Statement → Type 0) → Statements → Type 0
   EachOf P no_statements = Unit {0}
@@ -48,6 +49,7 @@ module _ (P Q : Statement → Type 0) (f : (t : Statement) → P t → Q t) wher
     each_in (for_do at i e d g t) h = (f (for_do at i e d g t) h.0, each_in t h.1)
     each_in (cycle at ss) h = (f (cycle at ss) h.0, each_of ss h.1)
     each_in (init at ts) h = f (init at ts) h
+    each_in (asserted at k e t) h = (f (asserted at k e t) h.0, each_in t h.1)
 
     pub each_of : (ts : Statements) → EachOf P ts → EachOf Q ts
     each_of no_statements h = tt
@@ -113,6 +115,9 @@ module _ (s : Scopes) (w : Context) where
         let j : Judged (List Label × Use) = statements.arms s w (Ok ([], no_use)) as' in
         let k : Then (both (expression s w false e) j) (cases.chosen at) r = then_of (both (expression s w false e) j) (cases.chosen at) r is in
         (record { small = m; use_of = r; is = is }, (sound_arms as' m.1 (Ok ([], no_use)) k.value.1 (both_of (expression s w false e) j k.value k.is).second).rest)
+    sound_in (asserted at k e t) m r is =
+        let j : Then (both (statements.assertion s w e) (statement s w t)) statements.together r = then_of (both (statements.assertion s w e) (statement s w t)) statements.together r is in
+        (record { small = m; use_of = r; is = is }, sound_in t m.1 j.value.1 (both_of (statements.assertion s w e) (statement s w t) j.value j.is).second)
     sound_in _ m r is = record { small = m; use_of = r; is = is }
 
     pub sound_of : (ts : Statements) → AreSmallStatements ts → (j : Judged Use) (r : Use) → statements.statements s w j ts ≡ Ok r → Inside j (EachOf IsSound ts)

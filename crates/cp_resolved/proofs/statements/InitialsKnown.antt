@@ -1,7 +1,7 @@
 -- What is known of the starts of an accepted tree: where they stand no local variable is visible, and their arguments use names as the rules want it.
 use Rattle.cp_resolved.proofs.Words.{◌≡◌, ℕ, [], ◌++◌, ap, subst, ◌∙◌, Some, IsAccepted, Name, Ty, local_variable, find, RoutineMeaning, parameter_variables, system_of}
 use Rattle.cp_resolved.proofs.Words.{StatementFormed, AllFormed, ArmsFormed, routine_variables, system_variables, Here, place_of, meaning_at, layouts_of, IsRead}
-use Rattle.cp_tree.specs.Syntax.{Statement, block, if_then, if_else, case_of, while_do, repeat_until, for_do, cycle, Statements, no_statements, more_statements, Arms, no_arms, more_arms, arm, Program, Tree}
+use Rattle.cp_tree.specs.Syntax.{Statement, block, if_then, if_else, case_of, while_do, repeat_until, for_do, cycle, asserted, Statements, no_statements, more_statements, Arms, no_arms, more_arms, arm, Program, Tree}
 use Rattle.cp_resolved.proofs.statements.EachStatement.{EachIn, EachOf, EachArm}
 use Rattle.cp_resolved.proofs.forms.FormedOfTrees.{formed_law}
 use Rattle.cp_resolved.proofs.statements.KnownOfTrees.{some_opening}
@@ -22,6 +22,7 @@ module _ (h : Here) where
     formed_in (repeat_until at ss e) f = (f, formed_of ss f.0)
     formed_in (for_do at i e d b t) f = (f, formed_in t f.1)
     formed_in (cycle at ss) f = (f, formed_of ss f)
+    formed_in (asserted at k e t) f = (f, formed_in t f.1)
     formed_in _ f = f
 
     pub formed_of : (ss : Statements) → AllFormed h ss → EachOf (StatementFormed h) ss

@@ -2,7 +2,7 @@
 use Rattle.std.proofs.Common.{◌≡◌, ◌∙◌, ℕ, true, List, [], ◌∷◌, ◌++◌, length, Option, Some, None, ap, sym, refl, subst}
 use Rattle.cp_resolved.proofs.Words.{SystemKind, Scopes, enter, start, reserve_name, routine_step, definition_step, program_part_step, program_part_steps}
 use Rattle.cp_resolved.proofs.Words.{declarations, program_context, Scope, seen_inside, nothing_declared}
-use Rattle.cp_tree.specs.Syntax.{RoutineKind, procedure, function, Routine, System, Definition, type_definition, system_definition, SystemDefinition, ProgramPart, program_types, Program}
+use Rattle.cp_tree.specs.Syntax.{RoutineKind, procedure, function, invariants, Routine, System, Definition, type_definition, system_definition, SystemDefinition, ProgramPart, program_types, Program}
 use Rattle.cp_meaning.specs.Declarations.{heading_of, result_of, routine_in}
 use Rattle.cp_meaning.specs.Systems.{SystemMeaning, system_in, Declared, definition_in, program_part_in, declared, program_system, own_meaning, system_of}
 use Rattle.cp_resolved.specs.Judging.{Place, routine_place, routine_places, initial_place, parts_scopes, system_places, definition_places, definitions_places, part_places, parts_places, places_of, tokens_of}
@@ -15,6 +15,7 @@ use Rattle.cp_resolved.proofs.agreeing.ScopeMeasures.{Measure, measure, routine_
 abbrev pub IsProcedure : RoutineKind → Type 0
 IsProcedure (procedure gs) = Unit {0}
 IsProcedure (function gs i) = ⊥
+IsProcedure invariants = Unit {0}
 
 pub record IsOwned (p : Program) (x : Place) (o : Opening) : Type 0 where
   pub owner : (k : SystemKind) → x.context.owner ≡ Some k → (system_of p o.owner).kind ≡ k
@@ -43,10 +44,12 @@ owned_append p _ ys _ qs h g = absurd h
 procedure_none : (s : Scope) (k : RoutineKind) → IsProcedure k → result_of s k ≡ None
 procedure_none s (procedure gs) i = refl
 procedure_none s (function gs i) h = absurd h
+procedure_none s invariants i = refl
 
 none_procedure : (s : Scope) (k : RoutineKind) → result_of s k ≡ None → IsProcedure k
 none_procedure s (procedure gs) e = tt
 none_procedure s (function gs i) e = absurd (cc)
+none_procedure s invariants e = tt
 
 same_some : (a b : Routine) → Some a ≡ Some b → a ≡ b
 same_some a b e = cc

@@ -143,9 +143,13 @@ module _ (p : Program) where
   abbrev pub AllDone : Option SystemKind → Shapes → scopes.Scope → Type 0
   AllDone owner ss m = (y : Name) (r : Routine) → find y m ≡ Some (routine_meaning r) → Done owner ss (since y m) r
 
+  -- the routine that a place belongs to; k is the scope in which its own name is the latest
+  abbrev pub IsOwner : Place → Opening → scopes.Scope → Routine → Type 0
+  IsOwner x o k r = (x.context.routine ≡ Some r.name.at) × (o.meaning ≡ routine_in k r)
+
   -- each routine that is visible at a place is closed, or the one that the place belongs to
   abbrev pub IsNoted : Place → Opening → Type 0
-  IsNoted x o = (y : Name) (r : Routine) → find y o.meaning.scope ≡ Some (routine_meaning r) → (x.context.routine ≡ Some r.name.at) ⊎ Done x.context.owner x.scopes.shapes (since y o.meaning.scope) r
+  IsNoted x o = (y : Name) (r : Routine) → find y o.meaning.scope ≡ Some (routine_meaning r) → IsOwner x o (since y o.meaning.scope) r ⊎ Done x.context.owner x.scopes.shapes (since y o.meaning.scope) r
 
   abbrev pub AreNoted : List Place → List Opening → Type 0
   AreNoted [] os = Unit {0}
@@ -165,8 +169,8 @@ module _ (p : Program) where
   routine_noted : (owner : Option SystemKind) (s : Scopes) (m : scopes.Scope) (n : ℕ) (r : Routine) → BodyWritten s (routine_place owner s r) (routine_step owner s r).scopes r → AllDone owner s.shapes m → IsNoted (routine_place owner s r) (opening_of n m r)
   routine_noted owner s m n r b done y q e =
       let f = body_finds (with_routine m r) r y q e in
-      routine_or m r y q f.0 ((routine_place owner s r).context.routine ≡ Some q.name.at ⊎ Done owner (routine_place owner s r).scopes.shapes (since y (routine_in (with_routine m r) r).scope) q)
-      (λ same k. inl (ap (λ (z : Routine). Some z.name.at) (sym same)))
+      routine_or m r y q f.0 (IsOwner (routine_place owner s r) (opening_of n m r) (since y (routine_in (with_routine m r) r).scope) q ⊎ Done owner (routine_place owner s r).scopes.shapes (since y (routine_in (with_routine m r) r).scope) q)
+      (λ same k. inl (ap (λ (z : Routine). Some z.name.at) (sym same), ap (routine_in (with_routine m r)) (sym same) ∙ ap (λ (z : scopes.Scope). routine_in z q) (sym (f.1 ∙ k))))
       (λ before k. inr (subst (λ (z : scopes.Scope). Done owner (routine_place owner s r).scopes.shapes z q) (sym (f.1 ∙ k)) (done_more owner s.shapes (routine_place owner s r).scopes.shapes (since y m) q b.before (done y q before))))
 
   routine_done : (owner : Option SystemKind) (s : Scopes) (m : scopes.Scope) (n : ℕ) (r : Routine) → BodyWritten s (routine_place owner s r) (routine_step owner s r).scopes r → More s.shapes (routine_step owner s r).scopes.shapes → (r.is_entry ≡ true → may_enter owner ≡ true) → IsListed (routine_place owner s r) (opening_of n m r) → AllDone owner s.shapes m → AllDone owner (routine_step owner s r).scopes.shapes (with_routine m r)

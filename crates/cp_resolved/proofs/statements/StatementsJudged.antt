@@ -3,7 +3,7 @@ use Rattle.std.proofs.Common.{◌≡◌, ℕ, Bool, true, false, if◌then◌els
 use Rattle.cp_resolved.proofs.Words.{ValueType, Predeclared, Use, both_uses}
 use Rattle.cp_resolved.proofs.Words.{Context, Operand, Named, Scope, Item}
 use Rattle.cp_resolved.proofs.Words.{expression_calls, expressions_calls, designator_calls, C12}
-use Rattle.cp_tree.specs.Syntax.{Designator, Start, Statement, empty, assign, invoke, block, if_then, if_else, case_of, while_do, repeat_until, for_do, cycle, init, Statements, no_statements, more_statements, Arms, no_arms, more_arms, Arm, arm}
+use Rattle.cp_tree.specs.Syntax.{Designator, Start, Statement, empty, assign, invoke, block, if_then, if_else, case_of, while_do, repeat_until, for_do, cycle, init, asserted, Statements, no_statements, more_statements, Arms, no_arms, more_arms, Arm, arm}
 use Rattle.cp_scope.specs.declared.fault.CheckFault.TheVariants as check_fault
 use Rattle.cp_scope.specs.declared.types.ValueType.TheVariants as types
 use Rattle.cp_scope.specs.declared.types.Predeclared.TheVariants as predeclared
@@ -64,6 +64,7 @@ module _ (s : Scopes) (w : Context) (f : Bool) (scope : Scope) where
     StatementSaid (for_do at i e d g t) = Said (expression_calls scope e ++ expression_calls scope g) × StatementSaid t
     StatementSaid (cycle at ss) = StatementsSaid ss
     StatementSaid (init at ts) = StartsSaid ts
+    StatementSaid (asserted at k e t) = Said (expression_calls scope e) × StatementSaid t
 
     pub StatementsSaid : Statements → Type 0
     StatementsSaid no_statements = Unit {0}

@@ -6,7 +6,7 @@ use Rattle.cp_resolved.proofs.Words.{system_of, AreDifferent, AreDeclared, syste
 use Rattle.cp_symbols.specs.declared.names.LayoutMeaning.TheVariants as meaning
 use Rattle.cp_layout.specs.Layers as layers
 use Rattle.cp_slots.specs.Tables.{Tables, SystemView, system_at, no_system, parameter_at, no_parameter}
-use Rattle.cp_meaning.specs.Types.{Ty, ordinal, queue_type, set_over, array_over, record_with, component_of}
+use Rattle.cp_meaning.specs.Types.{Ty, component_of}
 use Rattle.cp_resolved.specs.Headed.{HandedBy, AreHanded, EntranceFits}
 use Rattle.cp_resolved.specs.TreeLayouts.{slot_in, program_parts_parts, layer_or, parts_at, layouts_of, whole_laid}
 use Rattle.cp_resolved.proofs.components.ComponentsOfTree.{Own, own_of, laid_all, around, count_same, meaning_of, program_meaning}

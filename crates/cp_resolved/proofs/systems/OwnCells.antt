@@ -1,14 +1,15 @@
 -- The routines of a system type may name all permanent cells of its components.
 use Rattle.std.proofs.Common.{◌≡◌, ℕ, List, [], ◌∷◌, ◌++◌, length, Option, Some, slice_get, refl, sym, ap, subst, ◌∙◌, ◌⊎◌, inl, inr}
-use Rattle.cp_resolved.proofs.Words.{none-some, RoutineView, statements, routine_begun, initial_begun, parameters_of, parts_begun, system_begun, whole_laid}
+use Rattle.cp_resolved.proofs.Words.{none-some, RoutineView, routine_begun, initial_begun, parameters_of, parts_begun, system_begun, whole_laid, Bool, true}
 use Rattle.cp_tree.specs.Syntax as syntax
 use Rattle.cp_layout.specs.Layers.{Layer, Owned, System, nothing_laid, routine_of, with_routine}
 use Rattle.cp_layout.specs.LaidDeclarations.{heading, with_heading, opened, routine, routines, initial_statement, system, system_of, definition, system_definition, system_definitions, program_part, program_parts, constants, variables, program}
 use Rattle.cp_resolved.proofs.laid.Declares.{type_declares, constants_declare, variables_declare}
 use Rattle.cp_resolved.proofs.names.Entries.{still_there, last_entry, last_or_before}
-use Rattle.cp_resolved.proofs.laid.Grown.{statements_grew}
+use Rattle.cp_resolved.proofs.laid.Grown.{body_grew}
 use Rattle.cp_resolved.proofs.components.Handed.{heading_owned, local_parts_owned}
 use Rattle.cp_resolved.proofs.names.StepsOfRoutines.{groups_routines, groups_systems, begun_routines, begun_systems}
+use Rattle.cp_resolved.specs.ItemsStand.{body_items}
 
 -- of a system type that is whole
 pub record OwnsAll (ss : List System) (v : RoutineView) : Type 0 where
@@ -27,20 +28,20 @@ abbrev pub SomeOwn : Layer → Type 0
 SomeOwn l = (n : ℕ) (v : RoutineView) → slice_get l.routines n ≡ Some v → OwnsAll l.systems v ⊎ IsCurrent l v
 
 -- one more routine
-body_owns : (l b : Layer) (ss : syntax.Statements) → b.routines ≡ l.routines → b.systems ≡ l.systems → b.owned ≡ l.owned → SomeOwn l → SomeOwn (with_routine (statements b ss).1 (statements b ss).0)
-body_owns l b ss rs ks os h n v e =
-    let y : Option ℕ × Layer = statements b ss in
-    let g = (statements_grew b ss).1 in
+body_owns : (l b : Layer) (ss : syntax.Statements) (c : Bool) → b.routines ≡ l.routines → b.systems ≡ l.systems → b.owned ≡ l.owned → SomeOwn l → SomeOwn (with_routine (body_items b ss c).1 (body_items b ss c).0)
+body_owns l b ss c rs ks os h n v e =
+    let y : Option ℕ × Layer = body_items b ss c in
+    let g = (body_grew b ss c).1 in
     let routines : y.1.routines ≡ l.routines = ap (λ (j : Layer). j.routines) g ∙ rs in
     let systems : y.1.systems ≡ l.systems = ap (λ (j : Layer). j.systems) g ∙ ks in
     let owned : y.1.owned ≡ l.owned = ap (λ (j : Layer). j.owned) g ∙ os in
     go (last_or_before y.1.routines (routine_of y.1 y.0) n v e) routines systems owned
   where
-    go : (slice_get (statements b ss).1.routines n ≡ Some v) ⊎ ((n ≡ length (statements b ss).1.routines) × (v ≡ routine_of (statements b ss).1 (statements b ss).0)) → (statements b ss).1.routines ≡ l.routines → (statements b ss).1.systems ≡ l.systems → (statements b ss).1.owned ≡ l.owned →
-        OwnsAll (statements b ss).1.systems v ⊎ ((v.system ≡ length (statements b ss).1.systems) × (v.own ≡ (statements b ss).1.owned.cells))
+    go : (slice_get (body_items b ss c).1.routines n ≡ Some v) ⊎ ((n ≡ length (body_items b ss c).1.routines) × (v ≡ routine_of (body_items b ss c).1 (body_items b ss c).0)) → (body_items b ss c).1.routines ≡ l.routines → (body_items b ss c).1.systems ≡ l.systems → (body_items b ss c).1.owned ≡ l.owned →
+        OwnsAll (body_items b ss c).1.systems v ⊎ ((v.system ≡ length (body_items b ss c).1.systems) × (v.own ≡ (body_items b ss c).1.owned.cells))
     go (inr f) routines systems owned = inr (ap (λ (w : RoutineView). w.system) f.1, ap (λ (w : RoutineView). w.own) f.1)
     go (inl f) routines systems owned =
-        subst (λ zs. OwnsAll zs v ⊎ ((v.system ≡ length zs) × (v.own ≡ (statements b ss).1.owned.cells))) (sym systems)
+        subst (λ zs. OwnsAll zs v ⊎ ((v.system ≡ length zs) × (v.own ≡ (body_items b ss c).1.owned.cells))) (sym systems)
         (subst (λ (o : Owned). OwnsAll l.systems v ⊎ ((v.system ≡ length l.systems) × (v.own ≡ o.cells))) (sym owned) (h n v (ap (λ us. slice_get us n) (sym routines) ∙ f)))
 
 some_same : (l m : Layer) → m.routines ≡ l.routines → m.systems ≡ l.systems → AllOwn l → SomeOwn m
@@ -58,7 +59,7 @@ begun_owned l r =
 routines_own : (l : Layer) (rs : List syntax.Routine) → SomeOwn l → SomeOwn (routines l rs)
 unfolding routines
 routines_own l [] h = h
-routines_own l (r ∷ rs) h = routines_own (routine l r) rs (body_owns l (routine_begun l r) r.body.statements (begun_routines l r) (begun_systems l r) (begun_owned l r) h)
+routines_own l (r ∷ rs) h = routines_own (routine l r) rs (body_owns l (routine_begun l r) r.body.statements r.is_entry (begun_routines l r) (begun_systems l r) (begun_owned l r) h)
 
 -- a system type that is whole
 left_owns : (m : Layer) (s : System) (v : RoutineView) → s.owned ≡ m.owned → OwnsAll m.systems v ⊎ IsCurrent m v → OwnsAll (m.systems ++ s ∷ []) v
@@ -73,7 +74,7 @@ definition_owns l (syntax.system_definition s) h =
     let b : Layer = system_begun l s in
     let m : Layer = initial_statement b (parameters_of l s) s.body in
     let inner : SomeOwn b = routines_own z s.routines (some_same l z (groups_routines l s) (groups_systems l s) h) in
-    let all : SomeOwn m = body_owns b (initial_begun b (parameters_of l s)) s.body.statements refl refl refl inner in
+    let all : SomeOwn m = body_owns b (initial_begun b (parameters_of l s)) s.body.statements true refl refl refl inner in
     λ n v e. left_owns m (system_of s.kind m.owned (length l.routines) (length b.routines)) v refl (all n v e)
 
 definitions_own : (l : Layer) (ds : List syntax.SystemDefinition) → AllOwn l → AllOwn (system_definitions l ds)
@@ -98,4 +99,4 @@ program_owns t =
     let m : Layer = program_parts l t.program.parts in
     let b : Layer = routines m t.program.routines in
     let none : AllOwn l = λ n v e. absurd (none-some v e) in
-    body_owns b (initial_begun b []) t.program.body.statements refl refl refl (routines_own m t.program.routines (some_same m m refl refl (parts_own l t.program.parts none)))
+    body_owns b (initial_begun b []) t.program.body.statements true refl refl refl (routines_own m t.program.routines (some_same m m refl refl (parts_own l t.program.parts none)))

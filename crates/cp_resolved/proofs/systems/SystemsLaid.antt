@@ -121,7 +121,7 @@ module _ (k : Numbering) (end : Layer) where
       let made : System = system_of s.kind m.owned (length l.routines) (length b.routines) in
       let ms : m.systems ≡ z.systems = initial_systems k l s ∙ sym same in
       let ss : Longer z.systems end.systems = (made ∷ x.systems.0, x.systems.1 ∙ append_assoc m.systems (made ∷ []) x.systems.0 ∙ ap (λ (us : List System). us ++ made ∷ x.systems.0) ms) in
-      let eq : m.owned ≡ z.owned = body_owned (with_heading (with_new_frame b) (heading_with [] (parameters_of l s) None)) s.body ∙ routines_owned z s.routines in
+      let eq : m.owned ≡ z.owned = body_owned (with_heading (with_new_frame b) (heading_with [] (parameters_of l s) None)) s.body true ∙ routines_owned z s.routines in
       record {
         kind = refl;
         own = record {
@@ -262,10 +262,10 @@ all_laid k t h f e o =
     let stood : Stood k l m d es (length os) = parts_stood k l nothing_declared p.parts h.0 f g r s in
     let x : Extends m end = extends_trans m b end (routines_extend m p.routines) (initial_extends b [] p.body) in
     let a : Added k end l m nothing_declared d (program_parts_parts l p.parts) = parts_added k end l nothing_declared p.parts h.0 f g r s (nothing_whole t.lines) (λ n v e. absurd (none-some v e)) x (nothing_owns k t.lines) in
-    let same : end.systems ≡ m.systems = body_systems (with_heading (with_new_frame b) (heading_with [] [] None)) p.body ∙ routines_systems m p.routines in
+    let same : end.systems ≡ m.systems = body_systems (with_heading (with_new_frame b) (heading_with [] [] None)) p.body true ∙ routines_systems m p.routines in
     let ss : end.systems ≡ a.systems = same ∙ a.laid in
     let counts = laid_count k end 0 a.systems a.meanings (program_parts_parts l p.parts) a.each in
-    let eq : end.owned ≡ m.owned = body_owned (with_heading (with_new_frame b) (heading_with [] [] None)) p.body ∙ routines_owned m p.routines in
+    let eq : end.owned ≡ m.owned = body_owned (with_heading (with_new_frame b) (heading_with [] [] None)) p.body true ∙ routines_owned m p.routines in
     let number : length m.systems ≡ program_system p = ap (λ (us : List System). length us) a.laid ∙ counts.0 ∙ sym (ap (λ (us : List SystemMeaning). length us) a.meant) in
     record {
       count = ap (λ (us : List System). length us) same ∙ number;

@@ -1,7 +1,7 @@
 -- The system types of a tree stand for their declarations.
 use Rattle.std.proofs.Common.{◌≡◌, ◌+◌, ◌-◌, ◌<◌, ◌≤◌, inl, inr, ℕ, zero, suc, true, false, List, [], ◌∷◌, ◌++◌, length, Option, Some, None, slice_get, slice_index_or, refl, sym, ap, subst, ◌∙◌, arith, length-append}
 use Rattle.cp_resolved.proofs.Words.{none-some, same_Some, slice_get_within, CellType, most, PlainTables, plain, laid, tables_laid, system_types, Layer, System}
-use Rattle.cp_resolved.proofs.Words.{nothing_laid, routine_of, statements, Tables, RoutineView, no_system, system_at, Name, Ty, has_components, permanent_variable, find}
+use Rattle.cp_resolved.proofs.Words.{nothing_laid, routine_of, Tables, RoutineView, no_system, system_at, Name, Ty, has_components, permanent_variable, find}
 use Rattle.cp_resolved.proofs.Words.{Variable, Parameter, RoutineMeaning, parameter_variables, SystemMeaning, program_system, system_of, all_begun, nothing_declared}
 use Rattle.cp_resolved.proofs.Words.{Numbering, InStep, cells_of, look, SystemLayout, IsPlaced, Opening, openings_of, meaning_at, numbering_of, Each, IsParameter}
 use Rattle.cp_tree.specs.Syntax as syntax
@@ -16,7 +16,7 @@ use Rattle.cp_resolved.proofs.names.BegunKnown.{parts_many}
 use Rattle.cp_resolved.proofs.items.BodiesStand.{laid_routines, EndsAt, ends_at}
 use Rattle.cp_resolved.proofs.items.Ended.{all_end}
 use Rattle.cp_resolved.proofs.names.Entries.{there, not_there}
-use Rattle.cp_resolved.proofs.laid.Grown.{statements_grew}
+use Rattle.cp_resolved.proofs.laid.Grown.{body_grew}
 use Rattle.cp_resolved.proofs.names.Opened.{opened_all}
 use Rattle.cp_resolved.proofs.systems.PermanentCells.{Owns}
 use Rattle.cp_resolved.proofs.names.PermanentNames.{Under, FirstsApart}
@@ -29,6 +29,7 @@ use Rattle.cp_resolved.proofs.systems.SystemKnown.{found_among, system_fits, cel
 use Rattle.cp_resolved.proofs.names.TreeKnown.{permanent_sized, Opens, opens_of, layouts_law}
 use Rattle.cp_resolved.proofs.laid.Whole.{ProgramLaid, program_laid}
 use Rattle.cp_resolved.proofs.agreeing.AgreeingWritten.{each_left, each_right}
+use Rattle.cp_resolved.specs.ItemsStand.{body_items}
 
 pub each_map : {A : Type 0} (P Q : A → Type 0) (xs : List A) → ((x : A) → P x → Q x) → Each P xs → Each Q xs
 each_map P Q [] f h = tt
@@ -144,9 +145,9 @@ system_stands t r same place n declares le =
     let l : Layer = begun.0 in
     let seat : SeatAt k p end counted (openings_of p) number l = seat_at k p end counted (all_begun t) (openings_of p) number l all.0 begun.1 in
     let ended : EndsAt t (openings_of p) 0 number l = ends_at t 0 (all_begun t) (openings_of p) number l (all_end k t) begun.1 in
-    let v : RoutineView = routine_of (statements l ended.opening.meaning.body).1 (statements l ended.opening.meaning.body).0 in
+    let v : RoutineView = routine_of (body_items l ended.opening.meaning.body ended.opening.meaning.checks).1 (body_items l ended.opening.meaning.body ended.opening.meaning.checks).0 in
     let v_there : slice_get end.routines number ≡ Some v = subst (λ j. slice_get end.routines j ≡ Some v) (let f : 0 + number ≡ number = omega arith in f) ended.ends.there in
-    let systems : length l.systems ≡ n = sym (ap (λ (j : Layer). length j.systems) (statements_grew l ended.opening.meaning.body).1) ∙ ap (λ (q : RoutineView). q.system) (same_Some v view.view (sym v_there ∙ view.there)) ∙ view.system in
+    let systems : length l.systems ≡ n = sym (ap (λ (j : Layer). length j.systems) (body_grew l ended.opening.meaning.body ended.opening.meaning.checks).1) ∙ ap (λ (q : RoutineView). q.system) (same_Some v view.view (sym v_there ∙ view.there)) ∙ view.system in
     let owner : owner_in (program_system p) (slice_get (openings_of p) number) ≡ n = ap (owner_in (program_system p)) seat.there ∙ sym seat.seated.system ∙ systems in
     let meant : meaning_at p number ≡ initial_meaning m = s.statement in
     let scope : (meaning_at p number).scope ≡ m.scope = ap (λ (q : RoutineMeaning). q.scope) meant in

@@ -2,7 +2,7 @@
 use Rattle.std.proofs.Common.{◌≡◌, ◌≤◌, ◌∙◌, ◌⊎◌, inl, inr, ℕ, Bool, true, false, [], ◌∷◌, length, Option, Some, None, slice_get, refl, sym, ap, subst, arith}
 use Rattle.cp_resolved.proofs.Words.{codes, bytes_eq, none-some, LayoutMeaning, Names, Layer, outermost, nothing_laid, Tables, routine_at, plain, laid}
 use Rattle.cp_resolved.proofs.Words.{simple_type, written_type, statements, statement, assigned, Name, ordinal, RoutineMeaning, routine_of_type}
-use Rattle.cp_resolved.proofs.Words.{routine_begun, all_begun, ground_of, BodyFormed, Numbering, Here, is_own, place_of, meaning_at, numbering_of, OwnAll, KnowsStarts}
+use Rattle.cp_resolved.proofs.Words.{routine_begun, all_begun, ground_of, BodyFormed, Numbering, Here, is_own, place_of, meaning_at, numbering_of, BodyIs, KnowsStarts}
 use Rattle.cp_tree.specs.Syntax as syntax
 use Rattle.cp_slots.specs.declared.place.PlaceOrigin.TheVariants as origin
 use Rattle.cp_symbols.specs.declared.kinds.CellBase.TheVariants as base
@@ -177,5 +177,5 @@ body_formed =
     }
 
 -- so in tables that are laid out of the program, its items stand for its statement
-pub calling_body : (r : Tables) → plain r ≡ laid calling → length r.items ≤ most → OwnAll (ground_of r calling) h (meaning_at calling.program 1).body (routine_at r 1).body None
+pub calling_body : (r : Tables) → plain r ≡ laid calling → length r.items ≤ most → BodyIs (ground_of r calling) h (meaning_at calling.program 1).body [] (routine_at r 1).body
 calling_body r e few = bodies_law calling r e few calling_placed 1 begun_p begun_is body_formed

@@ -1,5 +1,7 @@
 -- The law of layouts is not empty: a program with a function, a procedure with a `var` parameter, a permanent variable and a call has what it asks.
-use Rattle.cp_resolved.proofs.Words.{◌≤◌, ℕ, zero, suc, Bool, true, false, if◌then◌else◌, [], ◌∷◌, Some, refl, arith, most, same_name, Scope, find, system_of}
+use Rattle.cp_tree.specs.Syntax.{Routine, nameless, invariants}
+use Rattle.cp_meaning.specs.Scopes.{routine_meaning}
+use Rattle.cp_resolved.proofs.Words.{none-some, ◌≡◌, ◌≤◌, ℕ, zero, suc, Bool, true, false, if◌then◌else◌, [], ◌∷◌, Some, refl, arith, most, same_name, Scope, find, system_of}
 use Rattle.cp_resolved.proofs.Words.{all_calls_laid, AreApart, IsPlaced, IsPlain, AreOthers, IsSizedMeaning, AreSized, AreWords, meaning_at, Each}
 use Rattle.cp_resolved.proofs.worked.CallingProgram.{calling}
 
@@ -40,5 +42,11 @@ apart (suc zero) = ((λ at i. absurd i), tt)
 apart (suc (suc zero)) = tt
 apart _ = tt
 
+checks : (n : ℕ) (r : Routine) → find nameless (meaning_at calling.program n).scope ≡ Some (routine_meaning r) → r.kind ≡ invariants
+checks zero r e = absurd (none-some (routine_meaning r) e)
+checks (suc zero) r e = absurd (none-some (routine_meaning r) e)
+checks (suc (suc zero)) r e = absurd (none-some (routine_meaning r) e)
+checks (suc (suc (suc n))) r e = absurd (none-some (routine_meaning r) e)
+
 pub calling_placed : IsPlaced calling
-calling_placed = record { plain = plain; once = record { routines = (tt, tt); variables = others }; sized = sized; words = words; apart = apart }
+calling_placed = record { plain = plain; once = record { routines = (tt, tt); variables = others }; sized = sized; words = words; checks = checks; apart = apart }

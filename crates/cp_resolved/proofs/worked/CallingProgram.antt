@@ -303,7 +303,7 @@ module _ (items : List code_item.Item) (seen : map code.item_seen items ≡ item
   f_stands =
       record {
         frame = f_frame;
-        body = (None, (0, refl, record { place = result_f; ty = integer; value = record { ty = integer; form = as_ordinal (code.arithmetic Add (code.load parameter_a) (code.load variable_n)) }; act = code.assign result_f (code.arithmetic Add (code.load parameter_a) (code.load variable_n)) lowest highest; target = refl; formed = refl; assigned = refl; item = stands_at 0 16 0 (code.assign result_f (code.arithmetic Add (code.load parameter_a) (code.load variable_n)) lowest highest) None (omega arith) refl refl }), refl);
+        body = (None, (None, (0, refl, record { place = result_f; ty = integer; value = record { ty = integer; form = as_ordinal (code.arithmetic Add (code.load parameter_a) (code.load variable_n)) }; act = code.assign result_f (code.arithmetic Add (code.load parameter_a) (code.load variable_n)) lowest highest; target = refl; formed = refl; assigned = refl; item = stands_at 0 16 0 (code.assign result_f (code.arithmetic Add (code.load parameter_a) (code.load variable_n)) lowest highest) None (omega arith) refl refl }), refl), refl);
         system = refl;
         owner = omega arith;
         own = λ x y e k. own_result_is x y (same_is x (codes "f") e) k;
@@ -321,7 +321,7 @@ module _ (items : List code_item.Item) (seen : map code.item_seen items ≡ item
   p_stands =
       record {
         frame = p_frame;
-        body = (None, (2, (1, Some 2, refl, f_called, refl), record { place = parameter_b; ty = integer; value = record { ty = integer; form = as_ordinal (code.load called_f) }; act = code.assign parameter_b (code.load called_f) lowest highest; target = refl; formed = refl; assigned = refl; item = stands_at 2 33 1 (code.assign parameter_b (code.load called_f) lowest highest) None (omega arith) refl refl }), refl);
+        body = (None, (None, (2, (1, Some 2, refl, f_called, refl), record { place = parameter_b; ty = integer; value = record { ty = integer; form = as_ordinal (code.load called_f) }; act = code.assign parameter_b (code.load called_f) lowest highest; target = refl; formed = refl; assigned = refl; item = stands_at 2 33 1 (code.assign parameter_b (code.load called_f) lowest highest) None (omega arith) refl refl }), refl), refl);
         system = refl;
         owner = omega arith;
         own = λ x y e. absurd (cc);
@@ -335,31 +335,37 @@ module _ (items : List code_item.Item) (seen : map code.item_seen items ≡ item
       record {
         frame = own_frame;
         body = (
-          Some 4,
-          (3, refl, record { place = variable_n; ty = integer; value = record { ty = integer; form = as_ordinal (code.number (pos 1)) }; act = code.assign variable_n (code.number (pos 1)) lowest highest; target = refl; formed = refl; assigned = refl; item = stands_at 3 42 2 (code.assign variable_n (code.number (pos 1)) lowest highest) (Some 4) (omega arith) refl refl }),
+          None,
           (
-            None,
+            Some 4,
+            (3, refl, record { place = variable_n; ty = integer; value = record { ty = integer; form = as_ordinal (code.number (pos 1)) }; act = code.assign variable_n (code.number (pos 1)) lowest highest; target = refl; formed = refl; assigned = refl; item = stands_at 3 42 2 (code.assign variable_n (code.number (pos 1)) lowest highest) (Some 4) (omega arith) refl refl }),
             (
-              4,
+              None,
+              (
+                4,
+                Some 4,
+                refl,
+                refl,
+                record {
+                  number = 1;
+                  part = code.own;
+                  is_entry = false;
+                  arguments = record { slot = 0; value = code.reference variable_n } ∷ [];
+                  called = record {
+                    routine = meaning_of 1;
+                    called = refl;
+                    same = refl;
+                    callee = (refl, refl, refl);
+                    given = (refl, record { form = record { ty = integer; form = as_ordinal (code.load variable_n) }; formed = refl; given = (refl, refl) }, tt);
+                  };
+                  item = stands_at 4 46 2 (code.call 1 code.own false (record { slot = 0; value = code.reference variable_n } ∷ []) None) None (omega arith) refl refl;
+                  taken = tt;
+                },
+              ),
               refl,
-              record {
-                number = 1;
-                part = code.own;
-                is_entry = false;
-                arguments = record { slot = 0; value = code.reference variable_n } ∷ [];
-                called = record {
-                  routine = meaning_of 1;
-                  called = refl;
-                  same = refl;
-                  callee = (refl, refl, refl);
-                  given = (refl, record { form = record { ty = integer; form = as_ordinal (code.load variable_n) }; formed = refl; given = (refl, refl) }, tt);
-                };
-                item = stands_at 4 46 2 (code.call 1 code.own false (record { slot = 0; value = code.reference variable_n } ∷ []) None) None (omega arith) refl refl;
-                taken = tt;
-              },
             ),
-            refl,
           ),
+          refl,
         );
         system = refl;
         owner = omega arith;

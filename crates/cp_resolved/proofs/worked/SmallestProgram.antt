@@ -77,7 +77,7 @@ routine_stands =
         parameters = tt;
         result = tt;
       };
-      body = (None, (0, refl, record { place = omega arith; action = refl; follows = refl; line = refl }), refl);
+      body = (None, (None, (0, refl, record { place = omega arith; action = refl; follows = refl; line = refl }), refl), refl);
       system = refl;
       owner = omega arith;
       own = λ x y e. absurd (cc);

@@ -1,6 +1,6 @@
 -- An item that is no `delay` and no `continue` comes to no queue, and ends no call.
 use Rattle.std.proofs.Common.{◌≡◌, ℕ, false, Option, None, refl, sym, subst}
-use Rattle.cp_tree.specs.Syntax.{Statement, empty, assign, invoke, block, if_then, if_else, case_of, while_do, repeat_until, for_do, cycle, init, Designator, Expressions}
+use Rattle.cp_tree.specs.Syntax.{Statement, empty, assign, invoke, block, if_then, if_else, case_of, while_do, repeat_until, for_do, cycle, init, asserted, Designator, Expressions}
 use Rattle.cp_slots.specs.declared.item.Action.{Action}
 use Rattle.cp_slots.specs.declared.item.Action.TheVariants.{Delay, Continue}
 use Rattle.cp_slots.specs.Code as code
@@ -65,6 +65,7 @@ module _ (g : Ground) (h : Here) (n : ℕ) (next : Option ℕ) where
   own_plain (for_do at i e d f s) o k = plain_at at next _ k.item tt
   own_plain (cycle at ss) o k = plain_at at next _ k.2 tt
   own_plain (init at ts) o k = absurd k
+  own_plain (asserted at a e s) o k = plain_at at k.1 _ k.4 tt
 
   pub item_plain : (i : Item) → InvokesNone i → ItemIs g h n i next → HasPlain
   item_plain (statement_item s) o k = own_plain s o k

@@ -9,10 +9,10 @@ use Rattle.cp_tree.specs.declared.constant.ConstantKind.{ConstantKind}
 use Rattle.cp_tree.specs.declared.constant.ConstantKind.TheVariants as constant_kind
 use Rattle.cp_tree.specs.declared.constant.Identifier.{Identifier}
 use Rattle.cp_tree.specs.declared.constant.Sign.{Sign}
-use Rattle.cp_tree.specs.Syntax.{Expression, alone, related, Sum, sum, Terms, no_terms, more_terms, Term, term, Factors, no_factors, more_factors, Factor, named, group, negated, set_of, Expressions, no_expressions, more_expressions, Designator, designator, Selectors, no_selectors, more_selectors, Selector, field, index, Start, Statement, empty, assign, invoke, block, if_then, if_else, case_of, while_do, repeat_until, for_do, cycle, init, Statements, no_statements, more_statements, Arms, no_arms, more_arms, Arm, arm}
-use Rattle.cp_tree.specs.Syntax.{Simple, type_name, enumeration, subrange, TypeTerm, simple, array_of, set_type, record_of, FieldGroups, no_fields, more_fields, FieldGroup, fields, ConstantDefinition, TypeDefinition, VariableGroup, Part, constants, types, variables, Group, ParameterGroup, RoutineKind, procedure, function, Body, Routine}
+use Rattle.cp_tree.specs.Syntax.{Expression, alone, related, Sum, sum, Terms, no_terms, more_terms, Term, term, Factors, no_factors, more_factors, Factor, named, group, negated, set_of, Expressions, no_expressions, more_expressions, Designator, designator, Selectors, no_selectors, more_selectors, Selector, field, index, Start, Statement, empty, assign, invoke, block, if_then, if_else, case_of, while_do, repeat_until, for_do, cycle, init, asserted, Statements, no_statements, more_statements, Arms, no_arms, more_arms, Arm, arm}
+use Rattle.cp_tree.specs.Syntax.{Simple, type_name, enumeration, subrange, TypeTerm, simple, array_of, set_type, record_of, FieldGroups, no_fields, more_fields, FieldGroup, fields, ConstantDefinition, TypeDefinition, VariableGroup, Part, constants, types, variables, Group, ParameterGroup, RoutineKind, procedure, function, invariants, Body, Routine}
 use Rattle.cp_tree.specs.Spelling.{put_behind, put_all, put_separated, put_sign, put_constant, put_constant_kind, put_optional, put_expression, put_sum, put_terms, put_term, put_factors, put_factor, put_arguments, put_expressions, put_more_expressions, put_designator, put_selectors, put_selector, put_start, put_statement, put_statements, put_more_statements, put_arms, put_more_arms, put_arm, relation_mark, direction_mark}
-use Rattle.cp_tree.specs.Spelling.{put_identifier, put_names, put_simple, put_type, put_field_groups, put_more_field_groups, put_field_group, put_constant_definition, put_type_definition, put_variable_group, put_part, put_group, put_parameter_group, put_parameters, put_body, put_routine_kind, put_routine}
+use Rattle.cp_tree.specs.Spelling.{put_identifier, put_names, put_simple, put_type, put_field_groups, put_more_field_groups, put_field_group, put_constant_definition, put_type_definition, put_variable_group, put_part, put_group, put_parameter_group, put_parameters, put_body, put_routine_kind, put_routine_by, put_routine, is_nameless}
 use Rattle.cp_resolved.specs.Small.{Each}
 
 module _ (P : Kind → Type 0) where
@@ -163,6 +163,7 @@ module _ (P : Kind → Type 0) where
         statement_after s r (expression_after y body (expression_after x (kind.Mark (direction_mark d) ∷ put_expression y body) e.1.1.1).1).1
     statement_after (cycle at ss) r e = (statements_after ss (kind.Mark mark.End ∷ r) e.1).1
     statement_after (init at ts) r e = starts_after ts r e.1
+    statement_after (asserted at k x s) r e = statement_after s r (expression_after x (kind.Mark mark.Closes ∷ put_statement s r) e.1).1
 
     statements_after : (x : Statements) (r : List Kind) → Have (put_statements x r) → Have r
     statements_after no_statements r e = e
@@ -216,13 +217,18 @@ module _ (P : Kind → Type 0) where
   routine_kind_after : (k : RoutineKind) (r : List Kind) → Have (put_routine_kind k r) → Have r
   routine_kind_after (procedure gs) r e = parameters_after put_parameter_group parameter_group_after gs r e
   routine_kind_after (function gs i) r e = (parameters_after put_group group_after gs (kind.Mark mark.Colon ∷ put_identifier i r) e).1.1
+  routine_kind_after invariants r e = e
 
   pub body_after : (b : Body) (r : List Kind) → Have (put_body b r) → Have r
   body_after b r e = (statements_after b.statements (kind.Mark mark.End ∷ r) e.1).1
 
-  pub routine_after : (x : Routine) (r : List Kind) → Have (put_routine x r) → Have r
-  routine_after x r e =
+  routine_after_by : (b : Bool) (x : Routine) (r : List Kind) → Have (put_routine_by b x r) → Have r
+  routine_after_by true x r e = statements_after x.body.statements r e
+  routine_after_by false x r e =
       let last : List Kind = kind.Mark mark.Semicolon ∷ r in
       let inside : List Kind = put_all put_part x.parts (put_body x.body last) in
       let named : List Kind = put_routine_kind x.kind (kind.Mark mark.Semicolon ∷ inside) in
       (body_after x.body last (all_after put_part part_after x.parts (put_body x.body last) (routine_kind_after x.kind (kind.Mark mark.Semicolon ∷ inside) (optional_after mark.Entry x.is_entry (put_identifier x.name named) e.1).1).1)).1
+
+  pub routine_after : (x : Routine) (r : List Kind) → Have (put_routine x r) → Have r
+  routine_after x r e = routine_after_by (is_nameless x.kind) x r e

@@ -5,7 +5,7 @@ use Rattle.std.proofs.lemmas.List.{get_or-map, get_or_past, length-map}
 use Rattle.std.specs.Ordering.{int_eq}
 use Rattle.std.specs.Prelude.{ℤ, pos, slice_index_or, slice_set}
 use Rattle.cp_slots.specs.declared.item.Action.{Action}
-use Rattle.cp_slots.specs.declared.item.Action.TheVariants.{Empty, Assign, AssignSet, Copy, Block, If, Case, While, Until, For, Cycle, Call, Start, Delay, Continue, Display}
+use Rattle.cp_slots.specs.declared.item.Action.TheVariants.{Empty, Assign, AssignSet, Copy, Block, If, Case, Assert, While, Until, For, Cycle, Call, Start, Delay, Continue, Display}
 use Rattle.cp_slots.specs.declared.item.Item.{Item}
 use Rattle.cp_slots.specs.declared.place.Argument.{Argument}
 use Rattle.cp_slots.specs.declared.place.PlaceOrigin.{PlaceOrigin}
@@ -295,6 +295,7 @@ module _ (os : List Opening) where
     act_named at item (Case selector arms) es k s =
         (evaluated (value_of m pid selector) _ _ (λ e. h) (λ v.
         evaluated (arm_for v arms.items) _ _ (λ e. h) (λ list. with_list item.next es s list)))
+    act_named at item (Assert test said) es k s = (evaluated (value_of m pid test) _ _ (λ e. h) (λ v. either (is_true v) _ _ (going item.next es s) h))
     act_named at item (While test list again) es k s =
         (evaluated (value_of m pid test) _ _ (λ e. h) (λ v.
         stack_named m pid _ (either_named own.frame (is_true v) _ _ (rest_named own.frame list (Rest again ∷ es) s) (below item.next es s)) h))

@@ -32,6 +32,8 @@ end_read processes done c before (Kind (Error error.NoCase)) = refl
 end_read processes done c before (Kind (Error error.QueueInUse)) = refl
 end_read processes done c before (Kind (Error error.NotInit)) = refl
 end_read processes done c before (Kind (Error error.InitTwice)) = refl
+end_read processes done c before (Kind (Error error.Assertion)) = refl
+end_read processes done c before (Kind (Error error.Invariant)) = refl
 end_read processes done c before Alone = refl
 end_read processes done c before Spins = refl
 

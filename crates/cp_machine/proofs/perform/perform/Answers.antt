@@ -1,4 +1,4 @@
-use Rattle.cp_machine.proofs.Words.{◌∙◌, ap, sym, While, Until, Display, Rest, machine_of, under, with_stack, rest_of, local, act, Block, Cycle}
+use Rattle.cp_machine.proofs.Words.{◌∙◌, ap, sym, Assert, While, Until, Display, Rest, machine_of, under, with_stack, rest_of, local, act, Block, Cycle}
 use Rattle.cp_machine.proofs.frames.ReadLemmas.{taken_fits, taken_reads, taken_room}
 use Rattle.cp_machine.proofs.rooms.RoomLemmas.{is_busy}
 use Rattle.cp_machine.proofs.TakeLemmas.{item_room, item_taken}
@@ -188,3 +188,21 @@ display-requires-clause-pid c = c.requires.taken.within
 
 pub perform_call-requires-clause-line : goal.perform_call-requires-clause-line
 perform_call-requires-clause-line c = c.requires.line
+
+pub assert_that-requires-clause-pid : goal.assert_that-requires-clause-pid
+assert_that-requires-clause-pid c = c.requires.taken.within
+
+pub assert_that-requires-clause-busy : goal.assert_that-requires-clause-busy
+assert_that-requires-clause-busy c = is_busy c.args.state.now c.args.pid (Rest c.args.at) (under (machine_of c.args.state.now) c.args.pid) c.requires.taken.within c.requires.taken.top
+
+pub assert_that-requires-clause-reads : goal.assert_that-requires-clause-reads
+assert_that-requires-clause-reads c = (taken_reads c.args.program.now c.args.state.now c.args.pid c.args.at c.args.item.now c.requires.taken (Assert c.in-Assert.test c.in-Assert.said) c.in-Assert.is)
+
+pub returns-in-Assert-clause-after : goal.returns-in-Assert-clause-after
+returns-in-Assert-clause-after c =
+    let m = machine_of c.args.state.now in
+    let below = under m c.args.pid in
+    ap (λ a. act c.args.program.now m c.args.pid c.args.at c.args.item.now a below) c.in-Assert.is ∙ c.assert_that.ensures.after
+
+pub returns-in-Assert-clause-reserved : goal.returns-in-Assert-clause-reserved
+returns-in-Assert-clause-reserved c = c.assert_that.ensures.reserved _ c.requires.taken.own.reserved

@@ -1,5 +1,5 @@
-use Rattle.cp_machine.proofs.Words.{◌≡◌, ◌∙◌, ◌<◌, ap, arith, get_or-set_same, length, subst, sym, ThreadFits, Thread, machine_of, no_thread, thread_at}
-use Rattle.cp_machine.proofs.Words.{under, from_end, Machine, Permanent, HasCells, ThreadReaches, AreFirstKnown, continued_from, fault, local, outcome, rules}
+use Rattle.cp_machine.proofs.Words.{◌≡◌, ◌∙◌, ◌<◌, ap, get_or-set_same, length, subst, sym, ThreadFits, Thread, machine_of, no_thread, thread_at}
+use Rattle.cp_machine.proofs.Words.{under, from_end, Machine, ThreadReaches, AreFirstKnown, continued_from}
 use Rattle.cp_machine.specs.Calls.{continue_by, continued_in}
 use Rattle.cp_machine.specs.declared.discipline.Signals.{Signals}
 use Rattle.cp_machine.specs.declared.discipline.Signals.TheVariants as signals
@@ -9,7 +9,7 @@ use Rattle.cp_machine.proofs.rooms.Keeping.{end_fits}
 use Rattle.cp_machine.proofs.rooms.RoomLemmas.{within}
 use Rattle.cp_machine.proofs.frames.Framing.{end_reaches}
 use Rattle.cp_machine.proofs.lines.LineLemmas.{thread_known}
-use Rattle.cp_machine.proofs.CallOutcomes.{continue_fails, continue_goes, guards_as}
+use Rattle.cp_machine.proofs.CallOutcomes.{guards_as}
 use Rattle.cp_machine.proofs.Outcomes.{replaced_within}
 use Rattle.cp_machine.proofs.queue.continue_at.Goals as goal
 

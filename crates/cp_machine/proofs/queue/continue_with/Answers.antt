@@ -1,11 +1,6 @@
-use Rattle.cp_machine.proofs.Words.{◌≡◌, ◌∙◌, ◌<◌, ap, arith, get_or-set_same, length, subst, sym, ThreadFits, Thread, machine_of, no_thread, thread_at}
-use Rattle.cp_machine.proofs.Words.{under, from_end, Machine, Permanent, HasCells, ThreadReaches, AreFirstKnown, continued_from, fault, local, outcome, rules}
-use Rattle.cp_machine.proofs.rooms.Keeping.{end_fits}
-use Rattle.cp_machine.proofs.rooms.RoomLemmas.{within}
-use Rattle.cp_machine.proofs.frames.Framing.{end_reaches}
-use Rattle.cp_machine.proofs.lines.LineLemmas.{thread_known}
-use Rattle.cp_machine.proofs.CallOutcomes.{continue_fails, continue_goes, guards_as}
-use Rattle.cp_machine.proofs.Outcomes.{replaced_within}
+use Rattle.cp_machine.proofs.Words.{◌≡◌, ◌∙◌, ap, arith, subst, sym, machine_of}
+use Rattle.cp_machine.proofs.Words.{under, Permanent, HasCells, fault, local, outcome, rules}
+use Rattle.cp_machine.proofs.CallOutcomes.{continue_fails, continue_goes}
 use Rattle.cp_machine.proofs.queue.continue_with.Goals as goal
 
 pub address_of-requires-clause-pid : goal.address_of-requires-clause-pid

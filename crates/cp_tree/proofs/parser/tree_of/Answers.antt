@@ -1,5 +1,3 @@
-use Rattle.std.proofs.Common.{◌≡◌, Ok}
-use Rattle.cp_text.specs.Kinds.{kinds}
 use Rattle.cp_tree.specs.View.{program_view}
 use Rattle.cp_tree.proofs.Laws.{read_of}
 use Rattle.cp_tree.proofs.parser.tree_of.Goals as goal

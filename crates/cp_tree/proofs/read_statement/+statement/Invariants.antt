@@ -41,8 +41,14 @@ decreases-repeat_loop l = 8 * l.budget + 2
 abbrev pub decreases-case : goal.decreases-case
 decreases-case l = 8 * l.budget + 3
 
+abbrev pub decreases-plain_statement : goal.decreases-plain_statement
+decreases-plain_statement l = 8 * l.budget + 4
+
+abbrev pub decreases-plain_in_box : goal.decreases-plain_in_box
+decreases-plain_in_box l = 8 * l.budget + 5
+
 abbrev pub decreases-statement_within : goal.decreases-statement_within
-decreases-statement_within l = 8 * l.budget + 4
+decreases-statement_within l = 8 * l.budget + 6
 
 abbrev pub invariant-statements-loop-turn : goal.invariant-statements-loop-turn
 invariant-statements-loop-turn l = many_after (statements_view l.initial.found.items) (behind mark.Semicolon (statement l.budget)) l.initial.cursor

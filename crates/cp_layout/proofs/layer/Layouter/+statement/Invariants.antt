@@ -10,7 +10,7 @@ pub record Both (P Q : Type 0) : Type 0 where
 
 -- what the later ones lead to
 abbrev pub invariant-list-loop-left : goal.invariant-list-loop-left
-invariant-list-loop-left l = Both (l.left ≤ length l.nodes) (spec.statements (layer_seen l.fn.self) (statements_of (statements_view (drop l.left l.nodes))) ≡ (l.next, layer_seen l.self))
+invariant-list-loop-left l = Both (l.left ≤ length l.nodes) (spec.statements (layer_seen l.fn.self) (statements_of (statements_view (drop l.left l.nodes))) l.fn.after ≡ (l.next, layer_seen l.self))
 
 abbrev pub decreases-list-loop-left : goal.decreases-list-loop-left
 decreases-list-loop-left l = l.left

@@ -1,0 +1,47 @@
+use Rattle.cp_machine.proofs.CallOutcomes.{assert_fails, assert_goes}
+use Rattle.cp_machine.proofs.Words.{machine_of, under, rest_of, fault, local, outcome, is_true, Bool, ap, false, of_z, rules, sym, to_z, true, w16, ◌∙◌, ◌≡◌}
+use Rattle.cp_machine.proofs.statement.assert_that.Goals as goal
+
+pub value_of-requires-clause-pid : goal.value_of-requires-clause-pid
+value_of-requires-clause-pid c = c.requires.pid
+
+pub value_of-requires-clause-reads : goal.value_of-requires-clause-reads
+value_of-requires-clause-reads c = c.requires.reads
+
+pub returns-in_err-value-clause-after : goal.returns-in_err-value-clause-after
+returns-in_err-value-clause-after c =
+    let m = machine_of c.args.state.now in
+    let told : outcome c.from_residual.result m c.args.pid c.args.item.now.line ≡ fault m c.args.pid c.args.item.now.line c.in_err-value.field-0.0 = search rules in
+    assert_fails m c.args.pid c.args.item.now.line c.args.test.now c.args.said (rest_of c.args.item.now.next (under m c.args.pid)) c.in_err-value.field-0.0 (sym c.value_of.ensures ∙ c.in_err-value.was {u = tt}) ∙ sym told
+
+pub returns-in_err-value-clause-reserved : goal.returns-in_err-value-clause-reserved
+returns-in_err-value-clause-reserved c = λ r h. h
+
+pub returns-then-not-is_true-clause-after : goal.returns-then-not-is_true-clause-after
+returns-then-not-is_true-clause-after c =
+    let m = machine_of c.args.state.now in
+    let value_is : to_z w16 (of_z w16 c.in_ok-value.value) ≡ c.in_ok-value.value = search rules in
+    let test : ◌≡◌ {A = Bool} (is_true c.in_ok-value.value) false = cc (value_is, c.is_true.ensures, c.if-not-is_true.true) in
+    assert_goes m c.args.pid c.args.item.now.line c.args.test.now c.args.said (rest_of c.args.item.now.next (under m c.args.pid)) c.in_ok-value.value false (sym c.value_of.ensures ∙ c.in_ok-value.was {u = tt}) test ∙ ap (fault m c.args.pid c.args.item.now.line) (sym c.broken.ensures)
+
+pub returns-then-not-is_true-clause-reserved : goal.returns-then-not-is_true-clause-reserved
+returns-then-not-is_true-clause-reserved c = λ r h. h
+
+pub replace-requires-clause-pid : goal.replace-requires-clause-pid
+replace-requires-clause-pid c = c.requires.pid
+
+pub replace-requires-clause-busy : goal.replace-requires-clause-busy
+replace-requires-clause-busy c = c.requires.busy
+
+pub replace-requires-clause-room : goal.replace-requires-clause-room
+replace-requires-clause-room c = tt
+
+pub returns-clause-after : goal.returns-clause-after
+returns-clause-after c =
+    let m = machine_of c.args.state.now in
+    let value_is : to_z w16 (of_z w16 c.in_ok-value.value) ≡ c.in_ok-value.value = search rules in
+    let test : ◌≡◌ {A = Bool} (is_true c.in_ok-value.value) true = cc (value_is, c.is_true.ensures, c.if-not-is_true.false) in
+    assert_goes m c.args.pid c.args.item.now.line c.args.test.now c.args.said (rest_of c.args.item.now.next (under m c.args.pid)) c.in_ok-value.value true (sym c.value_of.ensures ∙ c.in_ok-value.was {u = tt}) test ∙ ap local (sym c.replace.ensures.after)
+
+pub returns-clause-reserved : goal.returns-clause-reserved
+returns-clause-reserved c = c.replace.ensures.reserved

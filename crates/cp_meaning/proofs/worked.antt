@@ -1,0 +1,9 @@
+pub mod AnnotatedPrograms
+pub mod CountedPrograms
+pub mod FeaturePrograms
+pub mod LeastPrograms
+pub mod LinedPrograms
+pub mod OrderPrograms
+pub mod ShownPrograms
+pub mod SignalledPrograms
+pub mod TracedPrograms
