@@ -19,6 +19,7 @@ syntax match concurrentpascalNumber "\<\d\+\>"
 syntax match concurrentpascalBadCharacter "'[^'\n]*'\="
 syntax match concurrentpascalCharacter "'\%((:0*\%(12[0-7]\|1[01]\d\|\d\d\=\):)\|[ -&(-~]\)'"
 syntax region concurrentpascalComment start=+"+ end=+"+
+syntax region concurrentpascalAnnotation start=+"\_s*(\*\_s*\C\%(assert\|invariant\)[A-Za-z0-9_]\@!+ end=+"+
 
 highlight default link concurrentpascalStatement Statement
 highlight default link concurrentpascalDeclaration Structure
@@ -34,5 +35,6 @@ highlight default link concurrentpascalNumber Number
 highlight default link concurrentpascalBadCharacter Error
 highlight default link concurrentpascalCharacter Character
 highlight default link concurrentpascalComment Comment
+highlight default link concurrentpascalAnnotation PreProc
 
 let b:current_syntax = 'concurrentpascal'

@@ -1,0 +1,5 @@
+var x: integer;
+begin
+  "(* assert 7 div x = 1 *)"
+  display(x)
+end.

@@ -1,0 +1,1 @@
+begin "(* assert 1 > 2 *)" "(* assert 2 > 3 *)" end.

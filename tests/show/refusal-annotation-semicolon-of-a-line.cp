@@ -1,0 +1,23 @@
+type
+m = monitor;
+  const c = 3;
+  
+  var n: integer;
+  
+  procedure entry go;
+  begin
+    n := n + 1
+    "(* assert n = 1 *)";
+    n := n + 2
+  end;
+  function entry f: integer; begin f := 1;  end;
+  function g: integer; begin g := 1 end;
+  
+begin n := 0  end;
+p = process; var x: integer; 
+begin x := 1 end;
+var b: m; 
+begin
+  init b;
+  b.go
+end.
