@@ -11,11 +11,11 @@ use Rattle.cp_refine.proofs.expressions.VariableExpressions.{IsName, variable_is
 
 -- ---- parts of what has no queues
 
-abbrev DesignatedFree : Designated → Type 0
+abbrev pub DesignatedFree : Designated → Type 0
 DesignatedFree (a_variable p t) = is_free t ≡ true
 DesignatedFree d = Unit {0}
 
-abbrev FormFree : Option Designated → Type 0
+abbrev pub FormFree : Option Designated → Type 0
 FormFree None = Unit {0}
 FormFree (Some d) = DesignatedFree d
 
@@ -44,17 +44,17 @@ chosen_free : (h : Here) (c : Selector) (d : Designated) → DesignatedFree d �
 chosen_free h (field i) d g = with_field_free d i.name g
 chosen_free h (index e) d g = some_free (expression_form h e) (with_index_form h d) (λ x s. some_free (ordinal_form x.form) (with_element_form h d) (λ c a. with_element_free h d c g))
 
-selected_free : (h : Here) (cs : Selectors) (d : Designated) → DesignatedFree d → FormFree (selected_form h cs d)
+pub selected_free : (h : Here) (cs : Selectors) (d : Designated) → DesignatedFree d → FormFree (selected_form h cs d)
 selected_free h no_selectors d g = g
 selected_free h (more_selectors c cs) d g = then_free (chosen_form h c d) (selected_form h cs) (chosen_free h c d g) (λ e f. selected_free h cs e f)
 
 -- ---- the variable
 
 -- what it is declared as
-abbrev IsPermanent : Here → Name → Type 0
+abbrev pub IsPermanent : Here → Name → Type 0
 IsPermanent h x = (t : Ty) × (find x h.scope ≡ Some (permanent_variable t))
 
-permanent_found : (h : Here) → ((x : Name) → IsFit (find x h.scope)) → (d : Designator) (spot : code.Place) → designator_form h d ≡ Some (a_variable spot queue_type) → is_call h.scope d ≡ false → IsPermanent h (name_of d)
+pub permanent_found : (h : Here) → ((x : Name) → IsFit (find x h.scope)) → (d : Designator) (spot : code.Place) → designator_form h d ≡ Some (a_variable spot queue_type) → is_call h.scope d ≡ false → IsPermanent h (name_of d)
 permanent_found h fit (designator i ss) spot is call = go (find i.name h.scope) refl (fit i.name) is call
   where
     go : (m : Option Meaning) → find i.name h.scope ≡ m → IsFit m → then_form (begun_form h i.name m) (selected_form h ss) ≡ Some (a_variable spot queue_type) → is_call_meant m (last_field ss) ≡ false → IsPermanent h i.name
@@ -68,10 +68,10 @@ permanent_found h fit (designator i ss) spot is call = go (find i.name h.scope) 
 
 -- ---- the name
 
-abbrev IsQueue : code.Place → Option Formed → Type 0
+abbrev pub IsQueue : code.Place → Option Formed → Type 0
 IsQueue p o = o ≡ Some (record { ty = queue_type; form = as_place p })
 
-form_type : (t : Ty) (f : Form) (p : code.Place) → IsQueue p (Some (record { ty = t; form = f })) → t ≡ queue_type
+pub form_type : (t : Ty) (f : Form) (p : code.Place) → IsQueue p (Some (record { ty = t; form = f })) → t ≡ queue_type
 form_type t f p e = ap (λ (x : Formed). x.ty) (some_same _ _ e)
 
 no_constant : (b : Base) (z : ℤ) (p : code.Place) → IsQueue p (constant_form b z) → ⊥

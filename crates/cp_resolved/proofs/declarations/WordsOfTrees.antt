@@ -21,17 +21,17 @@ use Rattle.cp_resolved.proofs.declarations.SmallTokens.{AreScanned, names_small,
 
 -- ---- names that are written, and that of invariants
 
-abbrev IsSpelled : Name → Type 0
+abbrev pub IsSpelled : Name → Type 0
 IsSpelled x = IsWord x × (x ≡ nameless → ⊥)
 
-abbrev IsInvariants : Meaning → Type 0
+abbrev pub IsInvariants : Meaning → Type 0
 IsInvariants (routine_meaning r) = (r.kind ≡ invariants) × IsNameless r
 IsInvariants m = ⊥
 
-abbrev AreSpelled : Scope → Type 0
+abbrev pub AreSpelled : Scope → Type 0
 AreSpelled s = Each (λ d. IsWord d.0 × (d.0 ≡ nameless → IsInvariants d.1)) s
 
-spelled : (x : Name) (m : Meaning) → IsSpelled x → IsWord x × (x ≡ nameless → IsInvariants m)
+pub spelled : (x : Name) (m : Meaning) → IsSpelled x → IsWord x × (x ≡ nameless → IsInvariants m)
 spelled x m h = (h.0, λ e. absurd (h.1 e))
 
 nameless_is : (k : RoutineKind) → is_nameless k ≡ true → k ≡ invariants
@@ -185,7 +185,7 @@ routine_by s false r rest is k e w =
 routine_words : (s : Scope) (r : Routine) (rest : List Kind) → IsKnown r → AreScanned (put_routine r rest) → AreSpelled s → RoutineWords s r
 routine_words s r rest k e w = routine_by s (is_nameless r.kind) r rest refl k e w
 
-abbrev AreWordsOf : Opening → Type 0
+abbrev pub AreWordsOf : Opening → Type 0
 AreWordsOf o = AreSpelled o.meaning.scope
 
 -- the openings, and what is visible after all
@@ -256,11 +256,11 @@ program_parts_words d (q ∷ qs) rest k e w =
     let more : DefinedWords (parts_openings c qs) (program_parts_in c qs) = program_parts_words c qs rest k.1 (program_part_small q after k.0 e).1 one.scope in
     record { openings = each_both AreWordsOf (part_openings d q) (parts_openings c qs) one.openings more.openings; scope = more.scope }
 
-record ProgramWords (p : Program) : Type 0 where
+pub record ProgramWords (p : Program) : Type 0 where
   pub openings : Each AreWordsOf (openings_of p)
   pub own : AreSpelled (own_meaning (declared p) p).scope
 
-program_words : (p : Program) → EachRoutine IsKnown p → AreScanned (spell p) → ProgramWords p
+pub program_words : (p : Program) → EachRoutine IsKnown p → AreScanned (spell p) → ProgramWords p
 program_words p k e =
     let last : List Kind = put_body p.body (kind.Mark mark.Period ∷ []) in
     let routines : List Kind = put_all put_routine p.routines last in
@@ -273,11 +273,11 @@ program_words p k e =
       own = rs.scope;
     }
 
-words_of : (s : Scope) → AreSpelled s → AreWords s
+pub words_of : (s : Scope) → AreSpelled s → AreWords s
 words_of [] w = tt
 words_of (d ∷ ds) w = (w.0.0, words_of ds w.1)
 
-spelled_at : (p : Program) → IsRead p → (n : ℕ) → AreSpelled (meaning_at p n).scope
+pub spelled_at : (p : Program) → IsRead p → (n : ℕ) → AreSpelled (meaning_at p n).scope
 spelled_at p h n =
     let w : ProgramWords p = program_words p (indexed_known p h.proper.indexed) (read_scanned p h) in
     meaning_holds (λ (m : RoutineMeaning). AreSpelled m.scope) (initial_meaning (own_meaning (declared p) p)) (openings_of p) n w.openings w.own
@@ -287,7 +287,7 @@ read_words p h n = words_of (meaning_at p n).scope (spelled_at p h n)
 
 -- ---- what a check calls
 
-invariants_found : (s : Scope) (r : Routine) → AreSpelled s → find nameless s ≡ Some (routine_meaning r) → IsInvariants (routine_meaning r)
+pub invariants_found : (s : Scope) (r : Routine) → AreSpelled s → find nameless s ≡ Some (routine_meaning r) → IsInvariants (routine_meaning r)
 invariants_found [] r w e = absurd (none-some (routine_meaning r) e)
 invariants_found (d ∷ ds) r w e = go (same_name nameless d.0) refl (invariants_found ds r w.1) e
   where
