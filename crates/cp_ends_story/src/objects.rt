@@ -7,7 +7,7 @@ use cp_ends::End;
 use cp_ends::found::MOST_VALUES;
 use cp_run::OutcomeKind;
 use cp_story::objects::{Object, monitors, numbers, processes, put_kind, put_signals, waits};
-use cp_story::{output_words, put_error_cause};
+use cp_story::{output_words, put_error_cause, put_violation};
 use cp_waits::{How, Set, Waiting, Waits};
 use serde_json::Value;
 use std::alloc::AllocError;
@@ -81,7 +81,10 @@ fn end_object(telling: Telling<'_>, end: &ToldEnd) -> Result<Value, AllocError> 
 fn put_cause(telling: Telling<'_>, object: &mut Object, word: &[u8]) -> Result<(), AllocError> {
     let Telling { alloc, subject, .. } = telling;
     match whole_story(telling, word)? {
-        Some(story) => put_error_cause(alloc, subject.legend, object, story.cause),
+        Some(story) => {
+            put_error_cause(alloc, subject.legend, object, story.cause)?;
+            put_violation(alloc, subject.legend, object, &story.violation)
+        }
         None => Ok(()),
     }
 }

@@ -8,7 +8,7 @@ use cp_machine::{ErrorName, Signals};
 use cp_prose::Prose;
 use cp_run::{MOST_STEPS, OutcomeKind};
 use cp_story::{
-    OpenCall, Story, Wait, cause_line, kind_words, output_words, push_call, wait_words,
+    OpenCall, Story, Wait, detail_line, kind_words, output_words, push_call, wait_words,
 };
 use cp_waits::{How, Set, Waiting, Waits};
 use cp_walk::text::{error_name, push_word};
@@ -155,7 +155,8 @@ fn push_cause(telling: Telling<'_>, text: &mut Prose, name: ErrorName, word: &[u
     let Some(story) = story_for(telling, text, word) else {
         return;
     };
-    match cause_line(telling.alloc, telling.subject.legend, name, story.cause) {
+    let legend = telling.subject.legend;
+    match detail_line(telling.alloc, legend, name, story.cause, &story.violation) {
         Ok(Some(line)) => push_line(text, line.as_str()),
         Ok(None) => {}
         Err(_) => text.refuse(),

@@ -13,9 +13,11 @@ mod plan;
 mod rows;
 mod sheet;
 mod spans;
+mod stops;
 mod svg;
 mod title;
 mod wrapping;
+mod written;
 
 pub use pictures::{PictureSubject, PictureView, picture, picture_in};
 pub use sheet::{SheetExtent, row_count};

@@ -3,6 +3,7 @@
 use crate::labels::{bold_width, plain_width, points};
 use crate::pictures::Scene;
 use crate::sheet::Sheet;
+use crate::stops::stop_width;
 use cp_legend::Legend;
 use cp_machine::Signals;
 use cp_story::{Happening, Story};
@@ -218,7 +219,7 @@ impl NaturalWidths {
         for process in 0..scene.legend.processes() {
             let head = head_width(scene.legend, story, process);
             let most = head.max(widest_label(story, sheet, process));
-            let most = most.max(stop_width(story, process));
+            let most = most.max(stop_width(scene, process)?);
             self.lanes.push(lane_width(story, process, most))?;
         }
         Ok(())
@@ -257,16 +258,6 @@ fn widest_label(story: &Story, sheet: &Sheet, process: u8) -> f64 {
         }
     }
     most
-}
-
-// The width of what is said of the stop in a lane; 0 where it is not there.
-fn stop_width(story: &Story, process: u8) -> f64 {
-    match &story.stop {
-        Some(stop) if stop.process == process => {
-            31.0 + bold_width(stop.words.as_str(), 11.5) + 12.0
-        }
-        _ => 0.0,
-    }
 }
 
 // The width of a lane in which the widest has this width, with the space after it.

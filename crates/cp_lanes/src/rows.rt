@@ -4,15 +4,15 @@ use crate::changes::{SWATCH, changes_words};
 use crate::draw::{draw_resumed, write_process};
 use crate::key::{BROKEN, FULL, draw_lost, draw_square};
 use crate::labels::{FIXED, Face, PictureLabel, pill_width, points};
-use crate::palette::{FAINT, GREY, INK, RED, hue_of};
+use crate::palette::{FAINT, GREY, INK, hue_of};
 use crate::pictures::{Layout, Scene, source_line};
 use crate::plan::{Column, Plan, ROW};
 use crate::sheet::{Fold, LINE, PictureRow};
 use crate::spans::Spans;
+use crate::stops::draw_stop;
 use crate::svg::{AT_END, BOLD_MIDDLE, BOLD_TYPE, Block, MIDDLE, Style, Svg};
 use crate::wrapping::{LineRoom, label_lines};
-use cp_story::{AbruptEnd, Choice, Happening, StoryEvent, happening_words};
-use std::alloc::AllocError;
+use cp_story::{Choice, Happening, StoryEvent, happening_words};
 
 /// The free space between two lanes, into which a label may reach.
 const GAP: f64 = 12.0;
@@ -120,8 +120,8 @@ fn is_below_one(process: u8, others: &[u8]) -> bool {
     false
 }
 
-// The room in the lane of a process and in the free ones beside it.
-fn room_beside(layout: Layout<'_>, process: u8, y: f64) -> f64 {
+/// The room in the lane of a process and in the free ones beside it.
+pub fn room_beside(layout: Layout<'_>, process: u8, y: f64) -> f64 {
     let plan = layout.plan;
     let mut room = plan.lane(process).width - 36.0 + GAP;
     for number in usize::from(process).saturating_add(1)..plan.lanes.len() {
@@ -185,8 +185,8 @@ fn write_changes(svg: &mut Svg, changes: &str) {
     }
 }
 
-// The number of a row, or the first and the last of those that are folded.
-fn draw_number(svg: &mut Svg, scene: Scene<'_>, row: &PictureRow) {
+/// Draws the number of a row, or the first and the last of those that are folded.
+pub fn draw_number(svg: &mut Svg, scene: Scene<'_>, row: &PictureRow) {
     let alloc = scene.alloc;
     let style = Style::new(9.5, GREY, AT_END);
     let y = row.middle() + 3.5;
@@ -202,8 +202,8 @@ fn draw_number(svg: &mut Svg, scene: Scene<'_>, row: &PictureRow) {
     }
 }
 
-// Circles for those who could go on, squares for those who could be let in; the chosen one is filled.
-fn draw_choice(svg: &mut Svg, choice: &Choice, y: f64) {
+/// Draws circles for those who could go on, squares for those who could be let in; the chosen one is filled.
+pub fn draw_choice(svg: &mut Svg, choice: &Choice, y: f64) {
     for (place, option) in choice.options.as_slice().iter().enumerate() {
         let x = 54.0 + points(place) * 22.0;
         let is_chosen = *option == choice.number;
@@ -358,7 +358,8 @@ fn draw_changes(svg: &mut Svg, plan: &Plan, row: &PictureRow) {
     }
 }
 
-fn draw_source(svg: &mut Svg, scene: Scene<'_>, plan: &Plan, line: Option<u32>, y: f64) {
+/// Draws a line of the source, by its number and its text.
+pub fn draw_source(svg: &mut Svg, scene: Scene<'_>, plan: &Plan, line: Option<u32>, y: f64) {
     let Some(line) = line else {
         return;
     };
@@ -374,49 +375,4 @@ fn draw_source(svg: &mut Svg, scene: Scene<'_>, plan: &Plan, line: Option<u32>, 
     let style = Style::new(10.5, "#3e4c59", monospace);
     let text = LineRoom::new(scene.alloc, plan.source.width, 10.5 * FIXED).cut(text);
     svg.words_made(plan.source.left, y + 4.0, style, text);
-}
-
-// The row of a run error or of a limit.
-fn draw_stop(
-    svg: &mut Svg,
-    scene: Scene<'_>,
-    layout: Layout<'_>,
-    row: &PictureRow,
-    stop: &AbruptEnd,
-) {
-    let plan = layout.plan;
-    let y = row.middle();
-    svg.open(stop.words.as_str());
-    draw_number(svg, scene, row);
-    if let Some(choice) = &scene.story.last_choice {
-        draw_choice(svg, choice, y);
-    }
-    let x = plan.dot(stop.process);
-    let red = "stroke-width=\"3\"";
-    svg.line((x - 5.0, y - 5.0), (x + 5.0, y + 5.0), RED, red);
-    svg.line((x - 5.0, y + 5.0), (x + 5.0, y - 5.0), RED, red);
-    let lane = plan.lane(stop.process);
-    let beside = room_beside(layout, stop.process, y);
-    let lines = stop_lines(scene, stop, lane.width - 36.0, beside);
-    svg.lines_made(lane.left + 31.0, y, Style::new(10.5, RED, BOLD_TYPE), lines);
-    draw_source(svg, scene, plan, stop.line, y);
-    svg.close();
-}
-
-fn stop_lines(
-    scene: Scene<'_>,
-    stop: &AbruptEnd,
-    room: f64,
-    beside: f64,
-) -> Result<Vec<String>, AllocError> {
-    let mut label = PictureLabel::new(stop.words.clone()?, Face::Bold);
-    label.brief = Some(String::from_str(scene.alloc, stop_name(stop.words.as_str()))?);
-    label_lines(scene.alloc, &label, room, beside)
-}
-
-// The name of a run error, or which limit it is.
-fn stop_name(words: &str) -> &str {
-    let name = words.strip_prefix("stops with ").unwrap_or(words);
-    let name = name.strip_prefix("goes on to the ").unwrap_or(name);
-    name.split_once(':').map_or(name, |(name, _)| name)
 }

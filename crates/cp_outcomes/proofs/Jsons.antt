@@ -20,13 +20,15 @@ use Rattle.cp_walk.specs.Text.{kind_text}
 use Rattle.cp_merged.specs.Told.{rows_in}
 use Rattle.cp_simplest.specs.declared.finding.SimplestSchedule.{SimplestSchedule}
 use Rattle.cp_story.proofs.CauseFloats.{cause_free}
+use Rattle.cp_story.proofs.StoryFloats.{violation_free}
 use Rattle.cp_story.proofs.Floats.{both, is_float_member, no_float-array, no_float-at_each, no_float-numbers, no_float-object, none_of, with_both}
+use Rattle.cp_story.specs.CauseText.{error_cause_members}
 use Rattle.cp_story.specs.Objects.{Member, array_of, number_data, numbers_data, text_data, with_member, with_members}
 use Rattle.cp_story.specs.StoryData.{kind_members, monitor_data, named_data, process_data, signals_members, status_members, wait_data}
 use Rattle.cp_story.specs.Waiting.{Waiting}
 use Rattle.cp_outcomes.specs.Data as spec
 use Rattle.cp_outcomes.specs.Stops.{kind_at, rows_at, stops}
-use Rattle.cp_outcomes.specs.Told.{Setting, Told, cause_after, waits_after}
+use Rattle.cp_outcomes.specs.Told.{Setting, Told, cause_after, violation_after, waits_after}
 use Rattle.cp_outcomes.specs.declared.stopped.Limit.{Limit}
 
 -- ---- no floats
@@ -69,7 +71,7 @@ simple_free (Some s) = both (no_float-numbers s.word.items) refl
 end_free : (s : Setting) (word : List ℕ) (k : OutcomeKind) → list_any is_float_member (spec.end_members s word k) ≡ false
 end_free s word kind.Finished = refl
 end_free s word kind.AllWaiting = both (no_float-array (wait_data s.legend) (waits_after s word) (wait_free s.legend)) refl
-end_free s word (kind.RunError name process line) = both refl (cause_free s.legend (cause_after s word))
+end_free s word (kind.RunError name process line) = both refl (none_of (error_cause_members s.legend (cause_after s word)) _ (cause_free s.legend (cause_after s word)) (violation_free s.legend (violation_after s word)))
 end_free s word kind.ChoiceLimit = refl
 end_free s word kind.StepLimit = refl
 end_free s word kind.OutputLimit = refl

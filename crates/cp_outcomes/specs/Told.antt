@@ -14,7 +14,8 @@ use Rattle.cp_merged.specs.Code.{tally_of}
 use Rattle.cp_simplest.specs.Simple.{IsScheduleOf}
 use Rattle.cp_simplest.specs.declared.finding.SimplestSchedule.{SimplestSchedule}
 use Rattle.cp_story.specs.Causes.{cause_of_run}
-use Rattle.cp_story.specs.CauseText.{cause_line}
+use Rattle.cp_story.specs.AnnotationText.{detail_line}
+use Rattle.cp_story.specs.Annotations.{Violated, violation_of_run}
 use Rattle.cp_story.specs.Sentences.{process_text, wait_text}
 use Rattle.cp_story.specs.Waiting.{Waiting, who_waits}
 use Rattle.cp_story.specs.declared.cause.Cause.{Cause}
@@ -81,10 +82,14 @@ waits_after s word = who_waits s.legend s.program s.discipline s.choices s.steps
 abbrev pub cause_after : Setting → (word : List ℕ) → Option Cause
 cause_after s word = cause_of_run s.program s.discipline s.choices s.steps word
 
+-- the annotation that is false with which a schedule ends
+abbrev pub violation_after : Setting → (word : List ℕ) → Option Violated
+violation_after s word = violation_of_run s.legend s.program s.discipline s.choices s.steps word
+
 -- the lines of an end after a schedule: where all wait, one for each that waits; of a run error one, and what it is of if that is known; else none
 abbrev pub lines_after : Setting → (word : List ℕ) → OutcomeKind → List (List ℕ)
 lines_after s word AllWaiting = map (wait_text s.legend) (waits_after s word)
-lines_after s word (RunError name process line) = error_text s process line ∷ option_to_list (cause_line s.legend name (cause_after s word))
+lines_after s word (RunError name process line) = error_text s process line ∷ option_to_list (detail_line s.legend name (cause_after s word) (violation_after s word))
 lines_after s word _ = []
 
 -- those of the outcome's first schedule

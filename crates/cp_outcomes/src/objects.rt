@@ -16,14 +16,14 @@ use crate::share::share_of;
 use crate::simples::Simples;
 use crate::stopped::{Limit, schedules_in, schedules_stopped_at};
 use crate::subject::{Excess, Subject};
-use crate::told::{ToldOutcome, cause_of, line_of, tell_outcomes, waits_of};
+use crate::told::{ToldOutcome, line_of, story_of, tell_outcomes, waits_of};
 use cp_legend::Legend;
 use cp_merged::{Tallies, Tally};
 use cp_natural::{Natural, push_natural};
 use cp_run::OutcomeKind;
 use cp_simplest::SimplestSchedule;
 use cp_story::objects::{Object, monitors, numbers, processes, put_kind, put_signals, waits};
-use cp_story::{output_words, put_error_cause};
+use cp_story::{output_words, put_error_cause, put_violation};
 use cp_walk::text::push_count;
 use serde_json::Value;
 use std::alloc::{AllocError, Global};
@@ -187,8 +187,9 @@ fn put_end(
         }
         OutcomeKind::RunError { line, .. } => {
             object.text("text", line_of(subject.source, line))?;
-            let cause = cause_of(alloc, subject, tally.first.as_slice())?;
-            put_error_cause(alloc, subject.legend, object, cause)
+            let story = story_of(alloc, subject, tally.first.as_slice())?;
+            put_error_cause(alloc, subject.legend, object, story.cause)?;
+            put_violation(alloc, subject.legend, object, &story.violation)
         }
         _ => Ok(()),
     }

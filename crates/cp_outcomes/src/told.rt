@@ -5,6 +5,8 @@ ghost use Rattle.std.specs.List.{filter, AllByRecursion};
 ghost use Rattle.std.specs.Option.{option_to_list};
 ghost use Rattle.cp_legend.specs.Names.{legend_seen};
 ghost use Rattle.cp_merged.specs.Code.{tally_of};
+ghost use Rattle.cp_story.specs.AnnotationText.{detail_line};
+ghost use Rattle.cp_story.specs.Annotations.{violation_seen};
 ghost use Rattle.cp_story.specs.Sentences.{wait_text};
 ghost use Rattle.cp_story.specs.Views.{wait_of};
 ghost use Rattle.cp_outcomes.specs.Told as spec;
@@ -14,11 +16,11 @@ use crate::simples::Simples;
 use crate::stopped::is_stopped;
 use crate::subject::Subject;
 use cp_legend::Legend;
-use cp_machine::Ticks;
+use cp_machine::{ErrorName, Ticks};
 use cp_merged::Tally;
 use cp_run::OutcomeKind;
 use cp_simplest::SimplestSchedule;
-use cp_story::{Cause, Story, Wait, cause_line, tell, wait_words};
+use cp_story::{Story, Wait, detail_line, tell, wait_words};
 use cp_walk::Job;
 use std::alloc::{AllocError, Global};
 use std::marker::Brand;
@@ -111,12 +113,8 @@ pub fn end_lines(
             line,
         } => {
             let place = error_line(alloc, subject, process, line)?;
-            let cause = cause_of(alloc, subject, tally.first.as_slice())?;
-            error_lines(
-                alloc,
-                place,
-                cause_line(alloc, subject.legend, name, cause)?,
-            )
+            let detail = detail_of(alloc, subject, name, tally.first.as_slice())?;
+            error_lines(alloc, place, detail)
         }
         _ => Ok(Vec::new(alloc)),
     }
@@ -126,14 +124,14 @@ pub fn end_lines(
 fn error_lines(
     alloc: Global,
     place: String,
-    cause: Option<String>,
+    detail: Option<String>,
 ) -> Result<Vec<String>, AllocError>
-    ensures { IfOk result (λ lines. map string_bytes lines.items ≡ string_bytes place ∷ option_to_list (option_map string_bytes cause)) }
+    ensures { IfOk result (λ lines. map string_bytes lines.items ≡ string_bytes place ∷ option_to_list (option_map string_bytes detail)) }
 {
     let mut lines = Vec::new(alloc);
     lines.push(place)?;
-    if let Some(cause) = cause {
-        lines.push(cause)?;
+    if let Some(detail) = detail {
+        lines.push(detail)?;
     }
     Ok(lines)
 }
@@ -156,16 +154,27 @@ pub fn waits_of(alloc: Global, subject: Subject<'_>, word: &[u8]) -> Result<Vec<
     Ok(story_by::<Brand>(alloc, subject, word, Blank::new(1))?.waits)
 }
 
-/// What the error of a schedule is of, if that is known.
-pub fn cause_of(
+// What the error of a schedule is of, on a line of its own.
+fn detail_of(
     alloc: Global,
     subject: Subject<'_>,
+    name: ErrorName,
     word: &[u8],
-) -> Result<Option<Cause>, AllocError>
+) -> Result<Option<String>, AllocError>
     requires { length word.now ≤ 100 }
-    ensures { IfOk result (λ cause. cause ≡ spec.cause_after (setting_of subject.entry subject.entry.limits.choices) word.now) }
+    ensures { IfOk result (λ line. option_map string_bytes line ≡ detail_line (legend_seen subject.entry.legend.now) name (spec.cause_after (setting_of subject.entry subject.entry.limits.choices) word.now) (spec.violation_after (setting_of subject.entry subject.entry.limits.choices) word.now)) }
 {
-    Ok(story_by::<Brand>(alloc, subject, word, Blank::new(1))?.cause)
+    let story = story_of(alloc, subject, word)?;
+    detail_line(alloc, subject.legend, name, story.cause, &story.violation)
+}
+
+/// What is told of a schedule.
+pub fn story_of(alloc: Global, subject: Subject<'_>, word: &[u8]) -> Result<Story, AllocError>
+    requires { length word.now ≤ 100 }
+    ensures cause { IfOk result (λ s. s.cause ≡ spec.cause_after (setting_of subject.entry subject.entry.limits.choices) word.now) }
+    ensures violation { IfOk result (λ s. option_map violation_seen s.violation ≡ spec.violation_after (setting_of subject.entry subject.entry.limits.choices) word.now) }
+{
+    story_by::<Brand>(alloc, subject, word, Blank::new(1))
 }
 
 fn story_by<L: Ledger>(
@@ -180,6 +189,7 @@ fn story_by<L: Ledger>(
     requires word { length word.now ≤ 100 }
     ensures waits { IfOk result (λ s. map wait_of s.waits.items ≡ spec.waits_after (setting_of subject.entry subject.entry.limits.choices) word.now) }
     ensures cause { IfOk result (λ s. s.cause ≡ spec.cause_after (setting_of subject.entry subject.entry.limits.choices) word.now) }
+    ensures violation { IfOk result (λ s. option_map violation_seen s.violation ≡ spec.violation_after (setting_of subject.entry subject.entry.limits.choices) word.now) }
 {
     let Subject {
         program,

@@ -6,14 +6,19 @@ use crate::json::Json;
 use crate::register::Register;
 use crate::views::next_line;
 use cp_ends::End;
+use cp_legend::Legend;
 use cp_machine::State;
 use cp_run::OutcomeKind;
 use cp_slots::Resolved;
-use cp_story::{cause_of_kind, cause_text, error_words, kind_words};
+use cp_story::{
+    Annotation, cause_of_kind, cause_text, error_words, kind_words, violation_of_kind,
+    violation_words,
+};
 use std::alloc::AllocError;
 
 /// An end where a stretch came to it: `[kind, error, process, line]`. Of a limit, and of a stretch that goes on for ever, it is said who was
-/// going on, and where; and of a run error what it is of, as a fifth member, if that is known.
+/// going on, and where; and of a run error what it is of, as a fifth member, if that is known. Of an annotation the
+/// monitor follows whose invariant is broken, or -1.
 pub fn end_row(
     register: &Register<'_>,
     program: &Resolved,
@@ -34,14 +39,49 @@ pub fn end_row(
         }
         End::Over(kind) => {
             put_members(&mut row, end);
-            if let Some(cause) = cause_of_kind(program, state, kind) {
-                let detail = cause_text(register.alloc, register.legend, cause)?;
-                row.put_quoted(detail.as_str());
-            }
+            put_detail(&mut row, register, program, state, kind)?;
         }
     }
     row.close();
     Ok(row)
+}
+
+// What a run error is of, if that is known.
+fn put_detail(
+    row: &mut Json,
+    register: &Register<'_>,
+    program: &Resolved,
+    state: &State,
+    kind: OutcomeKind,
+) -> Result<(), AllocError>
+    requires { IsStateOf program.now state.now }
+{
+    let Register { alloc, legend, .. } = *register;
+    if let Some(cause) = cause_of_kind(program, state, kind) {
+        let detail = cause_text(alloc, legend, cause)?;
+        row.put_quoted(detail.as_str());
+    }
+    if let Some(violation) = violation_of_kind(alloc, legend, program, state, kind)? {
+        let detail = violation_words(alloc, legend, &violation)?;
+        row.put_quoted(detail.as_str());
+        put_monitor(row, broken_monitor(legend, violation.annotation));
+    }
+    Ok(())
+}
+
+fn put_monitor(row: &mut Json, monitor: Option<u8>) {
+    match monitor {
+        Some(monitor) => row.put_plain(monitor),
+        None => row.put_plain("-1"),
+    }
+}
+
+// The monitor of an invariant, or the one that its class is a part of.
+fn broken_monitor(legend: &Legend, annotation: Annotation) -> Option<u8> {
+    match annotation {
+        Annotation::Invariant(component, _) => legend.components.get(component)?.monitor,
+        Annotation::Assertion => None,
+    }
 }
 
 // An end with who goes on, and where.

@@ -8,13 +8,13 @@ pub const BEGIN: &str = r##"<!DOCTYPE html>
 <meta http-equiv="Content-Security-Policy" content="default-src 'none'; base-uri 'none'; form-action 'none'; style-src 'sha256-"##;
 
 /// The SHA-256 of the style sheet to the base 64.
-pub const STYLE_HASH: &str = "kJsSmYIWoN9IskZIrAuCuKy5tEJGIBgXssCm4H3NXi0=";
+pub const STYLE_HASH: &str = "5gEuDmnKkp4MTiZSm66B0XLCe+ZjPC+578I9o9cssz0=";
 
 /// Between the hashes.
 pub const BETWEEN: &str = "'; script-src 'sha256-";
 
 /// The SHA-256 of the script to the base 64.
-pub const SCRIPT_HASH: &str = "y0xU3BCBeCKuUHyOSFqxTaUo0voIDTWhO987Wc5JiJU=";
+pub const SCRIPT_HASH: &str = "4EsNZ0lZt1ujLilUfEumN4yj7XE2tRbm20xhFL49coA=";
 
 /// Between the hash of the script and the style sheet.
 pub const HEAD: &str = r##"'">

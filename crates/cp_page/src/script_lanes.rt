@@ -258,6 +258,33 @@ function endWords(s) {
   return kindText(kind) + (error && ` ${error}: ${person(p)}, line ${line}${behindColon(cause)}`) + shown;
 }
 
+// The expression of an annotation, of which the first token stands in a line; the whole line where it has more than one annotation or comment.
+const OPENING = /^\s*\(\*\s*(?:assert|invariant)/;
+function writtenAt(line) {
+  const whole = D.source[line - 1].trim();
+  const quotes = whole.split('"').length - 1;
+  const [first, second = ""] = D.source.slice(line - 1).join("\n").split('"');
+  const isBegun = quotes > 0 && OPENING.test(second);
+  if (quotes > 2 || quotes === 2 && !isBegun) return whole;
+  return (isBegun ? second.replace(OPENING, "") : first).trim().replace(/\*\)$/, "").replace(/\s+/g, " ").trim();
+}
+
+// A run error: a cross at its process, of an annotation the expression beside it, and of an invariant a red edge of the monitor's bar.
+function errorShapes({ end: { kind, p, line, broken } }, f, { lane, laneX, barX, bottom }) {
+  if (kind !== "run-error") return [];
+  const [x, y] = [laneX(p) + 12, bottom + 5];
+  const cross = svg("path", { d: `M${x - 5} ${y - 5}l10 10m-10 0l10 -10`, class: "cross" });
+  if (broken === undefined) return [cross];
+  const says = writtenAt(line);
+  const isBusy = q => [...f.boxes, ...f.waits].some(b => b.p === q && b.to > bottom);
+  const beside = PROCESSES.findIndex((_, q) => q > p && isBusy(q));
+  const room = laneX(beside < 0 ? PROCESSES.length : beside) - x - 22;
+  const box = f.boxes.findLast(({ m, to }) => m === broken && to > bottom);
+  const [from, to] = box ? [box.from, box.to] : [bottom - 6, bottom + 12];
+  return [cross, svg("g", {}, svg("title", {}, says), text(x + 12, y + 4.5, "loud broken", cut(says, room, LOUD))),
+    broken >= 0 && rect(barX(broken), from, 20, to - from, 4, "edge")];
+}
+
 function bracket(y, from, to) {
   const [top, low] = [y(from) - 8, y(to) + 8];
   return svg("path", { d: `M9 ${low}H4V${top}H9`, class: "round", "marker-end": "url(#turn)" });
@@ -317,6 +344,7 @@ function pictureOf(s, plan, point) {
     folds.map(({ from, to }) => columns(from, `${from + 1}\u2013${to + 1}`, { event: { changes: lastChanges(rows.slice(from, to + 1).map(r => r.event)) } })),
     roundShapes(s, y),
     point && pointShapes(s, point, plan),
+    s.end && errorShapes(s, f, plan),
     s.end && text(26, bottom + 44, "loud ended " + s.end.kind, endWords(s)),
     shown.map(i => rowShapes(rows[i], y(i), width)),
     folds.map(fold => foldHit(rows, plan, fold)),

@@ -152,6 +152,8 @@ svg text.inv { fill: var(--ground); font-weight: 700; font-size: 12px; text-anch
 svg text.held { fill: var(--l) }
 svg .wait { stroke: var(--c); stroke-width: 1.8 }
 svg .wait.ever { stroke: var(--red); stroke-width: 3 }
+svg .cross, svg .edge { fill: none; stroke: var(--red); stroke-width: 3 }
+svg text.broken { fill: var(--red) }
 svg .opt { fill: var(--ground); stroke: var(--pale) }
 svg .taken .opt { fill: var(--ink); stroke: var(--ink) }
 svg .pick { cursor: pointer }

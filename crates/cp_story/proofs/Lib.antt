@@ -1,3 +1,4 @@
+pub mod AnnotationsTold
 pub mod Arrays
 pub mod Behind
 pub mod CauseFloats
@@ -9,5 +10,6 @@ pub mod Queued
 pub mod Rows
 pub mod StoryFloats
 pub mod Telling
+pub mod ToldVariables
 pub mod Waits
 pub mod Woken

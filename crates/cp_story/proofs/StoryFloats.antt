@@ -17,7 +17,13 @@ use Rattle.cp_run.specs.Code.{answer_of}
 use Rattle.cp_run.specs.Run.{Answer, Ended, Wants, NotReady}
 use Rattle.cp_story.proofs.Floats.{both, is_float_member, no_float-array, no_float-at_each, no_float-flag, no_float-numbers, no_float-object, no_float-optional, none_of}
 use Rattle.cp_story.proofs.CauseFloats as floats
+use Rattle.cp_story.specs.AnnotationText.{violation_text}
+use Rattle.cp_story.specs.Annotations.{Violated, violation_seen}
 use Rattle.cp_story.specs.CauseText.{error_cause_members}
+use Rattle.cp_story.specs.declared.annotation.Annotation.{Annotation}
+use Rattle.cp_story.specs.declared.annotation.Annotation.TheVariants as annotation
+use Rattle.cp_story.specs.declared.annotation.Moment.{Moment}
+use Rattle.cp_story.specs.declared.annotation.Moment.TheVariants as moment
 use Rattle.cp_story.specs.declared.cause.Cause.{Cause}
 use Rattle.cp_story.specs.Changes.{Changed}
 use Rattle.cp_story.specs.Halted.{Halted, halted_seen}
@@ -146,6 +152,29 @@ event_free l e =
     (none_of (cause ++ happened) returned (none_of cause happened (cause_free e) (both refl (subject_free l e.happened))) (returned_free e.happened e.returned))
     (effects_free l e))
 
+-- ---- an annotation that is false
+
+moment_free : (l : Legend) (at : Moment) → list_any is_float_member (spec.moment_members l at) ≡ false
+moment_free l (moment.Delay line) = refl
+moment_free l (moment.Continue line) = refl
+moment_free l (moment.Return routine) = refl
+moment_free l moment.Initialised = refl
+
+annotation_free : (l : Legend) (a : Annotation) → list_any is_float_member (spec.annotation_members l a) ≡ false
+annotation_free l annotation.Assertion = refl
+annotation_free l (annotation.Invariant n at) = both refl (moment_free l at)
+
+violated_free : (l : Legend) (v : Violated) → has_float (spec.violation_data l v) ≡ false
+violated_free l v =
+    let annotation = spec.annotation_members l v.annotation in
+    let values = (codes "values", array_of (map spec.given_data v.values)) ∷ [] in
+    no_float-object ((codes "text", text_data (violation_text l v)) ∷ annotation ++ values)
+    (both refl (none_of annotation values (annotation_free l v.annotation) (both (no_float-array spec.given_data v.values given_free) refl)))
+
+pub violation_free : (l : Legend) (v : Option Violated) → list_any is_float_member (spec.violation_members l v) ≡ false
+violation_free l None = refl
+violation_free l (Some v) = both (violated_free l v) refl
+
 -- ---- the end
 
 error_free : (k : OutcomeKind) → list_any is_float_member (spec.error_members k) ≡ false
@@ -167,12 +196,15 @@ stop_free (Some s) =
     both refl (none_of (optional (codes "line") number_data s.line) (optional (codes "waiting") number_data s.waiting)
     (no_float-optional (codes "line") number_data s.line number_free) (no_float-optional (codes "waiting") number_data s.waiting number_free))
 
-end_free : (l : Legend) (a : Answer) (s : Option Halted) (c : Option Cause) (d : Option Decision) → has_float (spec.end_data l a s c d) ≡ false
-end_free l a s c d =
+end_free : (l : Legend) (a : Answer) (s : Option Halted) (c : Option Cause) (v : Option Violated) (d : Option Decision) → has_float (spec.end_data l a s c v d) ≡ false
+end_free l a s c v d =
     let last = optional (codes "choice") spec.choice_data d in
     let cause = error_cause_members l c in
-    no_float-object (spec.answer_members a ++ spec.stop_members s ++ cause ++ last)
-    (none_of (spec.answer_members a ++ spec.stop_members s ++ cause) last (none_of (spec.answer_members a ++ spec.stop_members s) cause (none_of (spec.answer_members a) (spec.stop_members s) (answer_free a) (stop_free s)) (floats.cause_free l c)) (no_float-optional (codes "choice") spec.choice_data d choice_free))
+    let violation = spec.violation_members l v in
+    let stopped = none_of (spec.answer_members a) (spec.stop_members s) (answer_free a) (stop_free s) in
+    let caused = none_of (spec.answer_members a ++ spec.stop_members s) cause stopped (floats.cause_free l c) in
+    no_float-object (spec.answer_members a ++ spec.stop_members s ++ cause ++ violation ++ last)
+    (none_of (spec.answer_members a ++ spec.stop_members s ++ cause ++ violation) last (none_of (spec.answer_members a ++ spec.stop_members s ++ cause) violation caused (violation_free l v)) (no_float-optional (codes "choice") spec.choice_data d choice_free))
 
 outcome_free : (l : Legend) (a : Answer) (word : List ℕ) → list_any is_float_member (spec.outcome_members l a word) ≡ false
 outcome_free l (Ended outcome used) word = both (no_float-numbers (take used word)) refl
@@ -195,7 +227,7 @@ first_free l s =
     both (no_float-at_each (spec.process_data l) (process_count l.components) (process_free l))
     (both (no_float-at_each (spec.monitor_data l) (monitor_count l.components) (monitor_free l))
     (both (no_float-array (spec.event_data l) (map told_of s.events.items) (event_free l))
-    (both (end_free l (answer_of s.end) (option_map halted_seen s.stop) s.cause (option_map decision_of s.last_choice)) refl)))
+    (both (end_free l (answer_of s.end) (option_map halted_seen s.stop) s.cause (option_map violation_seen s.violation) (option_map decision_of s.last_choice)) refl)))
 
 signals_free : (s : Signals) → list_any is_float_member (spec.signals_members s) ≡ false
 signals_free Return = refl

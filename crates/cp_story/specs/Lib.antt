@@ -1,4 +1,6 @@
 pub mod Aimed
+pub mod Annotations
+pub mod AnnotationText
 pub mod Causes
 pub mod CauseText
 pub mod Changes

@@ -13,7 +13,9 @@ use Rattle.cp_run.specs.Code.{answer_of}
 use Rattle.cp_run.specs.declared.outcome.OutcomeKind.{OutcomeKind}
 use Rattle.cp_run.specs.declared.outcome.OutcomeKind.TheVariants as kind
 use Rattle.cp_run.specs.Run.{Answer, Ended, Wants, NotReady}
-use Rattle.cp_story.specs.CauseText.{error_cause_members}
+use Rattle.cp_story.specs.AnnotationText.{violation_text}
+use Rattle.cp_story.specs.Annotations.{Violated, violation_seen}
+use Rattle.cp_story.specs.CauseText.{component_text, error_cause_members}
 use Rattle.cp_story.specs.Changes.{Changed}
 use Rattle.cp_story.specs.Ends.{error_name, kind_name, output_text}
 use Rattle.cp_story.specs.Halted.{Halted, halted_seen}
@@ -23,6 +25,10 @@ use Rattle.cp_story.specs.Sentences.{shown_text}
 use Rattle.cp_story.specs.Story.{Decision, Happened, Enters, Leaves, Delays, Continues, Starts, Displays, Ends, IsAdmitted, Told, queue_at}
 use Rattle.cp_story.specs.Views.{decision_of, told_of, wait_of}
 use Rattle.cp_story.specs.Waiting.{Waiting}
+use Rattle.cp_story.specs.declared.annotation.Annotation.{Annotation}
+use Rattle.cp_story.specs.declared.annotation.Annotation.TheVariants as annotation
+use Rattle.cp_story.specs.declared.annotation.Moment.{Moment}
+use Rattle.cp_story.specs.declared.annotation.Moment.TheVariants as moment
 use Rattle.cp_story.specs.declared.cause.Cause.{Cause}
 use Rattle.cp_story.specs.declared.event.OpenCall.{OpenCall}
 use Rattle.cp_story.specs.declared.story.Story.{Story}
@@ -140,6 +146,29 @@ effect_members l e = (codes "woken", numbers_data e.woken) ∷ (codes "let_in", 
 abbrev pub event_data : Legend → Told → Data
 event_data l e = object_with (cause_members e ++ happened_members l e.happened ++ returned_members e.happened e.returned ++ effect_members l e)
 
+-- ---- an annotation that is false
+
+abbrev pub at_line : (at : List ℕ) → (line : ℕ) → List Member
+at_line at line = (codes "at", text_data at) ∷ (codes "line", number_data line) ∷ []
+
+abbrev pub moment_members : Legend → Moment → List Member
+moment_members l (moment.Delay line) = at_line (codes "delay") line
+moment_members l (moment.Continue line) = at_line (codes "continue") line
+moment_members l (moment.Return routine) = (codes "at", text_data (codes "return")) ∷ (codes "routine", text_data (name_of_routine (slice_get l.routines routine))) ∷ []
+moment_members l moment.Initialised = (codes "at", text_data (codes "init")) ∷ []
+
+abbrev pub annotation_members : Legend → Annotation → List Member
+annotation_members l annotation.Assertion = []
+annotation_members l (annotation.Invariant n at) = (codes "component", text_data (component_text l n)) ∷ moment_members l at
+
+abbrev pub violation_data : Legend → Violated → Data
+violation_data l v = object_with ((codes "text", text_data (violation_text l v)) ∷ annotation_members l v.annotation ++ (codes "values", array_of (map given_data v.values)) ∷ [])
+
+-- the member of a run error's cause
+abbrev pub violation_members : Legend → Option Violated → List Member
+violation_members l None = []
+violation_members l (Some v) = (codes "cause", violation_data l v) ∷ []
+
 -- ---- the end
 
 -- of a run error also what, who and where it was
@@ -161,8 +190,8 @@ abbrev pub stop_members : Option Halted → List Member
 stop_members None = []
 stop_members (Some stop) = (codes "process", number_data stop.process) ∷ optional (codes "line") number_data stop.line ++ optional (codes "waiting") number_data stop.waiting
 
-abbrev pub end_data : Legend → Answer → Option Halted → Option Cause → (last : Option Decision) → Data
-end_data l answer stop cause last = object_with (answer_members answer ++ stop_members stop ++ error_cause_members l cause ++ optional (codes "choice") choice_data last)
+abbrev pub end_data : Legend → Answer → Option Halted → Option Cause → Option Violated → (last : Option Decision) → Data
+end_data l answer stop cause violation last = object_with (answer_members answer ++ stop_members stop ++ error_cause_members l cause ++ violation_members l violation ++ optional (codes "choice") choice_data last)
 
 -- of a run that ended, the numbers that it used, and what it displayed
 abbrev pub outcome_members : Legend → Answer → (word : List ℕ) → List Member
@@ -196,7 +225,7 @@ first_members l s =
     (codes "processes", processes_data l)
     ∷ (codes "monitors", monitors_data l)
     ∷ (codes "events", events_data l (map told_of s.events.items))
-    ∷ (codes "end", end_data l (answer_of s.end) (option_map halted_seen s.stop) s.cause (option_map decision_of s.last_choice))
+    ∷ (codes "end", end_data l (answer_of s.end) (option_map halted_seen s.stop) s.cause (option_map violation_seen s.violation) (option_map decision_of s.last_choice))
     ∷ []
 
 -- the discipline, where it is another one than `return`

@@ -5,6 +5,8 @@ use Rattle.cp_legend.specs.Written.{value_text}
 use Rattle.cp_run.specs.declared.outcome.RunEnd.{RunEnd}
 use Rattle.cp_run.specs.declared.outcome.RunEnd.TheVariants as run_end
 use Rattle.cp_run.specs.Table.{each}
+use Rattle.cp_story.specs.AnnotationText.{violation_text}
+use Rattle.cp_story.specs.Annotations.{Violated, violation_seen}
 use Rattle.cp_story.specs.CauseText.{behind_colon, cause_text}
 use Rattle.cp_story.specs.Changes.{Changed}
 use Rattle.cp_story.specs.Columns.{Row, rows_text}
@@ -60,19 +62,20 @@ told_of_cause l None = []
 told_of_cause l (Some (cause.InUse process cell)) = []
 told_of_cause l (Some c) = behind_colon (cause_text l c)
 
-abbrev pub stop_text : Legend → Halted → Option Cause → List ℕ
-stop_text l stop c = stop.words ++ told_of_cause l c
+abbrev pub stop_text : Legend → Halted → Option Cause → Option Violated → List ℕ
+stop_text l stop c None = stop.words ++ told_of_cause l c
+stop_text l stop c (Some v) = violation_text l v
 
 -- how the run stopped where no event tells of it, behind a choice if one came last
-abbrev pub stop_row : Legend → Option Decision → Halted → Option Cause → Row
-stop_row l choice stop cause = choice_text choice ∷ process_text l stop.process ∷ line_text stop.line ∷ stop_text l stop cause ∷ []
+abbrev pub stop_row : Legend → Option Decision → Halted → Option Cause → Option Violated → Row
+stop_row l choice stop cause violation = choice_text choice ∷ process_text l stop.process ∷ line_text stop.line ∷ stop_text l stop cause violation ∷ []
 
-abbrev pub stop_rows : Legend → Option Decision → Option Halted → Option Cause → List Row
-stop_rows l choice None cause = []
-stop_rows l choice (Some stop) cause = stop_row l choice stop cause ∷ []
+abbrev pub stop_rows : Legend → Option Decision → Option Halted → Option Cause → Option Violated → List Row
+stop_rows l choice None cause violation = []
+stop_rows l choice (Some stop) cause violation = stop_row l choice stop cause violation ∷ []
 
 abbrev pub story_rows : Legend → Story → List Row
-story_rows l s = map (event_row l) s.events.items ++ stop_rows l (option_map decision_of s.last_choice) (option_map halted_seen s.stop) s.cause
+story_rows l s = map (event_row l) s.events.items ++ stop_rows l (option_map decision_of s.last_choice) (option_map halted_seen s.stop) s.cause (option_map violation_seen s.violation)
 
 -- ---- lines below the table
 

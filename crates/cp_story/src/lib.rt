@@ -2,6 +2,9 @@
 #![tactic(auto)]
 
 pub mod aim;
+pub mod annotation;
+mod annotation_objects;
+mod annotation_words;
 pub mod cause;
 mod cause_objects;
 mod cause_words;
@@ -20,12 +23,16 @@ mod stopping;
 pub mod story;
 mod tables;
 mod texts;
+mod told_variables;
 mod words;
 
 pub use aim::{Aim, NONE, aim_of};
+pub use annotation::{Annotation, Moment, Violation, violation_of_kind};
+pub use annotation_objects::put_violation;
+pub use annotation_words::{detail_line, violation_words};
 pub use cause::{Cause, cause_of_kind};
 pub use cause_objects::put_error_cause;
-pub use cause_words::{cause_line, cause_text};
+pub use cause_words::cause_text;
 pub use event::{Change, Choice, Happening, OpenCall, Queue, Returned, StoryEvent};
 pub use happening::arguments;
 pub use objects::json;

@@ -8,11 +8,13 @@ ghost use Rattle.serde_json.specs.Written.{has_float};
 ghost use Rattle.cp_legend.specs.Names.{legend_seen};
 ghost use Rattle.cp_legend.specs.Values.{member_seen, members_of, value_seen};
 ghost use Rattle.cp_run.specs.Code.{answer_of};
+ghost use Rattle.cp_story.specs.Annotations.{violation_seen};
 ghost use Rattle.cp_story.specs.Halted.{halted_seen};
 ghost use Rattle.cp_story.specs.Objects.{array_of, line_of, members_in, number_data, numbers_data, object_with, optional, text_data, with_member, with_members};
 ghost use Rattle.cp_story.specs.StoryData as spec;
 ghost use Rattle.cp_story.specs.Views.{changed_of, decision_of, given_of, happened_of, told_of, wait_of};
 
+use crate::annotation_objects::put_violation;
 use crate::cause_objects::put_error_cause;
 use crate::event::{Change, Choice, Happening, OpenCall, Returned, StoryEvent};
 use crate::story::{Story, Wait};
@@ -280,8 +282,9 @@ fn put_returned(alloc: Global, object: &mut Object, event: &StoryEvent) -> Resul
     }
 }
 
+/// What came back from a call, or variables, with their values.
 #[tactic(auto, using(crate::proofs::Arrays::seen_step, crate::proofs::Arrays::seen_none, crate::proofs::Arrays::view_more))]
-fn returned_values(alloc: Global, returned: &[Returned]) -> Result<Value, AllocError>
+pub fn returned_values(alloc: Global, returned: &[Returned]) -> Result<Value, AllocError>
     ensures { IfOk result (λ v. view v ≡ array_of (map spec.given_data (map given_of returned.now))) }
 {
     let mut items = Vec::new(alloc);
@@ -499,12 +502,13 @@ pub fn waits(alloc: Global, legend: &Legend, waits: &[Wait]) -> Result<Value, Al
 
 #[tactic(auto, using(crate::proofs::Floats::with_both))]
 fn end(alloc: Global, legend: &Legend, story: &Story) -> Result<Value, AllocError>
-    ensures { IfOk result (λ v. view v ≡ spec.end_data (legend_seen legend.now) (answer_of story.now.end) (option_map halted_seen story.now.stop) story.now.cause (option_map decision_of story.now.last_choice)) }
+    ensures { IfOk result (λ v. view v ≡ spec.end_data (legend_seen legend.now) (answer_of story.now.end) (option_map halted_seen story.now.stop) story.now.cause (option_map violation_seen story.now.violation) (option_map decision_of story.now.last_choice)) }
 {
     let mut object = Object::new(alloc);
     put_answer(alloc, &mut object, &story.end)?;
     put_stop(&mut object, story)?;
     put_error_cause(alloc, legend, &mut object, story.cause)?;
+    put_violation(alloc, legend, &mut object, &story.violation)?;
     put_choice(alloc, &mut object, &story.last_choice)?;
     Ok(object.into_value())
 }

@@ -81,8 +81,8 @@ fn result_of(routine: &LegendRoutine) -> Option<&Variable>
     routine.variables.get(routine.result?)
 }
 
-// The place that a `var` parameter names, with its value.
-fn place_of(
+/// The place that a `var` parameter of the innermost call names, with its value.
+pub fn place_of(
     alloc: Global,
     legend: &Legend,
     state: &State,

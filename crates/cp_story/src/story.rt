@@ -10,6 +10,7 @@ ghost use Rattle.cp_run.specs.Trace.{holders_in, step_lines, trace};
 ghost use Rattle.cp_story.specs.Story.{story_of, decision_in, telling, told_more, told_step};
 ghost use Rattle.cp_story.specs.Halted.{halted_seen, how_halted};
 ghost use Rattle.cp_run.specs.Stop.{numbers_left};
+ghost use Rattle.cp_story.specs.Annotations.{violation_of_run, violation_seen};
 ghost use Rattle.cp_story.specs.Causes.{cause_of_run};
 ghost use Rattle.cp_story.specs.Told.{lines_of};
 ghost use Rattle.cp_story.specs.Views.{past_of, decision_of, telling_of, told_of, wait_of};
@@ -17,6 +18,7 @@ ghost use Rattle.cp_story.specs.Waiting as waiting;
 ghost use Rattle.cp_story.specs.Waiting.{waiting_at, waits_at, waits_in, who_waits};
 
 use crate::aim::{Aim, NONE, aim_of};
+use crate::annotation::{Violation, violation_of_end};
 use crate::cause::{Cause, cause_of_end};
 use crate::event::{Choice, OpenCall, StoryEvent};
 use crate::observer::Observer;
@@ -55,6 +57,8 @@ pub struct Story {
     pub stop: Option<AbruptEnd>,
     /// What the run error is of, where it stopped with one and that is known.
     pub cause: Option<Cause>,
+    /// The annotation that is false, where it stopped with one.
+    pub violation: Option<Violation>,
     /// How many numbers of the word were not used, since the run had ended.
     pub left: usize,
     /// Who goes on after a `continue`.
@@ -300,6 +304,7 @@ pub fn tell<L: Ledger>(
     ensures answer { IfOk result (λ s. answer_of s.end ≡ run (slots program.now limits.discipline) limits.choices limits.steps word.now) }
     ensures stop { IfOk result (λ s. option_map halted_seen s.stop ≡ how_halted (legend_seen legend.now) program.now limits.discipline limits.choices limits.steps word.now) }
     ensures cause { IfOk result (λ s. s.cause ≡ cause_of_run program.now limits.discipline limits.choices limits.steps word.now) }
+    ensures violation { IfOk result (λ s. option_map violation_seen s.violation ≡ violation_of_run (legend_seen legend.now) program.now limits.discipline limits.choices limits.steps word.now) }
     ensures left { IfOk result (λ s. s.left ≡ numbers_left word.now (run (slots program.now limits.discipline) limits.choices limits.steps word.now)) }
     ensures signals { IfOk result (λ s. s.signals ≡ limits.discipline.signals) }
     ensures ticks { ticks.new ≤ ticks.old + (limits.choices + 1) * limits.steps }
@@ -323,6 +328,7 @@ pub fn tell<L: Ledger>(
     let waits = waits_of(alloc, program, &state, &observer)?;
     let stop = abrupt_end(alloc, legend, &end, observer.last, &waits)?;
     let cause = cause_of_end(program, &state, &end);
+    let violation = violation_of_end(alloc, legend, program, &state, &end)?;
     Ok(Story {
         events,
         last_choice: observer.choice,
@@ -330,6 +336,7 @@ pub fn tell<L: Ledger>(
         end,
         stop,
         cause,
+        violation,
         left,
         signals: limits.discipline.signals,
     })

@@ -2,6 +2,7 @@
 
 ghost use Rattle.std.specs.Prelude.{◌≡◌, ◌++◌, [], map, option_map, decimal, string_bytes, IfOk, OnOk};
 ghost use Rattle.cp_legend.specs.Names.{legend_seen};
+ghost use Rattle.cp_story.specs.Annotations.{violation_seen};
 ghost use Rattle.cp_story.specs.CauseText.{behind_colon};
 ghost use Rattle.cp_story.specs.Columns.{row_seen, rows_text};
 ghost use Rattle.cp_story.specs.Halted.{halted_seen};
@@ -10,6 +11,8 @@ ghost use Rattle.cp_story.specs.Sentences as sentences;
 ghost use Rattle.cp_story.specs.Text as spec;
 ghost use Rattle.cp_story.specs.Views.{changed_of, decision_of, wait_of};
 
+use crate::annotation::Violation;
+use crate::annotation_words::violation_words;
 use crate::cause::Cause;
 use crate::cause_words::cause_text;
 use crate::event::{Change, Choice, StoryEvent};
@@ -46,7 +49,14 @@ fn push_table(
 {
     let mut rows = event_rows(alloc, legend, &story.events)?;
     if let Some(stop) = &story.stop {
-        rows.push(stop_row(alloc, legend, &story.last_choice, stop, story.cause)?)?;
+        rows.push(stop_row(
+            alloc,
+            legend,
+            &story.last_choice,
+            stop,
+            story.cause,
+            &story.violation,
+        )?)?;
     }
     push_rows(alloc, text, &rows)
 }
@@ -133,13 +143,14 @@ fn stop_row(
     choice: &Option<Choice>,
     stop: &AbruptEnd,
     cause: Option<Cause>,
+    violation: &Option<Violation>,
 ) -> Result<TableRow, AllocError>
-    ensures { IfOk result (λ r. row_seen r ≡ spec.stop_row (legend_seen legend.now) (option_map decision_of choice.now) (halted_seen stop.now) cause) }
+    ensures { IfOk result (λ r. row_seen r ≡ spec.stop_row (legend_seen legend.now) (option_map decision_of choice.now) (halted_seen stop.now) cause (option_map violation_seen violation.now)) }
 {
     let choice = choice_text(alloc, choice)?;
     let process = process_text(alloc, legend, stop.process)?;
     let line = line_text(alloc, stop.line)?;
-    let words = stop_words(alloc, legend, stop, cause)?;
+    let words = stop_words(alloc, legend, stop, cause, violation)?;
     let cells = vec![in alloc; choice, process, line, words]?;
     Ok(TableRow { cells })
 }
@@ -150,8 +161,24 @@ pub fn stop_words(
     legend: &Legend,
     stop: &AbruptEnd,
     cause: Option<Cause>,
+    violation: &Option<Violation>,
 ) -> Result<String, AllocError>
-    ensures { IfOk result (λ t. string_bytes t ≡ spec.stop_text (legend_seen legend.now) (halted_seen stop.now) cause) }
+    ensures { IfOk result (λ t. string_bytes t ≡ spec.stop_text (legend_seen legend.now) (halted_seen stop.now) cause (option_map violation_seen violation.now)) }
+{
+    match violation {
+        Some(violation) => violation_words(alloc, legend, violation),
+        None => halted_words(alloc, legend, stop, cause),
+    }
+}
+
+// The same where it is no annotation.
+fn halted_words(
+    alloc: Global,
+    legend: &Legend,
+    stop: &AbruptEnd,
+    cause: Option<Cause>,
+) -> Result<String, AllocError>
+    ensures { IfOk result (λ t. string_bytes t ≡ string_bytes stop.now.words ++ spec.told_of_cause (legend_seen legend.now) cause) }
 {
     let mut text = stop.words.clone()?;
     match cause {
@@ -161,8 +188,8 @@ pub fn stop_words(
     Ok(text)
 }
 
-// Appends a text behind a colon, if there is some.
-fn push_behind_colon(text: &mut String, detail: &str) -> Result<(), AllocError>
+/// Appends a text behind a colon, if there is some.
+pub fn push_behind_colon(text: &mut String, detail: &str) -> Result<(), AllocError>
     ensures { OnOk result (string_bytes text.new ≡ string_bytes text.old ++ behind_colon detail.now) }
 {
     if detail.is_empty() {

@@ -5,6 +5,7 @@ use Rattle.cp_machine.specs.Machine.{Machine, machine_of}
 use Rattle.cp_run.specs.Run.{Answer, run}
 use Rattle.cp_run.specs.Slots.{slots}
 use Rattle.cp_run.specs.Stop.{last_state, numbers_left}
+use Rattle.cp_story.specs.Annotations.{violation_of_end}
 use Rattle.cp_story.specs.Causes.{cause_of_end}
 use Rattle.cp_story.specs.Halted.{halted_at}
 use Rattle.cp_story.specs.Story.{Telling}
@@ -44,6 +45,7 @@ returns g c =
           ∙ ap (λ (m : Machine). halted_at l answer past.last (waits_in r m past.calls)) ran.stop
           ∙ ap (λ (t : Telling). halted_at l answer t.past.last (waits_in r last t.past.calls)) whole.told;
       cause = c.cause_of_end-cause.ensures ∙ ap (cause_of_end r ended) ran.answer ∙ ap (λ (m : Machine). cause_of_end r m answer) ran.stop;
+      violation = c.in_ok-violation.ensures ∙ ap (violation_of_end l r ended) ran.answer ∙ ap (λ (m : Machine). violation_of_end l r m answer) ran.stop;
       left = c.count_left-left.ensures ∙ ap (λ (a : Answer). numbers_left word a) ran.answer;
       signals = refl;
       ticks = ran.ticks;
