@@ -3,6 +3,7 @@
 use crate::draft::spelling;
 use crate::extent::{is_adding, is_multiplying, is_relation};
 use crate::foreign::{instead_of, is_start};
+use crate::further_up::is_real;
 use crate::place::has_comment_before;
 use crate::rules::mark_before;
 use crate::teller::Teller;
@@ -37,20 +38,20 @@ fn is_after_string(teller: &mut Teller) -> bool {
 }
 
 // Of signs that other languages have.
-fn sign_advice(teller: &Teller) -> &'static str {
+fn sign_advice(teller: &mut Teller) -> &'static str {
     let mark = teller.mark();
-    match (
-        back(teller, 1),
-        mark,
-        teller.mark_at(teller.at.saturating_add(1)),
-    ) {
+    let is_statement = teller.takes(":=");
+    let next = teller.at.saturating_add(1);
+    match (back(teller, 1), mark, teller.mark_at(next)) {
         (_, Some(Mark::OpenParenthesis), Some(Mark::Times))
         | (Some(Mark::OpenParenthesis), Some(Mark::Times), _) =>
             ": comments stand between double quotes",
         (Some(Mark::Equal), Some(Mark::Equal), _) => ": write =",
         (Some(Mark::And), Some(Mark::And), _) => ": write and",
-        (_, Some(Mark::Plus), Some(Mark::Plus | Mark::Equal)) => ": write x := x + 1",
-        (_, Some(Mark::Minus), Some(Mark::Minus | Mark::Equal)) => ": write x := x - 1",
+        (_, Some(Mark::Plus), Some(Mark::Plus | Mark::Equal)) if is_statement =>
+            ": write x := x + 1",
+        (_, Some(Mark::Minus), Some(Mark::Minus | Mark::Equal)) if is_statement =>
+            ": write x := x - 1",
         (Some(Mark::OpenParenthesis), Some(Mark::CloseParenthesis), _) =>
             ": a call without arguments has no parentheses",
         _ => "",
@@ -66,6 +67,12 @@ fn mark_advice(teller: &mut Teller, mark: Mark) -> &'static str {
     }
     if is_relation(Some(mark)) {
         return relation_advice(teller);
+    }
+    if matches!(mark, Mark::Plus | Mark::Minus) && teller.takes("not") {
+        return ": a sign stands first in an expression alone, as in 1 + (-2)";
+    }
+    if matches!(mark, Mark::Const | Mark::Type | Mark::Var) && teller.takes("while") {
+        return ": constants, types and variables are declared before begin";
     }
     if mark == Mark::Comma && teller.takes("]") {
         return ": where two indices are meant, write a[1][2], and array [1..2] of array [1..2] of ..";
@@ -136,7 +143,7 @@ fn place_advice(teller: &Teller, mark: Mark) -> &'static str {
         Mark::Invariant => {
             ": invariants stand in a class or a monitor, behind its declarations and before its routines"
         }
-        Mark::Period if back(teller, 1).is_none() => ": there are no real numbers",
+        Mark::Period if is_real(teller) => ": there are no real numbers",
         _ => "",
     }
 }
@@ -154,8 +161,10 @@ fn is_in_constant(teller: &Teller) -> bool {
 }
 
 // Whether it stands after the type of a variable, as if to give it a value.
-fn is_initial_value(teller: &Teller, mark: Mark) -> bool {
-    matches!(mark, Mark::Equal | Mark::Becomes) && back(teller, 2) == Some(Mark::Colon)
+fn is_initial_value(teller: &mut Teller, mark: Mark) -> bool {
+    matches!(mark, Mark::Equal | Mark::Becomes)
+        && back(teller, 2) == Some(Mark::Colon)
+        && !teller.takes(":=")
 }
 
 // Whether it stands among the parameters of a system type.

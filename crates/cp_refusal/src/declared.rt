@@ -1,58 +1,93 @@
 //! The declarations of a program, and what a name stands for at a place of it.
 
-use crate::extent::{Extent, after_index, between, body_extent, single};
-use crate::rules::{mark_at, name_at};
-use cp_text::{Mark, Tokens};
+use crate::extent::{Extent, between, body_extent, definition_end};
+use crate::rules::name_at;
+use crate::types::ValueType;
+use cp_text::Tokens;
 use cp_tree::{
-    ConstantDefinition, Definition, Group, Identifier, Part, PartKind, Program, ProgramPartKind,
-    Routine, RoutineKind, SimpleKind, System, SystemDefinition, Type, TypeKind, VariableGroup,
+    Body, Constant, ConstantDefinition, Definition, FieldGroup, Group, Identifier, Part, PartKind,
+    Program, ProgramPartKind, Routine, RoutineKind, Simple, SimpleKind, System, SystemDefinition,
+    Type, TypeKind, VariableGroup,
 };
 use std::alloc::{AllocError, Global};
 
 /// What a name was declared as.
-#[derive(Clone, Copy, PartialEq, Eq)]
-pub enum Declared {
-    Constant,
-    Type,
-    Variable,
-    /// A parameter without `var`.
-    Parameter,
-    VarParameter,
-    Procedure,
-    Function,
+#[derive(Clone, Copy)]
+pub enum Declared<'a> {
+    Constant(&'a Constant),
+    /// A constant of the enumeration that is written at this token.
+    Member(usize),
+    Type(&'a Type),
+    System,
+    Variable(&'a Type),
+    /// A parameter without `var`, with the name of its type.
+    Parameter(&'a Identifier),
+    VarParameter(&'a Identifier),
+    Routine(&'a Routine),
+}
+
+impl<'a> Declared<'a> {
+    /// The name of the type of a parameter or a function's result.
+    pub fn type_name(self) -> Option<&'a Identifier> {
+        match self {
+            Declared::Parameter(name) | Declared::VarParameter(name) => Some(name),
+            Declared::Routine(routine) => match &routine.kind {
+                RoutineKind::Function(_, result) => Some(result),
+                _ => None,
+            },
+            _ => None,
+        }
+    }
+
+    /// Whether a system type sees it where it is the program's.
+    fn is_open(self) -> bool {
+        !matches!(self, Declared::Variable(_) | Declared::Routine(_))
+    }
 }
 
 /// A declaration of a name.
 #[derive(Clone, Copy, Drop)]
 pub struct Declaration<'a> {
     pub name: &'a str,
-    pub what: Declared,
+    pub what: Declared<'a>,
     /// The number of the token that it names.
     pub at: usize,
     /// The name of the system type that it is in; empty in the program.
     pub owner: &'a str,
     /// The name of the routine that it is in; empty outside of routines.
     pub routine: &'a str,
-    /// The number of the token that ends its block.
-    end: usize,
-    /// The name of its type, or of the type of its elements; empty where that has none. That of a system type is its own.
-    type_name: &'a str,
+    /// The numbers of the token from which on it is visible, and of the one that ends its block.
+    seen: Extent,
     /// The body of a routine or a system type.
     pub body: Extent,
 }
 
 impl<'a> Declaration<'a> {
     pub fn is_routine(&self) -> bool {
-        matches!(self.what, Declared::Procedure | Declared::Function)
+        matches!(self.what, Declared::Routine(_))
     }
 
-    pub fn is_parameter(&self) -> bool {
-        matches!(self.what, Declared::Parameter | Declared::VarParameter)
-    }
-
-    /// Whether it is a type with a body.
     pub fn is_system_type(&self) -> bool {
-        self.what == Declared::Type && self.body.to > 0
+        matches!(self.what, Declared::System)
+    }
+
+    /// Whether it is a parameter with `var`.
+    pub fn is_var(&self) -> bool {
+        matches!(self.what, Declared::VarParameter(_))
+    }
+
+    /// Whether it is a parameter of a routine or a system type.
+    fn is_parameter_of(&self, called: Declaration) -> bool {
+        let (owner, routine) = if called.is_system_type() {
+            (called.name, "")
+        } else {
+            (called.owner, called.name)
+        };
+        matches!(
+            self.what,
+            Declared::Parameter(_) | Declared::VarParameter(_)
+        ) && self.owner == owner
+            && self.routine == routine
     }
 
     /// Whether it is a routine of a system type.
@@ -60,85 +95,40 @@ impl<'a> Declaration<'a> {
         self.is_routine() && !owner.is_empty() && self.owner == owner
     }
 
+    /// Whether it is a variable of a system type or of the program, and not of a routine there.
+    pub fn is_permanent(&self) -> bool {
+        matches!(self.what, Declared::Variable(_)) && self.routine.is_empty()
+    }
+
     /// Whether it is a variable or a parameter of a system type or of the program, and not of a routine there.
     fn is_component_of(&self, owner: &str) -> bool {
-        matches!(self.what, Declared::Variable | Declared::Parameter)
+        (self.is_permanent() || matches!(self.what, Declared::Parameter(_)))
             && self.owner == owner
             && self.routine.is_empty()
     }
-
-    /// The same with another name.
-    fn named(self, name: &'a Identifier) -> Declaration<'a> {
-        Declaration {
-            name: name.name.as_str(),
-            at: name.at,
-            ..self
-        }
-    }
-
-    /// The same in its block, but of this kind and type.
-    fn with(self, what: Declared, type_name: &'a str) -> Declaration<'a> {
-        Declaration {
-            what,
-            type_name,
-            ..self
-        }
-    }
 }
 
-/// The name of a type; empty where it has none.
-fn name_of(written: &Type) -> &str {
-    match &written.kind {
-        TypeKind::Simple(simple) => match &simple.kind {
-            SimpleKind::Name(name) => name.as_str(),
-            _ => "",
-        },
-        _ => "",
-    }
-}
-
-/// The name of a type, or of an array's elements; empty where they have none.
-fn element_name(written: &Type) -> &str {
-    match &written.kind {
-        TypeKind::Array(_, element) => name_of(element),
-        _ => name_of(written),
-    }
-}
-
-/// The tokens of a name, or of a component and its routine, and what they stand for.
+/// A block in which names are declared, and the number of the token that ends it.
 #[derive(Clone, Copy)]
-pub struct Called {
-    pub what: Declared,
-    pub tokens: Extent,
+struct Block<'a> {
+    owner: &'a str,
+    routine: &'a str,
+    end: usize,
 }
 
-/// The routines and types that the language itself declares.
-const PROCEDURES: [&str; 3] = ["display", "delay", "continue"];
-
-const FUNCTIONS: [&str; 6] = ["abs", "chr", "empty", "ord", "pred", "succ"];
-
-const TYPES: [&str; 4] = ["boolean", "char", "integer", "queue"];
-
-/// What the language itself declares by a name.
-pub fn predeclared(name: &str) -> Option<Declared> {
-    if PROCEDURES.contains(&name) {
-        Some(Declared::Procedure)
-    } else if FUNCTIONS.contains(&name) {
-        Some(Declared::Function)
-    } else if TYPES.contains(&name) {
-        Some(Declared::Type)
-    } else {
-        None
-    }
+/// A body, and the routine whose body it is, where it is that of one.
+#[derive(Clone, Copy, Drop)]
+pub struct OwnedBody<'a> {
+    pub body: &'a Body,
+    pub routine: Option<&'a Routine>,
 }
 
-/// The declarations of a program, in the order of its text, but for fields of records and constants of enumerations.
+/// The declarations of a program, in the order of its text, but for fields of records.
 #[derive(Drop)]
 pub struct Declarations<'a> {
-    tokens: &'a Tokens,
+    pub tokens: &'a Tokens,
     pub all: Vec<Declaration<'a>>,
-    /// Those of types of the program itself.
-    pub types: Vec<Declaration<'a>>,
+    bodies: Vec<OwnedBody<'a>>,
     /// The body of the program itself.
     body: Extent,
 }
@@ -152,7 +142,7 @@ impl<'a> Declarations<'a> {
         let mut declarations = Declarations {
             tokens,
             all: Vec::new(alloc),
-            types: Vec::new(alloc),
+            bodies: Vec::new(alloc),
             body: body_extent(tokens, &program.body),
         };
         declarations.add_program(program)?;
@@ -160,15 +150,10 @@ impl<'a> Declarations<'a> {
     }
 
     fn add_program(&mut self, program: &'a Program) -> Result<(), AllocError> {
-        let block = Declaration {
-            name: "",
-            what: Declared::Constant,
-            at: 0,
+        let block = Block {
             owner: "",
             routine: "",
             end: self.tokens.count(),
-            type_name: "",
-            body: between(0, 0),
         };
         for part in &program.parts {
             match &part.kind {
@@ -177,94 +162,101 @@ impl<'a> Declarations<'a> {
                 ProgramPartKind::Variables(groups) => self.add_variables(groups, block)?,
             }
         }
-        self.add_routines(&program.routines, block)
+        self.add_routines(&program.routines, block)?;
+        self.add_body(&program.body, None)
+    }
+
+    fn add_body(&mut self, body: &'a Body, routine: Option<&'a Routine>) -> Result<(), AllocError> {
+        self.bodies.push(OwnedBody { body, routine })?;
+        Ok(())
     }
 
     fn add_definitions(
         &mut self,
         all: &'a [SystemDefinition],
-        block: Declaration<'a>,
+        block: Block<'a>,
     ) -> Result<(), AllocError> {
         for one in all {
             match &one.value {
-                Definition::Type(written) => {
-                    let outer = block.with(Declared::Type, element_name(written));
-                    self.types.push(outer.named(&one.name))?;
-                    self.add(&one.name, outer)?;
-                }
+                Definition::Type(written) => self.add_type(&one.name, written, block)?,
                 Definition::System(system) => self.add_system(&one.name, system, block)?,
             }
         }
         Ok(())
     }
 
+    fn add_type(
+        &mut self,
+        name: &'a Identifier,
+        written: &'a Type,
+        block: Block<'a>,
+    ) -> Result<(), AllocError> {
+        self.add_members(written, block)?;
+        let from = definition_end(self.tokens, name.at);
+        self.add(name, Declared::Type(written), from, block)
+    }
+
     fn add_system(
         &mut self,
         name: &'a Identifier,
         system: &'a System,
-        block: Declaration<'a>,
+        block: Block<'a>,
     ) -> Result<(), AllocError> {
-        let owner = name.name.as_str();
         let body = body_extent(self.tokens, &system.body);
-        let outer = Declaration {
-            body,
-            ..block.with(Declared::Type, owner)
-        };
-        let inner = Declaration {
-            owner,
+        let inner = Block {
+            owner: name.name.as_str(),
             end: body.to,
             ..block
         };
-        self.types.push(outer.named(name))?;
-        self.add(name, outer)?;
+        self.add_with(name, Declared::System, body.to, block, body)?;
         self.add_groups(&system.parameters, inner)?;
         self.add_parts(&system.parts, inner)?;
-        self.add_routines(&system.routines, inner)
+        self.add_routines(&system.routines, inner)?;
+        self.add_body(&system.body, None)
     }
 
     fn add_routines(
         &mut self,
         routines: &'a [Routine],
-        block: Declaration<'a>,
+        block: Block<'a>,
     ) -> Result<(), AllocError> {
         for routine in routines {
-            let body = body_extent(self.tokens, &routine.body);
-            let outer = Declaration { body, ..block };
-            let inner = Declaration {
-                routine: routine.name.name.as_str(),
-                end: body.to,
-                ..block
-            };
-            match &routine.kind {
-                RoutineKind::Procedure(groups) => {
-                    self.add(&routine.name, outer.with(Declared::Procedure, ""))?;
-                    for one in groups {
-                        let what = if one.is_var {
-                            Declared::VarParameter
-                        } else {
-                            Declared::Parameter
-                        };
-                        self.add_names(&one.group.names, inner.with(what, ""))?;
-                    }
-                }
-                RoutineKind::Function(groups, _) => {
-                    self.add(&routine.name, outer.with(Declared::Function, ""))?;
-                    self.add_groups(groups, inner)?;
-                }
-                RoutineKind::Invariants => {}
+            if !matches!(routine.kind, RoutineKind::Invariants) {
+                self.add_routine(routine, block)?;
             }
-            self.add_parts(&routine.parts, inner)?;
+            self.add_body(&routine.body, Some(routine))?;
         }
         Ok(())
     }
 
-    fn add_parts(&mut self, parts: &'a [Part], block: Declaration<'a>) -> Result<(), AllocError> {
+    fn add_routine(&mut self, routine: &'a Routine, block: Block<'a>) -> Result<(), AllocError> {
+        let body = body_extent(self.tokens, &routine.body);
+        let inner = Block {
+            routine: routine.name.name.as_str(),
+            end: body.to,
+            ..block
+        };
+        let from = after_heading(routine);
+        self.add_with(&routine.name, Declared::Routine(routine), from, block, body)?;
+        match &routine.kind {
+            RoutineKind::Procedure(groups) => {
+                for one in groups {
+                    self.add_group(&one.group, one.is_var, inner)?;
+                }
+            }
+            RoutineKind::Function(groups, _) => self.add_groups(groups, inner)?,
+            RoutineKind::Invariants => {}
+        }
+        self.add_parts(&routine.parts, inner)
+    }
+
+    fn add_parts(&mut self, parts: &'a [Part], block: Block<'a>) -> Result<(), AllocError> {
         for part in parts {
             match &part.kind {
                 PartKind::Constants(all) => self.add_constants(all, block)?,
                 PartKind::Types(all) => {
                     for one in all {
-                        self.add(&one.name, block.with(Declared::Type, ""))?;
+                        self.add_type(&one.name, &one.value, block)?;
                     }
                 }
                 PartKind::Variables(groups) => self.add_variables(groups, block)?,
@@ -276,10 +268,11 @@ impl<'a> Declarations<'a> {
     fn add_constants(
         &mut self,
         all: &'a [ConstantDefinition],
-        block: Declaration<'a>,
+        block: Block<'a>,
     ) -> Result<(), AllocError> {
         for one in all {
-            self.add(&one.name, block.with(Declared::Constant, ""))?;
+            let from = definition_end(self.tokens, one.name.at);
+            self.add(&one.name, Declared::Constant(&one.value), from, block)?;
         }
         Ok(())
     }
@@ -287,56 +280,123 @@ impl<'a> Declarations<'a> {
     fn add_variables(
         &mut self,
         groups: &'a [VariableGroup],
-        block: Declaration<'a>,
+        block: Block<'a>,
     ) -> Result<(), AllocError> {
         for group in groups {
-            let type_name = element_name(&group.variable_type);
-            self.add_names(&group.names, block.with(Declared::Variable, type_name))?;
+            let written = &group.variable_type;
+            self.add_members(written, block)?;
+            let from = definition_end(self.tokens, written.at);
+            for name in &group.names {
+                self.add(name, Declared::Variable(written), from, block)?;
+            }
         }
         Ok(())
     }
 
-    fn add_groups(
+    fn add_groups(&mut self, groups: &'a [Group], block: Block<'a>) -> Result<(), AllocError> {
+        for group in groups {
+            self.add_group(group, false, block)?;
+        }
+        Ok(())
+    }
+
+    fn add_group(
         &mut self,
-        groups: &'a [Group],
-        block: Declaration<'a>,
+        group: &'a Group,
+        is_var: bool,
+        block: Block<'a>,
+    ) -> Result<(), AllocError> {
+        let written = &group.type_name;
+        let what = if is_var {
+            Declared::VarParameter(written)
+        } else {
+            Declared::Parameter(written)
+        };
+        for name in &group.names {
+            self.add(name, what, written.at.saturating_add(1), block)?;
+        }
+        Ok(())
+    }
+
+    /// Adds the constants of the enumerations that are written in a type.
+    #[cycle(types)]
+    fn add_members(&mut self, written: &'a Type, block: Block<'a>) -> Result<(), AllocError> {
+        match &written.kind {
+            TypeKind::Simple(simple) => self.add_enumeration(simple, block),
+            TypeKind::Array(index, element) => {
+                self.add_enumeration(index, block)?;
+                self.add_members(element, block)
+            }
+            TypeKind::Set(base) => self.add_enumeration(base, block),
+            TypeKind::Record(groups, _) => self.add_members_of_fields(groups, block),
+        }
+    }
+
+    #[cycle(types)]
+    fn add_members_of_fields(
+        &mut self,
+        groups: &'a [FieldGroup],
+        block: Block<'a>,
     ) -> Result<(), AllocError> {
         for group in groups {
-            let type_name = group.type_name.name.as_str();
-            self.add_names(&group.names, block.with(Declared::Parameter, type_name))?;
+            self.add_members(&group.field_type, block)?;
         }
         Ok(())
     }
 
-    fn add_names(
+    fn add_enumeration(&mut self, written: &'a Simple, block: Block<'a>) -> Result<(), AllocError> {
+        if let SimpleKind::Enumeration(names) = &written.kind {
+            for name in names {
+                let from = name.at.saturating_add(1);
+                self.add(name, Declared::Member(written.at), from, block)?;
+            }
+        }
+        Ok(())
+    }
+
+    fn add(
         &mut self,
-        names: &'a [Identifier],
-        one: Declaration<'a>,
+        name: &'a Identifier,
+        what: Declared<'a>,
+        from: usize,
+        block: Block<'a>,
     ) -> Result<(), AllocError> {
-        for name in names {
-            self.add(name, one)?;
-        }
+        self.add_with(name, what, from, block, between(0, 0))
+    }
+
+    fn add_with(
+        &mut self,
+        name: &'a Identifier,
+        what: Declared<'a>,
+        from: usize,
+        block: Block<'a>,
+        body: Extent,
+    ) -> Result<(), AllocError> {
+        self.all.push(Declaration {
+            name: name.name.as_str(),
+            what,
+            at: name.at,
+            owner: block.owner,
+            routine: block.routine,
+            seen: between(from, block.end),
+            body,
+        })?;
         Ok(())
     }
 
-    fn add(&mut self, name: &'a Identifier, one: Declaration<'a>) -> Result<(), AllocError> {
-        self.all.push(one.named(name))?;
-        Ok(())
-    }
-
-    /// The innermost declaration of a name before a place; none where it is not declared, or is a constant of an enumeration.
+    /// The innermost declaration of a name that is visible at a place; none where the language itself declares it.
     pub fn find(&self, name: &str, at: usize) -> Option<Declaration<'a>> {
+        let owner = self.owner_at(at);
         for one in self.all.iter().rev() {
-            if one.name == name && one.at < at && at < one.end {
+            if one.name == name
+                && one.seen.from <= at
+                && at < one.seen.to
+                && (one.owner == owner || one.what.is_open())
+            {
                 return Some(*one);
             }
         }
         None
-    }
-
-    /// What a name stands for at a place.
-    pub fn meaning(&self, name: &str, at: usize) -> Option<Declared> {
-        Some(self.find(name, at)?.what)
     }
 
     /// Whether a name is declared in some block, be it visible or not.
@@ -349,58 +409,33 @@ impl<'a> Declarations<'a> {
         false
     }
 
-    /// How many parameters the only routine with a name has; none where it is not the only one.
-    pub fn parameters_of(&self, name: &str) -> Option<usize> {
-        let mut routines: usize = 0;
-        let mut parameters: usize = 0;
+    /// The system type with a name.
+    pub fn system_type(&self, name: &str) -> Option<Declaration<'a>> {
         for one in &self.all {
-            if one.is_routine() && one.name == name {
-                routines = routines.saturating_add(1);
-            }
-            if one.is_parameter() && one.routine == name {
-                parameters = parameters.saturating_add(1);
-            }
-        }
-        if routines == 1 {
-            Some(parameters)
-        } else {
-            None
-        }
-    }
-
-    /// The type with a name that the program itself declares.
-    fn type_named(&self, name: &str) -> Option<Declaration<'a>> {
-        for one in &self.types {
-            if one.name == name {
+            if one.is_system_type() && one.name == name {
                 return Some(*one);
             }
         }
         None
     }
 
-    /// The system type with a name.
-    pub fn system_type(&self, name: &str) -> Option<Declaration<'a>> {
-        let found = self.type_named(name)?;
-        if found.is_system_type() {
-            Some(found)
-        } else {
-            None
-        }
-    }
-
     /// The body of the system type with a name, or that of the program where the name is empty.
     pub fn body_of(&self, owner: &str) -> Extent {
-        match self.type_named(owner) {
+        match self.system_type(owner) {
             Some(system) => system.body,
             None => self.body,
         }
     }
 
-    /// The name of the type of a variable or of its elements, or of a parameter.
-    pub fn type_of(&self, one: &Declaration<'a>) -> &'a str {
-        match self.type_named(one.type_name) {
-            Some(found) if one.what == Declared::Variable => found.type_name,
-            _ => one.type_name,
+    /// The name of the system type of a variable or of its elements, or of a parameter; empty where it has none.
+    pub fn component_of(&self, one: &Declaration<'a>) -> &'a str {
+        let value_type = match self.type_of_declared(one.what) {
+            Some(ValueType::Array(_, element)) => self.type_of(element),
+            other => other,
+        };
+        match value_type {
+            Some(ValueType::Component(name)) => name,
+            _ => "",
         }
     }
 
@@ -408,55 +443,82 @@ impl<'a> Declarations<'a> {
     pub fn component_type(&self, owner: &str, name: &str) -> Option<&'a str> {
         for one in &self.all {
             if one.is_component_of(owner) && one.name == name {
-                return Some(self.type_of(one));
+                return Some(self.component_of(one));
             }
         }
         None
     }
 
+    /// The routine of a system type with a name.
+    pub fn routine_of(&self, owner: &str, name: &str) -> Option<Declaration<'a>> {
+        for one in &self.all {
+            if one.is_routine_of(owner) && one.name == name {
+                return Some(*one);
+            }
+        }
+        None
+    }
+
+    /// The parameter of a routine or a system type before which so many stand.
+    pub fn parameter(&self, called: Declaration<'a>, number: usize) -> Option<Declaration<'a>> {
+        let mut left = number;
+        for one in &self.all {
+            if one.is_parameter_of(called) {
+                if left == 0 {
+                    return Some(*one);
+                }
+                left = left.saturating_sub(1);
+            }
+        }
+        None
+    }
+
+    /// How many parameters a routine or a system type has.
+    pub fn parameters(&self, called: Declaration<'a>) -> usize {
+        let mut count: usize = 0;
+        for one in &self.all {
+            if one.is_parameter_of(called) {
+                count = count.saturating_add(1);
+            }
+        }
+        count
+    }
+
     /// The name of the system type that a token is in; empty in the program.
     fn owner_at(&self, at: usize) -> &'a str {
-        for one in &self.types {
-            if one.at <= at && at < one.body.to {
+        for one in &self.all {
+            if one.is_system_type() && one.at <= at && at < one.body.to {
                 return one.name;
             }
         }
         ""
     }
 
-    // What a routine of a component is.
-    fn routine_at(&self, at: usize, name: &str) -> Option<Declared> {
-        let owner = self.component_type(self.owner_at(at), name_at(self.tokens, at))?;
-        for one in &self.all {
-            if one.is_routine_of(owner) && one.name == name {
-                return Some(one.what);
+    /// The last body that begins before a token or at it.
+    pub fn body_before(&self, at: usize) -> Option<OwnedBody<'a>> {
+        for one in self.bodies.iter().rev() {
+            if one.body.at <= at {
+                return Some(*one);
             }
         }
         None
-    }
-
-    /// What the name at a token stands for, or the routine of the component that it names.
-    pub fn find_called(&self, at: usize) -> Option<Called> {
-        let period = after_index(self.tokens, at);
-        if mark_at(self.tokens, period) == Some(Mark::Period) {
-            let routine = period.saturating_add(1);
-            let what = self.routine_at(at, name_at(self.tokens, routine))?;
-            let tokens = between(at, routine.saturating_add(1));
-            return Some(Called { what, tokens });
-        }
-        if period != at.saturating_add(1) {
-            return None;
-        }
-        let name = name_at(self.tokens, at);
-        let what = self.meaning(name, at).or(predeclared(name))?;
-        Some(Called {
-            what,
-            tokens: single(at),
-        })
     }
 
     /// Whether the name at a token is that of the language's own routine.
     pub fn is_standard(&self, at: usize, routine: &str) -> bool {
         name_at(self.tokens, at) == routine && self.find(routine, at).is_none()
     }
+}
+
+/// The number of a token in the heading of a routine behind which no name stands in it.
+fn after_heading(routine: &Routine) -> usize {
+    let last = match &routine.kind {
+        RoutineKind::Function(_, result) => result.at,
+        RoutineKind::Procedure(groups) => match groups.last() {
+            Some(one) => one.group.type_name.at,
+            None => routine.name.at,
+        },
+        RoutineKind::Invariants => routine.at,
+    };
+    last.saturating_add(1)
 }

@@ -1,9 +1,10 @@
 //! What is missing further up than where the parser notices it.
 
+use crate::extent::closing;
 use crate::page::are_on_one_line;
 use crate::rules::is_mark_of;
 use crate::teller::Teller;
-use cp_text::{Mark, Tokens};
+use cp_text::{Kind, Mark, Tokens};
 
 /// What is missing, and the number of the token that shows it.
 #[derive(Clone, Copy)]
@@ -20,13 +21,44 @@ pub fn what_is_missing(teller: &mut Teller) -> Missing {
     if let Some(before) = line_without_semicolon(teller) {
         return Missing::Semicolon(before);
     }
-    if !is_after_a_block(teller) || !teller.takes("end") {
+    if is_real(teller) || !is_after_a_block(teller) || !teller.takes("end") {
         return Missing::Nothing;
     }
     match open_before(teller.tokens, teller.at) {
-        Some(open) => Missing::End(open),
-        None => Missing::Nothing,
+        Some(open) if is_never_closed(teller.tokens, open) => Missing::End(open),
+        _ => Missing::Nothing,
     }
+}
+
+/// Whether the token is a period between two numbers.
+pub fn is_real(teller: &Teller) -> bool {
+    let (before, after) = (teller.at.checked_sub(1), teller.at.saturating_add(1));
+    teller.mark() == Some(Mark::Period)
+        && is_number(teller.tokens, before)
+        && is_number(teller.tokens, Some(after))
+}
+
+fn is_number(tokens: &Tokens, at: Option<usize>) -> bool {
+    match at {
+        Some(at) => matches!(tokens.get(at), Some(Kind::Number(_))),
+        None => false,
+    }
+}
+
+/// What an `end` or `until` closes.
+const OPENING: [Mark; 5] = [
+    Mark::Begin,
+    Mark::Case,
+    Mark::Cycle,
+    Mark::Record,
+    Mark::Repeat,
+];
+
+const CLOSING: [Mark; 2] = [Mark::End, Mark::Until];
+
+// Whether more is opened than closed from a word on that opens something.
+fn is_never_closed(tokens: &Tokens, open: usize) -> bool {
+    closing(tokens, open, &OPENING, &CLOSING) >= tokens.count()
 }
 
 /// What a declaration or a routine begins with, apart from a name.
@@ -80,18 +112,11 @@ fn line_without_semicolon(teller: &mut Teller) -> Option<usize> {
 
 // The innermost word before a token that is open there.
 fn open_before(tokens: &Tokens, at: usize) -> Option<usize> {
-    let opening = [
-        Mark::Begin,
-        Mark::Case,
-        Mark::Cycle,
-        Mark::Record,
-        Mark::Repeat,
-    ];
     let mut closed: usize = 0;
     for place in (0..at).rev() {
-        if is_mark_of(tokens, place, &[Mark::End, Mark::Until]) {
+        if is_mark_of(tokens, place, &CLOSING) {
             closed = closed.saturating_add(1);
-        } else if is_mark_of(tokens, place, &opening) {
+        } else if is_mark_of(tokens, place, &OPENING) {
             if closed == 0 {
                 return Some(place);
             }

@@ -2,30 +2,31 @@
 #![tactic(auto)]
 
 mod advice;
+mod calls;
 mod candidates;
-mod changes;
 mod characters;
-mod counts;
 mod declared;
-mod disagree;
 mod draft;
 mod explain;
 mod extent;
 mod foreign;
 mod further_up;
 mod hints;
+mod judging;
 mod looking_again;
 mod nearly;
+mod operations;
 mod page;
 mod place;
 mod report;
 mod rules;
-mod sorts;
+mod saying;
 mod spelling;
 mod starts;
+mod statements;
 mod teller;
+mod types;
 mod waits;
-mod wanted;
 
 pub use explain::refusal;
 pub use place::ByteRange;

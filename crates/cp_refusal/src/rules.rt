@@ -3,18 +3,14 @@
 ghost use Rattle.std.specs.Prelude.{◌≡◌};
 ghost use Rattle.cp_refusal.specs.Explaining.{rule_code};
 
-use crate::changes::put_unchangeable;
-use crate::counts::put_counts;
-use crate::declared::{Declarations, Declared};
-use crate::disagree::put_disagreement;
-use crate::extent::{designator_at, expression_at, is_adding, is_multiplying, is_relation, single};
+use crate::declared::Declarations;
+use crate::extent::{Extent, between, single};
 use crate::foreign::{instead_of, is_start};
+use crate::judging::Judging;
 use crate::page::line_number;
 use crate::place::{Sought, find};
-use crate::sorts::Sort;
 use crate::spelling::similar_declaration;
 use crate::teller::Teller;
-use crate::wanted::QUEUE_ROUTINES;
 use cp_scope::Rule;
 use cp_text::{Kind, Mark, Tokens};
 use cp_tree::Program;
@@ -52,39 +48,24 @@ pub fn is_mark_of(tokens: &Tokens, at: usize, marks: &[Mark]) -> bool {
     }
 }
 
-/// What does not agree in a construct, by the word or sign that begins it.
+/// What does not agree in a declaration, by the word or sign that begins the construct and what stands around it.
 fn disagreement(tokens: &Tokens, at: usize) -> &'static str {
+    let behind = behind_constant(tokens, at);
     match mark_at(tokens, at) {
-        Some(Mark::If | Mark::While) => ": its condition is not boolean",
-        Some(Mark::Repeat) => ": the condition after its until is not boolean",
-        Some(Mark::For) => ": its variable is not ordinal, or a bound is of another type",
-        Some(Mark::Case) => ": its selector is not ordinal, or a label is of another type",
         Some(Mark::Function) => ": its result may not be an array, a record or a set",
         Some(Mark::Array) => ": its index type is not ordinal",
-        Some(Mark::Not) => " takes a boolean",
-        Some(Mark::OpenBracket) => ": the elements of a set have to be ordinal and of one type",
+        _ if mark_at(tokens, behind) == Some(Mark::DoublePeriod) =>
+            ": the bounds of a subrange have to be ordinal and of one type",
+        _ if mark_before(tokens, at) == Some(Mark::Of) => ": the base of a set is ordinal",
         Some(Mark::Plus | Mark::Minus) => ": a sign takes an integer",
-        _ => disagreement_after(tokens, at),
+        _ => " begins what does not agree in its types",
     }
 }
 
-/// What does not agree in a construct, by what stands after the name, the number or the character that begins it.
-fn disagreement_after(tokens: &Tokens, at: usize) -> &'static str {
-    let after = mark_at(tokens, designator_at(tokens, at).to);
-    match after {
-        Some(Mark::Becomes) => ": the two sides of this assignment are of different types",
-        Some(Mark::DoublePeriod) => ": the bounds of a subrange have to be ordinal and of one type",
-        Some(Mark::Semicolon | Mark::End | Mark::Else | Mark::Until) =>
-            ": only a procedure can be called so",
-        Some(Mark::OpenParenthesis) if QUEUE_ROUTINES.contains(&name_at(tokens, at)) =>
-            " takes one queue variable",
-        Some(Mark::OpenParenthesis) =>
-            ": it can't be called so, or an argument is of another type than its parameter",
-        _ if is_relation(after) => ": the two sides of this comparison are of different types",
-        _ if is_adding(after) || is_multiplying(after) =>
-            ": an operand of this operation is of the wrong type",
-        _ => " is used as what it is not: its type does not agree",
-    }
+/// The number of the token behind the constant at this number.
+fn behind_constant(tokens: &Tokens, at: usize) -> usize {
+    let is_signed = is_mark_of(tokens, at, &[Mark::Plus, Mark::Minus]);
+    at.saturating_add(if is_signed { 2 } else { 1 })
 }
 
 fn wrong_entry(tokens: &Tokens, at: usize) -> &'static str {
@@ -97,10 +78,10 @@ fn wrong_entry(tokens: &Tokens, at: usize) -> &'static str {
     }
 }
 
-fn wrong_wait(name: &str) -> &'static str {
-    if name == "delay" {
+fn wrong_wait(declarations: &Declarations, at: usize) -> &'static str {
+    if declarations.is_standard(at, "delay") {
         " stands only in the routines of a monitor"
-    } else if name == "continue" {
+    } else if declarations.is_standard(at, "continue") {
         " stands only in the body of an entry procedure of a monitor"
     } else {
         " leads to a delay, and an initial statement may not wait: nobody could come in to wake it"
@@ -136,18 +117,19 @@ const COMPLAINTS: [&str; 22] = [
     " stands only in the initial statement of the program or of a system type",
     " is no component variable of this block, so that init can't start it",
     " begins a subrange whose upper bound is below its lower bound",
-    " comes twice among the labels of this case",
+    " has the value of an earlier label of this case",
     "",
     " is an array, a record or a set",
     " is called in an annotation, which may call no routine of the program, so that it changes nothing",
 ];
 
 /// What is wrong with the token of this number, after its spelling.
-fn complaint(tokens: &Tokens, at: usize, rule: Rule) -> &'static str {
+fn complaint(declarations: &Declarations, at: usize, rule: Rule) -> &'static str {
+    let tokens = declarations.tokens;
     match rule {
         Rule::C5 => disagreement(tokens, at),
         Rule::C9 => wrong_entry(tokens, at),
-        Rule::C12 => wrong_wait(name_at(tokens, at)),
+        Rule::C12 => wrong_wait(declarations, at),
         Rule::C20 => too_large(tokens, at),
         _ => COMPLAINTS[rule as usize],
     }
@@ -175,35 +157,54 @@ pub struct Broken<'a> {
 }
 
 /// One sentence on the rule that is broken at a token.
-pub fn sentence(
+pub fn sentence<'a>(
     alloc: Global,
-    source: &[u8],
-    tokens: &Tokens,
-    broken: Broken,
+    source: &'a [u8],
+    tokens: &'a Tokens,
+    broken: Broken<'a>,
 ) -> Result<String, AllocError> {
-    let declarations = Declarations::of(alloc, tokens, broken.program)?;
-    let mut teller = Teller::new(alloc, source, tokens, broken.at);
-    if !put_particular(&mut teller, &declarations, broken.rule) {
-        teller.put_tokens(single(broken.at));
-        teller.put(complaint(tokens, broken.at, broken.rule));
+    let mut judging = Judging {
+        teller: Teller::new(alloc, source, tokens, broken.at),
+        declarations: Declarations::of(alloc, tokens, broken.program)?,
+        rule: broken.rule,
+        routine: None,
+        is_told: false,
+    };
+    if !put_particular(&mut judging, broken.rule) {
+        put_complaint(&mut judging, complained_of(tokens, broken));
     }
+    let mut teller = judging.teller;
     teller
         .text
         .put_display(format_args!(" (rule {})", code(broken.rule)));
     teller.text.finish()
 }
 
+/// Says the rule of some tokens.
+fn put_complaint(judging: &mut Judging, extent: Extent) {
+    let words = complaint(&judging.declarations, judging.teller.at, judging.rule);
+    judging.teller.put_tokens(extent);
+    judging.teller.put(words);
+}
+
+/// The tokens of which something is said: a label of a `case` with its sign, else one.
+fn complained_of(tokens: &Tokens, broken: Broken) -> Extent {
+    match broken.rule {
+        Rule::C19 => between(broken.at, behind_constant(tokens, broken.at)),
+        _ => single(broken.at),
+    }
+}
+
 /// Says what is there and what is wanted, where that can be told.
-fn put_particular(teller: &mut Teller, declarations: &Declarations, rule: Rule) -> bool {
+fn put_particular(judging: &mut Judging, rule: Rule) -> bool {
     match rule {
-        Rule::C1 => put_undeclared(teller, declarations),
-        Rule::C5 => put_misused(teller, declarations) || put_disagreement(teller),
-        Rule::C6 => put_unchangeable(teller, declarations),
-        Rule::C7 => put_counts(teller, declarations),
-        Rule::C8 => put_no_start(teller),
-        Rule::C9 | Rule::C10 | Rule::C22 => put_own_name(teller),
-        Rule::C17 => put_array(teller),
-        Rule::C21 => put_undisplayed(teller),
+        Rule::C1 => put_undeclared(&mut judging.teller, &judging.declarations),
+        Rule::C8 => put_no_start(&mut judging.teller),
+        Rule::C9 | Rule::C10 | Rule::C22 => put_own_name(&mut judging.teller),
+        Rule::C5 | Rule::C6 | Rule::C7 | Rule::C17 | Rule::C21 => {
+            judging.tell();
+            judging.is_told
+        }
         _ => false,
     }
 }
@@ -250,53 +251,6 @@ fn put_declared(teller: &mut Teller, at: usize) {
     teller.text.put_display(line);
 }
 
-/// Why a name can't be used so: first in a statement or in an expression, before this sign, with arguments or without them; empty where it can.
-fn misuse(
-    what: Declared,
-    is_first: bool,
-    after: Option<Mark>,
-    has_arguments: bool,
-) -> &'static str {
-    let is_assigned = is_first && after == Some(Mark::Becomes);
-    match what {
-        Declared::Function if is_first && !is_assigned => {
-            " is a function: a statement calls a procedure, and a function's value has to be used"
-        }
-        Declared::Procedure if is_assigned => " is a procedure, and can't be assigned",
-        Declared::Procedure if !is_first => " is a procedure, and has no value",
-        Declared::Type if !is_first && after != Some(Mark::OpenParenthesis) => {
-            " is a type, and has no value"
-        }
-        Declared::Type => " is a type, and can't be called",
-        Declared::Constant if has_arguments => " is a constant, and can't be called",
-        Declared::Variable | Declared::Parameter | Declared::VarParameter if has_arguments => {
-            " is a variable, and can't be called"
-        }
-        _ => "",
-    }
-}
-
-/// Says that what a name stands for is used as what it is not.
-fn put_misused(teller: &mut Teller, declarations: &Declarations) -> bool {
-    if teller.name().is_empty() {
-        return false;
-    }
-    let Some(called) = declarations.find_called(teller.at) else {
-        return false;
-    };
-    let is_first = teller.at == teller.place();
-    let used = designator_at(teller.tokens, teller.at);
-    let after = teller.mark_at(used.to);
-    let has_arguments = teller.mark_at(called.tokens.to) == Some(Mark::OpenParenthesis);
-    let said = misuse(called.what, is_first, after, has_arguments);
-    if said.is_empty() {
-        return false;
-    }
-    teller.put_tokens(called.tokens);
-    teller.put(said);
-    true
-}
-
 /// Says how processes are started, where a component is told to start.
 fn put_no_start(teller: &mut Teller) -> bool {
     if !is_start(teller.name()) {
@@ -331,40 +285,4 @@ fn is_own_name(teller: &Teller) -> bool {
         }
     }
     false
-}
-
-/// Says how the components of an array are initialised.
-fn put_array(teller: &mut Teller) -> bool {
-    let array = single(teller.at);
-    if teller.sort_of(array) != Some(Sort::Array) {
-        return false;
-    }
-    for words in [
-        " is an array, and init takes its elements: init ",
-        "[1](..), ",
-        "[2](..)",
-    ] {
-        teller.put_tokens(array);
-        teller.put(words);
-    }
-    true
-}
-
-fn put_undisplayed(teller: &mut Teller) -> bool {
-    let value = expression_at(teller.tokens, teller.at);
-    teller.put("display takes a value, but ");
-    teller.put_tokens(value);
-    teller.put(" is ");
-    let sort = teller.sort_of(value);
-    teller.put(phrase_of(sort));
-    true
-}
-
-/// The sort of what is not displayed.
-fn phrase_of(sort: Option<Sort>) -> &'static str {
-    match sort {
-        Some(sort @ (Sort::Queue | Sort::Set | Sort::Record | Sort::Array | Sort::Component)) =>
-            sort.phrase(),
-        _ => "an array, a record or a set",
-    }
 }

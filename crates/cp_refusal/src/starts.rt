@@ -1,6 +1,6 @@
 //! How often components are initialised.
 
-use crate::declared::{Declaration, Declared};
+use crate::declared::Declaration;
 use crate::extent::Extent;
 use crate::hints::{Gathering, is_in_sequence, level_after};
 use crate::rules::{mark_at, name_at};
@@ -58,7 +58,7 @@ fn starts(tokens: &Tokens, body: Extent, name: &str) -> (Option<usize>, bool) {
 impl<'a, 'b> Gathering<'a, 'b> {
     /// Adds a hint on a component that is started twice, or never.
     fn add_start(&mut self, component: &Declaration<'a>) -> Result<(), AllocError> {
-        let name = self.declarations.type_of(component);
+        let name = self.declarations.component_of(component);
         let Some(system) = self.declarations.system_type(name) else {
             return Ok(());
         };
@@ -80,10 +80,7 @@ impl<'a, 'b> Gathering<'a, 'b> {
     pub fn add_starts(&mut self) -> Result<(), AllocError> {
         for is_program in [false, true] {
             for one in &self.declarations.all {
-                if one.what == Declared::Variable
-                    && one.routine.is_empty()
-                    && one.owner.is_empty() == is_program
-                {
+                if one.is_permanent() && one.owner.is_empty() == is_program {
                     self.add_start(one)?;
                 }
             }

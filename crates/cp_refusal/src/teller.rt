@@ -1,14 +1,13 @@
 //! Who tells of a source that is refused at a token.
 
 use crate::draft::{push_copies, spelling, tokens_of};
-use crate::extent::{Extent, between, statement_start};
+use crate::extent::{Extent, between};
 use crate::page::push_tokens;
 use crate::rules::{mark_at, name_at};
-use cp_check::{CheckFault, Rule, check};
-use cp_drops::{drop_checked, drop_tree};
+use cp_drops::drop_tree;
 use cp_prose::Prose;
 use cp_text::{Mark, Tokens};
-use cp_tree::{ParseFault, Tree, parse};
+use cp_tree::{ParseFault, parse};
 use std::alloc::{AllocError, Global};
 
 /// A source that is refused at a token, and what has been told of it. It is asked whether other tokens would be accepted; where memory is refused
@@ -22,60 +21,10 @@ pub struct Teller<'a> {
     pub text: Prose,
 }
 
-/// Tokens that are put in.
-#[derive(Clone, Copy)]
-pub enum Insertion {
-    /// These, with spaces between.
-    Words(&'static str),
-    /// Tokens of the program once more.
-    Copied(Extent),
-}
-
-/// What the checker says of tokens that were put in.
-#[derive(Clone, Copy)]
-pub enum Reply {
-    /// No rule is broken in them.
-    Fine,
-    /// This rule is broken first, at the token with this number among them.
-    Broken { rule: Rule, at: usize },
-    /// They make no program, or a fault stands before them.
-    Unknown,
-}
-
-fn push_piece(draft: &mut Prose, tokens: &Tokens, piece: Insertion) {
-    match piece {
-        Insertion::Words(words) => {
-            draft.put(words);
-            draft.put(" ");
-        }
-        Insertion::Copied(extent) => push_copies(draft, tokens, extent),
-    }
-}
-
-/// What the checker says of a program in which some tokens were put in.
-fn check_reply(alloc: Global, tree: Tree, pieces: Extent) -> Result<Reply, AllocError> {
-    match check(alloc, tree) {
-        Ok(checked) => {
-            drop_checked(checked);
-            Ok(Reply::Fine)
-        }
-        Err((fault, tree)) => {
-            drop_tree(tree);
-            reply_to(&fault, pieces)
-        }
-    }
-}
-
-/// What a fault says of some tokens of a program.
-fn reply_to(fault: &CheckFault, pieces: Extent) -> Result<Reply, AllocError> {
-    match fault {
-        CheckFault::Memory => Err(AllocError),
-        CheckFault::Rule { at, .. } if *at >= pieces.to => Ok(Reply::Fine),
-        CheckFault::Rule { at, rule } => Ok(match at.checked_sub(pieces.from) {
-            Some(at) => Reply::Broken { rule: *rule, at },
-            None => Reply::Unknown,
-        }),
-    }
+// Appends words, and a space.
+fn push_words(draft: &mut Prose, words: &str) {
+    draft.put(words);
+    draft.put(" ");
 }
 
 // The number of the opening of the annotation in which the token of this number stands.
@@ -121,25 +70,9 @@ impl<'a> Teller<'a> {
         name_at(self.tokens, at)
     }
 
-    /// The number of the first token of the innermost statement with the token, or of the invariant.
-    pub fn place(&self) -> usize {
-        match opening_before(self.tokens, self.at) {
-            Some(opening) if self.mark_at(opening) == Some(Mark::Invariant) => opening,
-            _ => statement_start(self.tokens, self.at),
-        }
-    }
-
     /// Whether the token stands in an annotation, behind its opening.
     pub fn is_in_annotation(&self) -> bool {
         opening_before(self.tokens, self.at).is_some()
-    }
-
-    /// The same of an invariant.
-    pub fn is_in_invariant(&self) -> bool {
-        match opening_before(self.tokens, self.at) {
-            Some(opening) => self.mark_at(opening) == Some(Mark::Invariant),
-            None => false,
-        }
     }
 
     /// Appends words.
@@ -177,13 +110,9 @@ impl<'a> Teller<'a> {
     fn may_stand(&self, word: &'static str) -> Result<bool, AllocError> {
         let mut draft = Prose::new(self.alloc);
         push_copies(&mut draft, self.tokens, between(0, self.at));
-        push_piece(&mut draft, self.tokens, Insertion::Words(word));
+        push_words(&mut draft, word);
         if self.is_in_annotation() && word != spelling(Mark::Closes) {
-            push_piece(
-                &mut draft,
-                self.tokens,
-                Insertion::Words(spelling(Mark::Closes)),
-            );
+            push_words(&mut draft, spelling(Mark::Closes));
         }
         let Some(tokens) = tokens_of(self.alloc, &draft)? else {
             return Ok(false);
@@ -199,37 +128,6 @@ impl<'a> Teller<'a> {
                 | ParseFault::OutsideProfile(place)
                 | ParseFault::TooDeep(place),
             ) => Ok(place > self.at),
-        }
-    }
-
-    /// What the checker says of some pieces that are put in before the statement.
-    pub fn ask(&mut self, pieces: &[Insertion]) -> Reply {
-        match self.reply(pieces) {
-            Ok(reply) => reply,
-            Err(_) => {
-                self.text.refuse();
-                Reply::Unknown
-            }
-        }
-    }
-
-    fn reply(&self, pieces: &[Insertion]) -> Result<Reply, AllocError> {
-        let place = self.place();
-        let rest = between(place, self.tokens.count());
-        let mut draft = Prose::new(self.alloc);
-        push_copies(&mut draft, self.tokens, between(0, place));
-        for piece in pieces {
-            push_piece(&mut draft, self.tokens, *piece);
-        }
-        push_copies(&mut draft, self.tokens, rest);
-        let Some(tokens) = tokens_of(self.alloc, &draft)? else {
-            return Ok(Reply::Unknown);
-        };
-        let to = tokens.count().saturating_sub(rest.to.saturating_sub(place));
-        match parse(self.alloc, &tokens) {
-            Ok(tree) => check_reply(self.alloc, tree, between(place, to)),
-            Err(ParseFault::Memory) => Err(AllocError),
-            Err(_) => Ok(Reply::Unknown),
         }
     }
 }

@@ -82,7 +82,10 @@ impl<'a, 'b> Gathering<'a, 'b> {
     pub fn add_inner_waits(&mut self) -> Result<(), AllocError> {
         let declarations = self.declarations;
         let mut waiting = Vec::new(self.alloc);
-        for system in &declarations.types {
+        for system in &declarations.all {
+            if !system.is_system_type() {
+                continue;
+            }
             let is_monitor = mark_at(self.tokens, system.at.saturating_add(2))
                 == Some(Mark::Monitor);
             for one in &declarations.all {

@@ -1,0 +1,2 @@
+var i: integer; function f(c: char): integer; begin f := ord(c) end;
+begin i := 1 + f(i * 2) end.

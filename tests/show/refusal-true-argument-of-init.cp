@@ -1,0 +1,1 @@
+type m = monitor(k: integer); begin end; var y: m; begin init y(true) end.

@@ -1,0 +1,1 @@
+var x: set of 'a'..9; begin end.

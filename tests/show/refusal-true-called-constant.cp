@@ -1,0 +1,1 @@
+begin true(1) end.

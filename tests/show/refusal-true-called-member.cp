@@ -1,0 +1,1 @@
+type c = (red, green); begin red(1) end.

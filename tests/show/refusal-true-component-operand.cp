@@ -1,0 +1,1 @@
+type m = monitor; begin end; var y: m; b: boolean; begin b := 1 - y = b end.

@@ -1,0 +1,1 @@
+begin continue.q end.

@@ -1,0 +1,1 @@
+begin var x: integer; x := 1 end.

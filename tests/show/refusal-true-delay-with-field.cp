@@ -1,0 +1,1 @@
+begin delay.x(1) end.

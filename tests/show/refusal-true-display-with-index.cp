@@ -1,0 +1,1 @@
+begin display[1] end.

@@ -1,0 +1,9 @@
+procedure p;
+begin
+  cycle
+    begin
+      display(1)
+  end
+end;
+var x: integer;
+begin p end.

@@ -1,0 +1,1 @@
+var b: boolean; begin b := not b + 1 end.

@@ -1,0 +1,1 @@
+begin .x end.

@@ -1,0 +1,1 @@
+procedure p; begin end; begin for p := 1 to 2 do end.

@@ -1,0 +1,1 @@
+var i: integer; procedure p; begin end; begin i := p.x end.

@@ -1,0 +1,1 @@
+procedure p; begin end; begin p.x(1) end.

@@ -1,0 +1,1 @@
+var b: boolean; begin b := [1] = [true] end.

@@ -1,0 +1,1 @@
+var b: boolean; begin b := [1] in [2] end.

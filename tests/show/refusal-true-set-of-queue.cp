@@ -1,0 +1,1 @@
+type m = monitor; var x: set of queue; begin end; begin end.

@@ -1,0 +1,1 @@
+var x: integer; begin x := 3 - +2 end.

@@ -1,0 +1,1 @@
+var x: boolean; begin x := not -1 end.

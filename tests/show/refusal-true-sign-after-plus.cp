@@ -1,0 +1,1 @@
+var x: integer; begin x := 1 + -2 end.

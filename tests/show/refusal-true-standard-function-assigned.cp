@@ -1,0 +1,1 @@
+begin abs := 1 end.

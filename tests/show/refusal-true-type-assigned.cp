@@ -1,0 +1,1 @@
+type t = 1..9; var a: t; begin t := a end.

@@ -1,0 +1,1 @@
+begin init boolean[0] end.
