@@ -17,7 +17,7 @@ def browser_path():
 
 
 # What a browser does by itself with a key is asked for by its number.
-CODES = {"ArrowLeft": 37, "ArrowRight": 39, "Home": 36, "End": 35, "Enter": 13}
+CODES = {"Tab": 9, "ArrowLeft": 37, "ArrowRight": 39, "Home": 36, "End": 35, "Enter": 13}
 
 
 def open_browser():
@@ -182,6 +182,10 @@ class Browser(Reader):
 
     def print(self):
         self.do("dispatchEvent(new Event('beforeprint'))")
+
+    def printed(self):
+        """The page as it is printed, as PDF."""
+        return base64.b64decode(self.call("Page.printToPDF", printBackground=True)["data"])
 
     def look(self, width, height, scheme):
         self.call("Emulation.setDeviceMetricsOverride", width=width, height=height, deviceScaleFactor=1, mobile=False)

@@ -94,6 +94,8 @@ def check_style(check, page):
     phone = "".join(re.findall(r"@media \(max-width: 720px\) \{((?:[^{}]*\{[^{}]*\})*)", text))
     check(re.search(r"#outcomes \{ max-height: none \}", phone), "on a telephone outcomes are cut")
     printed = re.search(r"@media print \{((?:[^{}]*\{[^{}]*\})*)", text).group(1)
+    check(style.of(".go small", "display") == "block", "in a button what can still come of it runs into what happens")
+    check("h2 { break-after: avoid }" in printed and "details:not([open])" in printed, "on paper a heading may stand alone, or a list that is closed")
     check("#whole { display: block }" in printed and "max-height: none" in printed, "what is printed is cut")
 
 

@@ -1,5 +1,8 @@
 """How a page behaves: focus, keys, Back, words that are refused, what is told briefly, predictions, other schedules, the point of no return."""
 import json
+import re
+import time
+import zlib
 
 from page_data import Play, limited, played, prospects_of
 
@@ -206,6 +209,46 @@ def check_signs(check, browser, path):
         check(sign in key, f"{sign} is not in the key: {key[:300]}")
 
 
+# What says nothing by itself: grounds, lines of life, letters, and the colours of monitors.
+PLAIN = {"band", "life", "hit", "pick", "text", "dim", "lab", "loud", "broken", "ended", "head", "later", "soft", "strong", "held", "hatched",
+         *(f"m{m}" for m in range(8)), "finished", "all-waiting", "run-error", "choice-limit", "step-limit", "output-limit", "alone", "spins", "beyond"}
+DRAWN = """(id => {
+  const within = element => [...element.children].flatMap(child => [child, ...within(child)]);
+  return [...new Set(within($(id)).flatMap(shape => (shape.getAttribute("class") || "").split(" ")))].filter(look => look);
+})"""
+
+
+def check_key(check, browser, paths):
+    """Each sign that lanes draw stands in the key."""
+    drawn = set()
+    for path in paths:
+        browser.load(path)
+        browser.click("#key")
+        key = set(browser.do(f"{DRAWN}('signs')"))
+        for place in range(min(browser.do("outcomes.length"), 4)):
+            if browser.do(f"$('first{place}') === null"):
+                continue
+            browser.click(f"#first{place}")
+            for _ in range(2):
+                found = set(browser.do(f"{DRAWN}('lanes')")) - PLAIN
+                check(found <= key, f"{path.name}: signs that are not in the key: {found - key}")
+                drawn |= found
+                browser.press("End")
+    wanted = {"cross", "edge", "stuck", "ever", "point", "folded", "ahead", "swatch", "taken", "opt", "box", "wait", "arrow", "in", "dot"}
+    check(wanted <= drawn, f"signs that no page draws: {wanted - drawn}")
+
+
+def check_stuck(check, browser, path):
+    """Who waits, and nobody is left to end it, is told by a cross, and not by red alone."""
+    browser.load(path)
+    place = browser.do("outcomes.findIndex(each => each.end.kind === 'all-waiting')")
+    browser.click(f"#first{place}")
+    browser.press("End")
+    waiting = browser.do("play(word).status.filter(status => status === 'gate' || status === 'delayed').length")
+    found = browser.do("[document.querySelectorAll('#lanes .wait.ever').length, document.querySelectorAll('#lanes .stuck').length]")
+    check(waiting > 1 and found == [waiting, waiting], f"{waiting} wait for good, and {found} waits have a red edge, and a cross")
+
+
 def check_ahead(check, browser, path):
     """What makes pale what lies ahead lies under all letters, and those ahead have a look of their own."""
     browser.load(path)
@@ -235,6 +278,14 @@ def check_taken_away(check, browser, path):
     check(said.startswith("then only") and "1 2 3 4" in said and "1 2 4 3" in said and "1 3" not in said, f"of three: {said!r}, {browser.text('#go2')}")
 
 
+def check_titles(check, browser, titled):
+    """The heading of a page is the title of the pictures of its program."""
+    check(len(titled) > 4, f"{len(titled)} programs with titles")
+    for path, title in titled:
+        browser.load(path)
+        check(browser.text("#title") == title, f"{path.name}: the title {browser.text('#title')!r}, and in pictures {title!r}")
+
+
 def check_spoken(check, browser, path, page, name):
     """Where the script is blocked the page says so; where every schedule ends nothing is said of going on for ever."""
     check(b'id="blocked"' in page.split(b'id="data"')[0], f"{name}: nothing says that the script is blocked")
@@ -259,6 +310,65 @@ def check_print(check, browser, path):
     check(heights and heights[0][0] == 0 and sum(height for _, height in heights) == whole and all(a[0] + a[1] == b[0] for a, b in zip(heights, heights[1:])), f"pieces {heights} of {whole}, {rows} rows")
 
 
+def check_tab(check, browser, path):
+    """With the Tab key alone one comes to each control and to a choice, and sees where one is."""
+    browser.load(path)
+    seen = []
+    for _ in range(40):
+        browser.press("Tab")
+        seen.append(browser.do("document.activeElement.id"))
+        check(browser.do("getComputedStyle(document.activeElement).outlineWidth") == "3px", f"the focus on {seen[-1]!r} is not seen")
+        if seen[-1] == "go0":
+            break
+    wanted = {"word", "copy", "predict", "first0", "simplest0", "another0", "text", "play", "go0"}
+    check(wanted <= set(seen), f"the Tab key does not come to {wanted - set(seen)}")
+    browser.press("Enter")
+    check(browser.word() == "0", f"Enter on a choice: {browser.word()}")
+
+
+def check_sheets(check, browser, path, name):
+    """Each sheet that is printed has letters on it."""
+    browser.load(path)
+    browser.do("$('first0') && $('first0').click()")
+    letters = [len(re.findall(rb"T[jJ]\b", content)) for content in sheets_of(browser.printed())]
+    check(letters and min(letters) > 0, f"{name}: letters on the sheets {letters}")
+
+
+def sheets_of(printed):
+    """What is drawn on each page of a PDF."""
+    objects = dict(re.findall(rb"(\d+) 0 obj\n?(.*?)endobj", printed, re.S))
+    for page in (it for it in objects.values() if re.search(rb"/Type\s*/Page\b", it)):
+        content = objects[re.search(rb"/Contents\s+(\d+) 0 R", page)[1]]
+        yield zlib.decompress(content[content.index(b"stream") + 6:].lstrip(b"\r\n"))
+
+
+def check_blocked(check, browser, path):
+    """Where the script does not run the page says so."""
+    browser.load(path)
+    time.sleep(4)
+    is_seen = browser.do("document.getElementById('blocked').checkVisibility({ visibilityProperty: true })")
+    check(is_seen and "does not run" in browser.text("#blocked"), "the script is blocked, and nothing is seen that says so")
+
+
+def check_with_layout(check, browser, by_name, folder):
+    """What can be seen in a browser alone."""
+    check_tab(check, browser, by_name["philosophers-deadlock"])
+    for name in ("philosophers-deadlock", "philosophers-five", "readers-first-endless, any length", "many outcomes", "no choice"):
+        check_sheets(check, browser, by_name[name], name)
+    blocked = folder / "blocked.html"
+    blocked.write_bytes(by_name["philosophers-deadlock"].read_bytes().replace(b"script-src 'sha256-", b"script-src 'sha256-A", 1))
+    check_blocked(check, browser, blocked)
+
+
+def check_printed_outcomes(check, browser, path):
+    """Printed are all outcomes, also where a screen has some of them."""
+    browser.load(path)
+    chips = "document.querySelectorAll('#outcomes li:not(.sum) .kind').length"
+    shown, all_of_them = browser.do(chips), browser.do("outcomes.length")
+    browser.print()
+    check(shown < all_of_them == browser.do(chips), f"{browser.do(chips)} outcomes on paper of {all_of_them}, and {shown} on a screen")
+
+
 def check_manners(check, browser, program_trace, made, by_name):
     """All of it, where `made` are the jobs by their names."""
     deadlock = by_name["philosophers-deadlock"]
@@ -274,9 +384,13 @@ def check_manners(check, browser, program_trace, made, by_name):
     check_known_point(check, browser, by_name["few states"], made["philosophers-deadlock"].data)
     check_brief(check, browser, by_name["long stretch"], made["long stretch"])
     check_signs(check, browser, by_name["bounded-buffer"])
+    check_key(check, browser, [deadlock, *(by_name[name] for name in ("two calls", "long stretch", "twelve monitors", "lost-update", "buffer-off-by-one", "philosophers-deadlock, any length"))])
+    check_stuck(check, browser, deadlock)
+    check_titles(check, browser, [(by_name[name], job.title) for name, job in made.items() if name.startswith("title ")])
     check_ahead(check, browser, deadlock)
     check_taken_away(check, browser, by_name["many outcomes"])
     check_spoken(check, browser, deadlock, made["philosophers-deadlock"].page, "philosophers-deadlock")
     check_finite(check, browser, by_name["philosophers-deadlock, any length"])
     check_print(check, browser, deadlock)
+    check_printed_outcomes(check, browser, by_name["many outcomes"])
     check(not browser.faults, f"how pages behave: {browser.faults[:3]}")

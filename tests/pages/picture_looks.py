@@ -17,6 +17,8 @@ SIGHTS = {
     "no blue": ((1.255528, -0.076749, -0.178779), (-0.078411, 0.930809, 0.147602), (0.004733, 0.691367, 0.303900)),
 }
 WHITE = [255, 255, 255]
+# The room of the sign before what changed.
+SWATCH = 11
 
 # ---- contrast ----
 
@@ -135,9 +137,19 @@ def mixed_rounds(root):
             yield f"a row of the processes {', '.join(sorted(set(processes)))}"
 
 
+def crossed_numbers(root):
+    """What changed in a monitor, where it comes to the numbers of the lines."""
+    left = {text.text: float(text.get("x")) for text in root.iter(SVG + "text") if text.text in ("what changed inside", "line")}
+    for text in root.iter(SVG + "text") if len(left) == 2 else ():
+        x, words = float(text.get("x")), (text.text or "").rstrip()
+        if x == left["what changed inside"] + SWATCH and x + 0.57 * float(text.get("font-size")) * len(words) > left["line"]:
+            yield f"{words!r} comes to the numbers of the lines"
+
+
 def looks_faults(root):
     """What is wrong with how a picture looks."""
     yield from low_texts(root)
+    yield from crossed_numbers(root)
     yield from like_colours(root)
     yield from mixed_rounds(root)
     styles = [style.text for style in root.iter(SVG + "style")]

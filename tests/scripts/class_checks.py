@@ -210,6 +210,7 @@ def check_html(room):
         subprocess.run([ROOT / "class", "--html", "--pages", folder / "play", "-e", "never all-waiting", "-e", "only finished output 0 1",
                         folder / "anna.cp", folder / "ben.cp"], stdout=out, cwd=ROOT, timeout=120, check=True)
     text = marks.read_text()
+    want_in("a head that stays", text, "th{position:sticky;top:0;")
     want_in("a viewport", text, '<meta name="viewport" content="width=device-width, initial-scale=1">')
     names = re.findall(r'<tr><td title="(.*?)">(.*?)</td>', text)
     want("names", names, [(str(folder / "anna.cp"), "anna"), (str(folder / "ben.cp"), "ben")])

@@ -10,7 +10,8 @@ from .program import Stopped, TimeIsOver
 from .rows import heads_of
 
 STYLE = """body{font:15px/1.4 system-ui,sans-serif;margin:2em auto;max-width:72em;padding:0 1em;color:#1a1a1a;background:#fff}
-.table{overflow-x:auto}table{border-collapse:collapse}th,td{border:1px solid #999;padding:.3em .6em;text-align:left;vertical-align:top}
+.table{overflow:auto;max-height:92vh}table{border-collapse:collapse}th{position:sticky;top:0;background:#fff}
+@media print{.table{overflow:visible;max-height:none}th{position:static}}th,td{border:1px solid #999;padding:.3em .6em;text-align:left;vertical-align:top}
 .holds{background:#dff2e1}.fails,.refused{background:#f9dcdc}pre{font:inherit;white-space:pre-wrap;margin:.3em 0}figure{margin:1em 0;overflow-x:auto}
 svg{max-width:100%;height:auto}h2{margin-top:2em}"""
 

@@ -11,7 +11,7 @@ use cp_scope::{CheckFault, Parameter, Rule, ScopeTable, Use, ValueType, broken_r
 use cp_tree::SystemKind;
 
 /// Whether an argument fits a parameter.
-fn fits(parameter: Parameter, operand: Operand) -> bool
+pub fn fits(parameter: Parameter, operand: Operand) -> bool
     ensures { result ≡ spec.fits parameter operand }
 {
     if !parameter.is_var {

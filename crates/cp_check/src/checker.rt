@@ -3,6 +3,7 @@
 ghost use Rattle.std.specs.Prelude.{◌≡◌, [], IfOk, IfErr, OnOk};
 ghost use Rattle.cp_scope.specs.Judged.{Judges, Finds, RefusesList};
 ghost use Rattle.cp_scope.specs.View.{scopes_of};
+ghost use Rattle.cp_scope.specs.declared.fault.CheckFault.TheVariants as check_fault;
 ghost use Rattle.cp_tree.specs.TreeView.{tree_view};
 ghost use Rattle.cp_tree.specs.View.{program_view};
 ghost use Rattle.cp_check.specs.Faults as spec;
@@ -100,6 +101,17 @@ fn check_tree(alloc: Global, tree: &Tree) -> Result<(), CheckFault>
 {
     let mut table = ScopeTable::new(alloc)?;
     within_limits(alloc, &mut table, &tree.program)
+}
+
+/// The names that are known where the check of a program ends, be that where it breaks a rule.
+pub fn names_at_fault(alloc: Global, tree: &Tree) -> Result<ScopeTable, CheckFault>
+    ensures { IfErr result (λ e. e ≡ check_fault.Memory) }
+{
+    let mut table = ScopeTable::new(alloc)?;
+    match within_limits(alloc, &mut table, &tree.program) {
+        Err(CheckFault::Memory) => Err(CheckFault::Memory),
+        _ => Ok(table),
+    }
 }
 
 /// Whether a program breaks no rule, or the first that it breaks, in reading order.

@@ -190,9 +190,10 @@ pub fn designator(
     check_selectors(node.name.at, whole)
 }
 
+/// A factor; in the place of a `var` argument a function's name alone is no call.
 #[cycle(expression)]
 #[tactic(auto, unfolding(crate::specs::Expressions::factor))]
-fn factor(
+pub fn factor(
     alloc: Global,
     table: &ScopeTable,
     context: Context,
@@ -245,9 +246,10 @@ fn more_factors(
     Ok(total)
 }
 
+/// A term, likewise.
 #[cycle(expression)]
 #[tactic(auto, using(crate::proofs::Expressions::term_first, crate::proofs::Expressions::term_more, crate::proofs::Expressions::term_passed))]
-fn term(
+pub fn term(
     alloc: Global,
     table: &ScopeTable,
     context: Context,
@@ -284,9 +286,10 @@ fn more_terms(
     Ok(total)
 }
 
+/// A sum, likewise.
 #[cycle(expression)]
 #[tactic(auto, using(crate::proofs::Expressions::sum_first, crate::proofs::Expressions::sum_more, crate::proofs::Expressions::sum_passed))]
-fn sum(
+pub fn sum(
     alloc: Global,
     table: &ScopeTable,
     context: Context,

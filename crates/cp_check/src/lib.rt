@@ -1,22 +1,22 @@
 //! The checker: whether a program breaks a rule of the language, and the first that it breaks.
 #![tactic(auto)]
 
-mod call;
+pub mod call;
 mod case;
 pub mod checker;
 mod constant;
 mod declaration;
-mod expression;
+pub mod expression;
 pub mod fault;
 mod heading;
-mod name;
-mod operand;
-mod operation;
+pub mod name;
+pub mod operand;
+pub mod operation;
 mod record;
 mod routine;
-mod statement;
+pub mod statement;
 mod system;
 mod types;
 
-pub use checker::{Checked, check};
+pub use checker::{Checked, check, names_at_fault};
 pub use fault::{CheckFault, Rule};

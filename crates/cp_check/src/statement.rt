@@ -50,7 +50,7 @@ fn function_target(table: &ScopeTable, context: Context, routine: usize, is_loca
 }
 
 /// What a name on the left stands for.
-fn target_of(table: &ScopeTable, context: Context, named: Named) -> Target
+pub fn target_of(table: &ScopeTable, context: Context, named: Named) -> Target
     ensures { result ≡ spec.target_of (scopes_of table.now) context named }
 {
     match named {

@@ -7,7 +7,7 @@ use cp_ends::End;
 use cp_ends::found::MOST_VALUES;
 use cp_run::OutcomeKind;
 use cp_story::objects::{Object, monitors, numbers, processes, put_kind, put_signals, waits};
-use cp_story::{output_words, put_error_cause, put_violation};
+use cp_story::{output_words, put_error_cause, put_reasons, put_violation};
 use cp_waits::{How, Set, Waiting, Waits};
 use serde_json::Value;
 use std::alloc::AllocError;
@@ -94,11 +94,14 @@ fn put_going(object: &mut Object, kind: &str, process: u8) -> Result<(), AllocEr
     object.number("process", u64::from(process))
 }
 
-// Who waits where at the end of a word.
+// Who waits where at the end of a word, and why.
 fn put_final(telling: Telling<'_>, object: &mut Object, word: &[u8]) -> Result<(), AllocError> {
     let Telling { alloc, subject, .. } = telling;
     match whole_story(telling, word)? {
-        Some(story) => object.put("final", waits(alloc, subject.legend, &story.waits)?),
+        Some(story) => {
+            object.put("final", waits(alloc, subject.legend, &story.waits)?)?;
+            put_reasons(alloc, subject.legend, object, &story.reasons)
+        }
         None => Ok(()),
     }
 }

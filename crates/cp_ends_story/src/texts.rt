@@ -8,7 +8,8 @@ use cp_machine::{ErrorName, Signals};
 use cp_prose::Prose;
 use cp_run::{MOST_STEPS, OutcomeKind};
 use cp_story::{
-    OpenCall, Story, Wait, detail_line, kind_words, output_words, push_call, wait_words,
+    OpenCall, Story, Wait, detail_line, kind_words, output_words, push_call, reason_text,
+    wait_words,
 };
 use cp_waits::{How, Set, Waiting, Waits};
 use cp_walk::text::{error_name, push_word};
@@ -203,6 +204,11 @@ fn push_all_waiting(telling: Telling<'_>, text: &mut Prose, word: &[u8]) {
     if let Some(story) = story_for(telling, text, word) {
         for wait in &story.waits {
             push_wait(telling, text, wait);
+        }
+        for reason in &story.reasons {
+            text.put(INDENT);
+            text.put_made(reason_text(telling.alloc, telling.subject.legend, reason));
+            text.put_char('\n');
         }
     }
 }

@@ -11,7 +11,7 @@ use crate::svg::{BOLD_MIDDLE, BOLD_TYPE, Block, Style, Svg};
 use crate::wrapping::LineRoom;
 use cp_prose::Prose;
 use cp_run::{OutcomeKind, RunEnd};
-use cp_story::{Story, end_words, unused_words, wait_words};
+use cp_story::{Story, end_words, reason_text, unused_words, wait_words};
 use std::alloc::{AllocError, Global};
 
 const SLANTED: &str = " patternTransform=\"rotate(45)\"";
@@ -287,8 +287,8 @@ fn draw_edge_with(svg: &mut Svg, plan: &Plan, top: f64, words: &str) {
     svg.close();
 }
 
-/// What stands below the rows: how the run stops, who waits then, and that numbers of the schedule are not used.
-pub fn draw_end(svg: &mut Svg, scene: Scene<'_>, plan: &Plan, top: f64, unused: &[String]) {
+/// What stands below the rows: how the run stops, who waits then, and notes.
+pub fn draw_end(svg: &mut Svg, scene: Scene<'_>, plan: &Plan, top: f64, notes: &[String]) {
     match end_words(scene.alloc, scene.story) {
         Ok(words) => draw_outcome(svg, scene, plan, top, words.as_str()),
         Err(_) => svg.refuse(),
@@ -300,19 +300,34 @@ pub fn draw_end(svg: &mut Svg, scene: Scene<'_>, plan: &Plan, top: f64, unused: 
         svg.words_made(26.0, y, Style::new(12.0, colour, ""), words);
         y += 20.0;
     }
-    for line in unused {
+    for line in notes {
         svg.words(26.0, y, Style::new(12.0, INK, ""), line.as_str().trim());
         y += 20.0;
     }
 }
 
-/// What says that numbers of the schedule are not used, in lines of a picture of this width.
-pub fn unused_lines(scene: Scene<'_>, width: f64) -> Result<Vec<String>, AllocError> {
+/// What stands below those who wait: why they are not woken, and that numbers of the schedule are not used, in lines of a picture of this width.
+pub fn note_lines(scene: Scene<'_>, width: f64) -> Result<Vec<String>, AllocError> {
     let room = LineRoom::new(scene.alloc, width - 46.0, 12.0 * WIDTH);
-    match unused_words(scene.alloc, scene.story.left)? {
-        Some(words) => room.wrap(words.as_str()),
-        None => Ok(Vec::new(scene.alloc)),
+    let mut lines = Vec::new(scene.alloc);
+    for reason in &scene.story.reasons {
+        let words = reason_text(scene.alloc, scene.legend, reason)?;
+        push_lines(&mut lines, room.wrap(words.as_str()))?;
     }
+    if let Some(words) = unused_words(scene.alloc, scene.story.left)? {
+        push_lines(&mut lines, room.wrap(words.as_str()))?;
+    }
+    Ok(lines)
+}
+
+fn push_lines(
+    lines: &mut Vec<String>,
+    more: Result<Vec<String>, AllocError>,
+) -> Result<(), AllocError> {
+    for line in more? {
+        lines.push(line)?;
+    }
+    Ok(())
 }
 
 // How the run stops, with the last line of the trace beside it.

@@ -3,7 +3,7 @@
 use crate::changes::{SWATCH, changes_words};
 use crate::draw::spans_drawn;
 use crate::frame::{
-    draw_again, draw_edges, draw_end, draw_ground, draw_heads, draw_patterns, unused_lines,
+    draw_again, draw_edges, draw_end, draw_ground, draw_heads, draw_patterns, note_lines,
 };
 use crate::heading::{PictureHeading, draw_heading, heading_of};
 use crate::key::{draw_key, signs_of};
@@ -120,8 +120,8 @@ fn draw_parts(
 ) -> Result<String, AllocError> {
     let Layout { plan, sheet, .. } = layout;
     let bottom = sheet.bottom() + 34.0;
-    let unused = unused_lines(scene, plan.width)?;
-    let key = bottom + 54.0 + points(scene.story.waits.len().saturating_add(unused.len())) * 20.0;
+    let notes = note_lines(scene, plan.width)?;
+    let key = bottom + 54.0 + points(scene.story.waits.len().saturating_add(notes.len())) * 20.0;
     let signs = signs_of(scene, layout);
     let height = key
         + if scene.is_plain {
@@ -138,7 +138,7 @@ fn draw_parts(
     spans_drawn(&mut svg, scene, layout);
     draw_rows(&mut svg, scene, layout);
     draw_around(&mut svg, scene, layout);
-    draw_end(&mut svg, scene, plan, bottom, &unused);
+    draw_end(&mut svg, scene, plan, bottom, &notes);
     if !scene.is_plain {
         draw_key(&mut svg, signs, plan.width, key);
     }
@@ -157,6 +157,7 @@ fn draw_around(svg: &mut Svg, scene: Scene<'_>, layout: Layout<'_>) {
 fn widths(scene: Scene<'_>, sheet: &Sheet) -> Result<Widths, AllocError> {
     let mut widths = Widths {
         changes: 0.0,
+        longest_word: 0.0,
         source: 0.0,
     };
     for row in &sheet.rows {
@@ -166,6 +167,10 @@ fn widths(scene: Scene<'_>, sheet: &Sheet) -> Result<Widths, AllocError> {
             widths.changes = widths
                 .changes
                 .max(plain_width(text.as_str(), 10.5) + SWATCH + 1.0);
+        }
+        for word in text.as_str().split(' ') {
+            let width = plain_width(word, 10.5) + SWATCH + 1.0;
+            widths.longest_word = widths.longest_word.max(width);
         }
         if let Some(line) = line_of(scene.story, events) {
             let text = source_line(scene.source, line);

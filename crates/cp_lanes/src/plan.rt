@@ -41,6 +41,8 @@ const NO_COLUMN: Column = Column {
 pub struct Widths {
     /// What changed.
     pub changes: f64,
+    /// The longest word of that, which no line breaks.
+    pub longest_word: f64,
     /// The text of the lines of the source.
     pub source: f64,
 }
@@ -150,7 +152,7 @@ fn narrow_widths(natural: Widths, fixed: f64, lanes: f64) -> Widths {
         }
     }
     if fixed + lanes + widths.changes > SCREEN {
-        widths.changes = widths.changes.min(170.0);
+        widths.changes = widths.changes.min(widths.longest_word.max(170.0));
     }
     widths
 }

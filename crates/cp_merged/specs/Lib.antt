@@ -3,6 +3,7 @@ pub mod Complete
 pub mod Holds
 pub mod Layers
 pub mod Reached
+pub mod Stored
 pub mod Tallies
 pub mod Told
 pub mod TooMany

@@ -10,6 +10,7 @@ pub mod layering;
 pub mod ordered;
 pub mod prefixes;
 pub mod report;
+mod stored;
 pub mod tallies;
 pub mod tally;
 pub mod word;

@@ -1,5 +1,5 @@
 -- The JSON of outcomes: it has no floats, and is put together of parts.
-use Rattle.std.proofs.Common.{◌≡◌, ◌∙◌, ℕ, suc, ◌+◌, ◌^◌, ◌<◌, Bool, true, false, List, [], ◌∷◌, ◌++◌, length, take, get_or, map, codes, Option, None, Some, Result, Ok, Err, IfOk, String, Global, string_bytes, refl, sym, ap, arith, take-suc}
+use Rattle.std.proofs.Common.{◌≡◌, ◌==◌, ◌∙◌, ℕ, suc, ◌+◌, ◌^◌, ◌<◌, Bool, true, false, List, [], ◌∷◌, ◌++◌, length, take, get_or, map, codes, Option, None, Some, Result, Ok, Err, IfOk, String, Global, string_bytes, refl, sym, ap, arith, take-suc}
 use Rattle.std.specs.List.{list_any}
 use Rattle.std.specs.Prelude.{nat_lt, if◌then◌else◌}
 use Rattle.std.proofs.lemmas.List.{map-append, length-map, length-take}
@@ -24,11 +24,14 @@ use Rattle.cp_story.proofs.StoryFloats.{violation_free}
 use Rattle.cp_story.proofs.Floats.{both, is_float_member, no_float-array, no_float-at_each, no_float-numbers, no_float-object, none_of, with_both}
 use Rattle.cp_story.specs.CauseText.{error_cause_members}
 use Rattle.cp_story.specs.Objects.{Member, array_of, number_data, numbers_data, text_data, with_member, with_members}
+use Rattle.cp_story.specs.ReasonText.{callers_data, reason_data, reason_text, reasons_data, routine_text, routines_data}
+use Rattle.cp_story.specs.Reasons.{Reason}
 use Rattle.cp_story.specs.StoryData.{kind_members, monitor_data, named_data, process_data, signals_members, status_members, wait_data}
 use Rattle.cp_story.specs.Waiting.{Waiting}
+use Rattle.cp_story.specs.declared.reasons.Caller.{Caller}
 use Rattle.cp_outcomes.specs.Data as spec
 use Rattle.cp_outcomes.specs.Stops.{kind_at, rows_at, stops}
-use Rattle.cp_outcomes.specs.Told.{Setting, Told, cause_after, violation_after, waits_after}
+use Rattle.cp_outcomes.specs.Told.{Setting, Told, cause_after, reasons_after, violation_after, waits_after}
 use Rattle.cp_outcomes.specs.declared.stopped.Limit.{Limit}
 
 -- ---- no floats
@@ -64,13 +67,35 @@ wait_free l w =
     let where_inside = (codes "inside", numbers_data w.inside) ∷ [] in
     no_float-object ((codes "process", number_data w.process) ∷ status_members l w.status ++ where_inside) (both refl (none_of (status_members l w.status) where_inside (status_free l w.status) (both (no_float-numbers w.inside) refl)))
 
+reason_free : (l : Legend) (r : Reason) → has_float (reason_data l r) ≡ false
+unfolding reason_data
+reason_free l r =
+    no_float-object
+    ((codes "process", number_data r.process)
+    ∷ (codes "since", number_data r.since)
+    ∷ (codes "entries", routines_data l r.entries)
+    ∷ (codes "in_vain", numbers_data r.in_vain)
+    ∷ (codes "callers", callers_data r.callers)
+    ∷ (codes "text", text_data (reason_text l r))
+    ∷ [])
+    (both refl
+    (both refl
+    (both (no_float-array (λ n. text_data (routine_text l n)) r.entries (λ n. refl))
+    (both (no_float-numbers r.in_vain)
+    (both (no_float-array (λ (c : Caller). number_data c.process) r.callers (λ c. refl)) refl)))))
+
+why_free : (l : Legend) (rs : List Reason) (b : Bool) → list_any is_float_member (if b then [] else (codes "why", reasons_data l rs) ∷ []) ≡ false
+why_free l rs true = refl
+why_free l rs false = both (no_float-array (reason_data l) rs (reason_free l)) refl
+
 simple_free : (simple : Option SimplestSchedule) → list_any is_float_member (spec.simple_members simple) ≡ false
 simple_free None = refl
 simple_free (Some s) = both (no_float-numbers s.word.items) refl
 
 end_free : (s : Setting) (word : List ℕ) (k : OutcomeKind) → list_any is_float_member (spec.end_members s word k) ≡ false
 end_free s word kind.Finished = refl
-end_free s word kind.AllWaiting = both (no_float-array (wait_data s.legend) (waits_after s word) (wait_free s.legend)) refl
+end_free s word kind.AllWaiting =
+    both (no_float-array (wait_data s.legend) (waits_after s word) (wait_free s.legend)) (why_free s.legend (reasons_after s word) (length (reasons_after s word) == 0))
 end_free s word (kind.RunError name process line) = both refl (none_of (error_cause_members s.legend (cause_after s word)) _ (cause_free s.legend (cause_after s word)) (violation_free s.legend (violation_after s word)))
 end_free s word kind.ChoiceLimit = refl
 end_free s word kind.StepLimit = refl

@@ -13,10 +13,11 @@ use Rattle.cp_simplest.specs.declared.finding.SimplestSchedule.{SimplestSchedule
 use Rattle.cp_story.specs.CauseText.{error_cause_members}
 use Rattle.cp_story.specs.Ends.{output_text}
 use Rattle.cp_story.specs.Objects.{Member, array_of, number_data, numbers_data, object_with, text_data}
+use Rattle.cp_story.specs.ReasonText.{why_members}
 use Rattle.cp_story.specs.StoryData.{kind_members, monitors_data, processes_data, signals_members, violation_members, waits_data}
 use Rattle.cp_outcomes.specs.Shares.{share_in, share_text}
 use Rattle.cp_outcomes.specs.Stops.{kind_at, rows_at, stops}
-use Rattle.cp_outcomes.specs.Told.{Setting, Told, cause_after, source_line, violation_after, waits_after}
+use Rattle.cp_outcomes.specs.Told.{Setting, Told, cause_after, reasons_after, source_line, violation_after, waits_after}
 use Rattle.cp_outcomes.specs.declared.stopped.Limit.{Limit}
 use Rattle.cp_outcomes.specs.declared.subject.Excess.{Excess}
 use Rattle.cp_outcomes.specs.declared.subject.Excess.TheVariants.{States, Outcomes}
@@ -32,9 +33,9 @@ abbrev pub simple_members : Option SimplestSchedule → List Member
 simple_members None = []
 simple_members (Some s) = (codes "simplest", numbers_data s.word.items) ∷ (codes "switches", number_data s.switches) ∷ []
 
--- after a schedule that ended so: where all wait, who waits where; of a run error the line, and what it is of if that is known
+-- after a schedule that ended so: where all wait, who waits where, and why; of a run error the line, and what it is of if that is known
 abbrev pub end_members : Setting → (word : List ℕ) → OutcomeKind → List Member
-end_members s word AllWaiting = (codes "final", waits_data s.legend (waits_after s word)) ∷ []
+end_members s word AllWaiting = (codes "final", waits_data s.legend (waits_after s word)) ∷ why_members s.legend (reasons_after s word)
 end_members s word (RunError name process line) = (codes "text", text_data (source_line s.source line)) ∷ error_cause_members s.legend (cause_after s word) ++ violation_members s.legend (violation_after s word)
 end_members s word _ = []
 

@@ -16,6 +16,8 @@ use Rattle.cp_simplest.specs.declared.finding.SimplestSchedule.{SimplestSchedule
 use Rattle.cp_story.specs.Causes.{cause_of_run}
 use Rattle.cp_story.specs.AnnotationText.{detail_line}
 use Rattle.cp_story.specs.Annotations.{Violated, violation_of_run}
+use Rattle.cp_story.specs.ReasonText.{reason_text}
+use Rattle.cp_story.specs.Reasons.{Reason, reasons_of_run}
 use Rattle.cp_story.specs.Sentences.{process_text, wait_text}
 use Rattle.cp_story.specs.Waiting.{Waiting, who_waits}
 use Rattle.cp_story.specs.declared.cause.Cause.{Cause}
@@ -86,9 +88,13 @@ cause_after s word = cause_of_run s.program s.discipline s.choices s.steps word
 abbrev pub violation_after : Setting → (word : List ℕ) → Option Violated
 violation_after s word = violation_of_run s.legend s.program s.discipline s.choices s.steps word
 
--- the lines of an end after a schedule: where all wait, one for each that waits; of a run error one, and what it is of if that is known; else none
+-- why nobody goes on after it
+abbrev pub reasons_after : Setting → (word : List ℕ) → List Reason
+reasons_after s word = reasons_of_run s.legend s.program s.discipline s.choices s.steps word
+
+-- the lines of an end after a schedule: where all wait, one for each that waits, and one for each that waits in a queue, why; of a run error one, and what it is of if that is known; else none
 abbrev pub lines_after : Setting → (word : List ℕ) → OutcomeKind → List (List ℕ)
-lines_after s word AllWaiting = map (wait_text s.legend) (waits_after s word)
+lines_after s word AllWaiting = map (wait_text s.legend) (waits_after s word) ++ map (reason_text s.legend) (reasons_after s word)
 lines_after s word (RunError name process line) = error_text s process line ∷ option_to_list (detail_line s.legend name (cause_after s word) (violation_after s word))
 lines_after s word _ = []
 

@@ -16,14 +16,14 @@ use crate::share::share_of;
 use crate::simples::Simples;
 use crate::stopped::{Limit, schedules_in, schedules_stopped_at};
 use crate::subject::{Excess, Subject};
-use crate::told::{ToldOutcome, line_of, story_of, tell_outcomes, waits_of};
+use crate::told::{ToldOutcome, line_of, story_of, tell_outcomes};
 use cp_legend::Legend;
 use cp_merged::{Tallies, Tally};
 use cp_natural::{Natural, push_natural};
 use cp_run::OutcomeKind;
 use cp_simplest::SimplestSchedule;
 use cp_story::objects::{Object, monitors, numbers, processes, put_kind, put_signals, waits};
-use cp_story::{output_words, put_error_cause, put_violation};
+use cp_story::{output_words, put_error_cause, put_reasons, put_violation};
 use cp_walk::text::push_count;
 use serde_json::Value;
 use std::alloc::{AllocError, Global};
@@ -171,7 +171,7 @@ fn put_simple(
     }
 }
 
-// Who waits where at the end, or the line of a run error and what it is of.
+// Who waits where at the end and why, or the line of a run error and what it is of.
 fn put_end(
     alloc: Global,
     subject: Subject<'_>,
@@ -182,8 +182,9 @@ fn put_end(
 {
     match tally.outcome.kind {
         OutcomeKind::AllWaiting => {
-            let waiting = waits_of(alloc, subject, tally.first.as_slice())?;
-            object.put("final", waits(alloc, subject.legend, &waiting)?)
+            let standstill = story_of(alloc, subject, tally.first.as_slice())?;
+            object.put("final", waits(alloc, subject.legend, &standstill.waits)?)?;
+            put_reasons(alloc, subject.legend, object, &standstill.reasons)
         }
         OutcomeKind::RunError { line, .. } => {
             object.text("text", line_of(subject.source, line))?;

@@ -7,6 +7,8 @@ ghost use Rattle.cp_legend.specs.Names.{legend_seen};
 ghost use Rattle.cp_merged.specs.Code.{tally_of};
 ghost use Rattle.cp_story.specs.AnnotationText.{detail_line};
 ghost use Rattle.cp_story.specs.Annotations.{violation_seen};
+ghost use Rattle.cp_story.specs.ReasonText.{reason_text};
+ghost use Rattle.cp_story.specs.Reasons.{reason_seen};
 ghost use Rattle.cp_story.specs.Sentences.{wait_text};
 ghost use Rattle.cp_story.specs.Views.{wait_of};
 ghost use Rattle.cp_outcomes.specs.Told as spec;
@@ -20,7 +22,9 @@ use cp_machine::{ErrorName, Ticks};
 use cp_merged::Tally;
 use cp_run::OutcomeKind;
 use cp_simplest::SimplestSchedule;
-use cp_story::{Story, Wait, detail_line, tell, wait_words};
+use cp_story::{
+    Story, Wait, WaitReason, detail_line, reason_text as reason_words, tell, wait_words,
+};
 use cp_walk::Job;
 use std::alloc::{AllocError, Global};
 use std::marker::Brand;
@@ -94,7 +98,7 @@ fn tell_outcome<'a>(
     Ok(ToldOutcome { tally, simple })
 }
 
-/// Who waits where at the end of an outcome's first schedule, or the line of a run error.
+/// Who waits where at the end of an outcome's first schedule and why, or the line of a run error.
 pub fn end_lines(
     alloc: Global,
     subject: Subject<'_>,
@@ -104,8 +108,8 @@ pub fn end_lines(
 {
     match tally.outcome.kind {
         OutcomeKind::AllWaiting => {
-            let waits = waits_of(alloc, subject, tally.first.as_slice())?;
-            wait_lines(alloc, subject.legend, &waits)
+            let story = story_of(alloc, subject, tally.first.as_slice())?;
+            standstill_lines(alloc, subject.legend, &story)
         }
         OutcomeKind::RunError {
             name,
@@ -136,6 +140,34 @@ fn error_lines(
     Ok(lines)
 }
 
+// Who waits where, and why those who wait in queues are not woken.
+fn standstill_lines(
+    alloc: Global,
+    legend: &Legend,
+    story: &Story,
+) -> Result<Vec<String>, AllocError>
+    ensures { IfOk result (λ lines. map string_bytes lines.items ≡ map (wait_text (legend_seen legend.now)) (map wait_of story.now.waits.items) ++ map (reason_text (legend_seen legend.now)) (map reason_seen story.now.reasons.items)) }
+{
+    let mut lines = wait_lines(alloc, legend, &story.waits)?;
+    push_reason_lines(alloc, legend, &mut lines, &story.reasons)?;
+    Ok(lines)
+}
+
+#[tactic(auto, using(crate::proofs::Gathering::left_step, crate::proofs::Gathering::left_none, crate::proofs::Gathering::line_more))]
+fn push_reason_lines(
+    alloc: Global,
+    legend: &Legend,
+    lines: &mut Vec<String>,
+    reasons: &[WaitReason],
+) -> Result<(), AllocError>
+    ensures { IfOk result (λ _. map string_bytes lines.new.items ≡ map string_bytes lines.old.items ++ map (reason_text (legend_seen legend.now)) (map reason_seen reasons.now)) }
+{
+    for reason in reasons {
+        lines.push(reason_words(alloc, legend, reason)?)?;
+    }
+    Ok(())
+}
+
 fn wait_lines(alloc: Global, legend: &Legend, waits: &[Wait]) -> Result<Vec<String>, AllocError>
     ensures { IfOk result (λ lines. map string_bytes lines.items ≡ map (wait_text (legend_seen legend.now)) (map wait_of waits.now)) }
 {
@@ -144,14 +176,6 @@ fn wait_lines(alloc: Global, legend: &Legend, waits: &[Wait]) -> Result<Vec<Stri
         lines.push(wait_words(alloc, legend, wait)?)?;
     }
     Ok(lines)
-}
-
-/// Who waits at the end of a schedule, and where.
-pub fn waits_of(alloc: Global, subject: Subject<'_>, word: &[u8]) -> Result<Vec<Wait>, AllocError>
-    requires { length word.now ≤ 100 }
-    ensures { IfOk result (λ waits. map wait_of waits.items ≡ spec.waits_after (setting_of subject.entry subject.entry.limits.choices) word.now) }
-{
-    Ok(story_by::<Brand>(alloc, subject, word, Blank::new(1))?.waits)
 }
 
 // What the error of a schedule is of, on a line of its own.
@@ -171,6 +195,8 @@ fn detail_of(
 /// What is told of a schedule.
 pub fn story_of(alloc: Global, subject: Subject<'_>, word: &[u8]) -> Result<Story, AllocError>
     requires { length word.now ≤ 100 }
+    ensures waits { IfOk result (λ s. map wait_of s.waits.items ≡ spec.waits_after (setting_of subject.entry subject.entry.limits.choices) word.now) }
+    ensures reasons { IfOk result (λ s. map reason_seen s.reasons.items ≡ spec.reasons_after (setting_of subject.entry subject.entry.limits.choices) word.now) }
     ensures cause { IfOk result (λ s. s.cause ≡ spec.cause_after (setting_of subject.entry subject.entry.limits.choices) word.now) }
     ensures violation { IfOk result (λ s. option_map violation_seen s.violation ≡ spec.violation_after (setting_of subject.entry subject.entry.limits.choices) word.now) }
 {
@@ -188,6 +214,7 @@ fn story_by<L: Ledger>(
     requires one { L.parts ≡ 1 }
     requires word { length word.now ≤ 100 }
     ensures waits { IfOk result (λ s. map wait_of s.waits.items ≡ spec.waits_after (setting_of subject.entry subject.entry.limits.choices) word.now) }
+    ensures reasons { IfOk result (λ s. map reason_seen s.reasons.items ≡ spec.reasons_after (setting_of subject.entry subject.entry.limits.choices) word.now) }
     ensures cause { IfOk result (λ s. s.cause ≡ spec.cause_after (setting_of subject.entry subject.entry.limits.choices) word.now) }
     ensures violation { IfOk result (λ s. option_map violation_seen s.violation ≡ spec.violation_after (setting_of subject.entry subject.entry.limits.choices) word.now) }
 {

@@ -1,7 +1,7 @@
 //! The data of a page: one JSON object.
 
-ghost use Rattle.std.specs.Prelude.{◌≡◌};
-ghost use Rattle.cp_machine.specs.System.{IsStateOf};
+ghost use Rattle.std.specs.Prelude.{◌≡◌, [], All};
+ghost use Rattle.cp_machine.specs.System.{machine_of, opening, IsStateOf};
 
 use crate::endless::endless_of;
 use crate::graph::PageGraph;
@@ -14,10 +14,11 @@ use crate::source::put_source;
 use crate::subject::{Length, MOST_STATES, PageSubject};
 use crate::teller::Teller;
 use cp_legend::Legend;
-use cp_machine::{Gates, Signals, State, Ticks};
+use cp_machine::{Gates, Signals, State};
 use cp_merged::Tally;
 use cp_progress::ObserveProgress;
 use cp_run::OutcomeKind;
+use cp_search::{SearchJob, Visit, visit_all};
 use cp_slots::Resolved;
 use cp_walk::Job;
 use std::alloc::{AllocError, Global};
@@ -64,7 +65,15 @@ fn put_counted<O: ObserveProgress>(
         None => &[],
     };
     let words = first_words(alloc, tallies, MOST_LAID_OUT)?;
-    put_graph::<LimitedSchedules, O>(alloc, json, subject, observer, merging_for(tallies), &words)?;
+    put_graph::<LimitedSchedules, O, Brand>(
+        alloc,
+        json,
+        subject,
+        observer,
+        merging_for(tallies),
+        &words,
+        Blank::new(1),
+    )?;
     json.put_member("isWhole", found.is_some());
     json.put_member("more", tallies.len().saturating_sub(MOST_LISTED));
     json.put_name("outcomes");
@@ -80,13 +89,14 @@ fn put_endless<O: ObserveProgress>(
 ) -> Result<(), AllocError> {
     let endless = endless_of(alloc, subject, observer)?;
     let words = endless.words(alloc)?;
-    put_graph::<EndlessSchedules, O>(
+    put_graph::<EndlessSchedules, O, Brand>(
         alloc,
         json,
         subject,
         observer,
         Merging::WithoutOutput,
         &words,
+        Blank::new(1),
     )?;
     endless.put(alloc, json, subject.legend)
 }
@@ -153,19 +163,56 @@ fn put_pair(json: &mut Json, name: &str, type_name: &str) {
 }
 
 // The variables that stay with their first values, the states and the edges that are found, and the tables on which they stand.
-fn put_graph<K: Schedules, O: ObserveProgress>(
+fn put_graph<K: Schedules, O: ObserveProgress, S: Ledger>(
     alloc: Global,
     json: &mut Json,
     subject: PageSubject<'_>,
     observer: &mut O,
     merging: Merging,
     words: &[Vec<u8>],
-) -> Result<(), AllocError> {
-    let state = State::start(alloc, subject.program, subject.limits.discipline)?;
-    let mut teller: Teller<'_, K> = Teller::new(alloc, subject.legend, &state)?;
-    let views = put_start(json, subject.program, &state, &mut teller)?;
-    let mut graph = PageGraph::new(alloc, subject, teller, merging);
-    put_found(json, subject, observer, words, &mut graph, &views)
+    blank: Blank,
+) -> Result<(), AllocError>
+    requires name { blank.name ≡ S.name }
+    requires parts { blank.parts ≡ S.parts }
+    requires one { S.parts ≡ 1 }
+{
+    let job = SearchJob {
+        alloc,
+        program: subject.program,
+        limits: subject.limits,
+        most: subject.states,
+    };
+    let mut state = State::start(alloc, job.program, job.limits.discipline)?;
+    let mut graph: PageGraph<'_, K, S> = PageGraph::new(alloc, subject, &state, merging, blank)?;
+    put_from(
+        &job,
+        json,
+        observer,
+        &mut graph,
+        &mut state,
+        subject.word,
+        words,
+    )
+}
+
+// The same, of schedules that begin in this state, where the graph has no states yet.
+fn put_from<K: Schedules, O: ObserveProgress, S: Ledger>(
+    job: &SearchJob<'_>,
+    json: &mut Json,
+    observer: &mut O,
+    graph: &mut PageGraph<'_, K, S>,
+    state: &mut State,
+    first: &[u8],
+    words: &[Vec<u8>],
+) -> Result<(), AllocError>
+    requires own { IsStateOf job.now.program.now state.old }
+    requires start { machine_of state.old ≡ opening job.now.program.now job.now.limits.discipline }
+    requires none { graph.old.states.items ≡ [] }
+{
+    let views = put_start(json, job.program, state, &mut graph.teller)?;
+    let start = lay_out(job, observer, graph, state, first, words)?;
+    put_found(json, graph, start, &views);
+    Ok(())
 }
 
 // The variables that stay, with their first values. The answer is where each process stands before it is started.
@@ -183,16 +230,13 @@ fn put_start<K: Schedules>(
     first_views(program, state, register)
 }
 
-// The states and the edges that are found, with the tables, where these are the views at the start.
-fn put_found<K: Schedules, O: ObserveProgress>(
+// The states and the edges that are found, with the tables. These are the edge before the first choice and the views at the start.
+fn put_found<K: Schedules, S: Ledger>(
     json: &mut Json,
-    subject: PageSubject<'_>,
-    observer: &mut O,
-    words: &[Vec<u8>],
-    graph: &mut PageGraph<'_, K>,
+    graph: &PageGraph<'_, K, S>,
+    start: usize,
     views: &Json,
-) -> Result<(), AllocError> {
-    let start = lay_out::<K, O, Brand>(subject, observer, graph, words, Blank::new(1))?;
+) {
     json.put_name("start");
     json.open();
     json.put_plain(start);
@@ -201,7 +245,6 @@ fn put_found<K: Schedules, O: ObserveProgress>(
     json.put_name("nodes");
     graph.put_nodes(json);
     graph.teller.register.put(json);
-    Ok(())
 }
 
 // Which states are merged where these are the outcomes.
@@ -231,29 +274,50 @@ fn first_views(
     Ok(views)
 }
 
-// Finds the states: the first ones, those along the schedule that is laid out at first, and those along words, until so many were gone on from for
-// these. The answer is the edge before the first choice.
+// Finds the states: the first ones, those along the schedule that is laid out at first, and those along words. The answer is the edge before the
+// first choice.
 fn lay_out<K: Schedules, O: ObserveProgress, S: Ledger>(
-    subject: PageSubject<'_>,
+    job: &SearchJob<'_>,
     observer: &mut O,
-    graph: &mut PageGraph<'_, K>,
+    graph: &mut PageGraph<'_, K, S>,
+    state: &mut State,
+    first: &[u8],
     words: &[Vec<u8>],
-    blank: Blank,
 ) -> Result<usize, AllocError>
-    requires name { blank.name ≡ S.name }
-    requires parts { blank.parts ≡ S.parts }
-    requires one { S.parts ≡ 1 }
+    requires own { IsStateOf job.now.program.now state.old }
+    requires start { machine_of state.old ≡ opening job.now.program.now job.now.limits.discipline }
+    requires none { graph.old.states.items ≡ [] }
 {
-    let mut ticks: Ticks<S> = Ticks::new(blank);
-    let start = graph.begin(&mut ticks)?;
-    graph.explore(observer, &mut ticks)?;
-    graph.lay(observer, start, subject.word, &mut ticks)?;
-    let mut left = subject.states as usize;
+    let start = graph.begin(job, state)?;
+    let mut next = state.copy(job.alloc)?;
+    visit_all(job, graph, state, &mut next, observer)?;
+    graph.lay(job, start, first, state, &mut next)?;
+    lay_words(job, observer, graph, start, words, state, &mut next)?;
+    Ok(start)
+}
+
+// Finds the states along words, until so many were gone on from for these.
+fn lay_words<K: Schedules, O: ObserveProgress, S: Ledger>(
+    job: &SearchJob<'_>,
+    observer: &mut O,
+    graph: &mut PageGraph<'_, K, S>,
+    start: usize,
+    words: &[Vec<u8>],
+    state: &mut State,
+    next: &mut State,
+) -> Result<(), AllocError>
+    requires own { IsStateOf job.now.program.now state.old }
+    requires next { IsStateOf job.now.program.now next.old }
+    requires states { All (IsStateOf job.now.program.now) graph.old.states.items }
+{
+    let mut left = job.most as usize;
     for word in words {
         if left == 0 {
             break;
         }
-        left = left.saturating_sub(graph.lay(observer, start, word, &mut ticks)?);
+        let choices = u32::try_from(word.len()).unwrap_or(u32::MAX);
+        observer.observe_progress(graph.progress(choices));
+        left = left.saturating_sub(graph.lay(job, start, word, state, next)?);
     }
-    Ok(start)
+    Ok(())
 }

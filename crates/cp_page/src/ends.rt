@@ -11,14 +11,14 @@ use cp_machine::State;
 use cp_run::OutcomeKind;
 use cp_slots::Resolved;
 use cp_story::{
-    Annotation, cause_of_kind, cause_text, error_words, kind_words, violation_of_kind,
-    violation_words,
+    Annotation, cause_of_kind, cause_text, error_words, kind_words, push_callers, push_continuing,
+    reasons_in, violation_of_kind, violation_words,
 };
 use std::alloc::AllocError;
 
 /// An end where a stretch came to it: `[kind, error, process, line]`. Of a limit, and of a stretch that goes on for ever, it is said who was
 /// going on, and where; and of a run error what it is of, as a fifth member, if that is known. Of an annotation the
-/// monitor follows whose invariant is broken, or -1.
+/// monitor follows whose invariant is broken, or -1. Where all wait, the fifth member is why each process that waits in a queue is not woken.
 pub fn end_row(
     register: &Register<'_>,
     program: &Resolved,
@@ -37,6 +37,10 @@ pub fn end_row(
         End::Alone(process) | End::Spins(process) => {
             put_going(&mut row, program, state, end, process);
         }
+        End::Over(OutcomeKind::AllWaiting) => {
+            put_members(&mut row, end);
+            put_reasons(&mut row, register, program, state)?;
+        }
         End::Over(kind) => {
             put_members(&mut row, end);
             put_detail(&mut row, register, program, state, kind)?;
@@ -44,6 +48,31 @@ pub fn end_row(
     }
     row.close();
     Ok(row)
+}
+
+// Of each process that waits in a queue `[process, who continues the queue, who could do so and waits]`, in words. Since when, and when that was in
+// vain, depends on the way.
+fn put_reasons(
+    row: &mut Json,
+    register: &Register<'_>,
+    program: &Resolved,
+    state: &State,
+) -> Result<(), AllocError> {
+    let Register { alloc, legend, .. } = *register;
+    row.open();
+    for reason in &reasons_in(alloc, program, legend, state)? {
+        let mut continuing = String::new(alloc);
+        push_continuing(alloc, legend, &mut continuing, reason)?;
+        let mut callers = String::new(alloc);
+        push_callers(alloc, legend, &mut callers, reason)?;
+        row.open();
+        row.put_plain(reason.process);
+        row.put_quoted(continuing.as_str());
+        row.put_quoted(callers.as_str());
+        row.close();
+    }
+    row.close();
+    Ok(())
 }
 
 // What a run error is of, if that is known.

@@ -1,173 +1,147 @@
 //! The graph of a page: states at a due choice, and what each choice leads to.
 
-ghost use Rattle.cp_machine.specs.System.{IsStateOf};
+ghost use Rattle.std.specs.Prelude.{◌≡◌, [], All, IfOk};
+ghost use Rattle.cp_machine.specs.System.{machine_of, opening, IsStateOf};
 
-use crate::due::DueState;
 use crate::ends::end_row;
 use crate::json::Json;
 use crate::keys::{Merging, key_of};
 use crate::schedules::Schedules;
 use crate::subject::{Length, PageSubject};
 use crate::teller::Teller;
+use arrayvec::ArrayVec;
 use cp_ends::End;
 use cp_ends::state_key::ReachedKey;
 use cp_machine::{State, Ticks};
-use cp_progress::{ObserveProgress, Progress, STATES_BETWEEN};
-use cp_run::{Halt, may};
-use cp_slots::Resolved;
+use cp_progress::Progress;
+use cp_run::{Halt, candidates};
+use cp_search::{SearchJob, Visit, take_choices};
+use cp_story::OpenCall;
 use indexmap::IndexSet;
 use std::alloc::{AllocError, Global};
 use std::mem;
-use std::sync::ledger::Ledger;
+use std::sync::ledger::{Blank, Ledger};
 
-/// A state, and where it leads to.
+/// What belongs to a state at a due choice, and where it leads to.
 #[derive(Drop)]
-struct Node<'a> {
-    due: DueState<'a>,
+struct Node {
+    /// The monitor whose line is chosen from, if it is not a process.
+    gate: Option<u8>,
+    /// The numbers that may be chosen, in rising order.
+    options: ArrayVec<u8, 16>,
+    /// The open calls of each process.
+    calls: Vec<Vec<OpenCall>>,
+    /// The fewest choices that lead here.
+    depth: u8,
     /// An edge for each number that may be chosen, where the state was gone on from.
     edges: Vec<usize>,
 }
 
 /// The states that were found, and the edges between them.
 #[derive(Drop)]
-pub struct PageGraph<'a, K> {
-    subject: PageSubject<'a>,
+pub struct PageGraph<'a, K, S: Ledger> {
     pub teller: Teller<'a, K>,
+    length: Length,
     merging: Merging,
-    nodes: Vec<Node<'a>>,
+    pub states: Vec<State>,
+    /// Of each state.
+    nodes: Vec<Node>,
     /// The keys of the states.
     known: IndexSet<ReachedKey>,
     /// The state that each edge leads to, where it leads to no end.
     targets: Vec<Option<usize>>,
-    /// How many states were gone on from.
-    gone_on: u32,
-    /// The most choices that lead to one of these.
-    choices: u8,
+    ticks: Ticks<S>,
 }
 
-impl<'a, K: Schedules> PageGraph<'a, K> {
-    /// A graph without states.
+impl<'a, K: Schedules, S: Ledger> PageGraph<'a, K, S> {
+    /// A graph without states, of schedules that begin in this one.
     pub fn new(
         alloc: Global,
         subject: PageSubject<'a>,
-        teller: Teller<'a, K>,
+        start: &State,
         merging: Merging,
-    ) -> PageGraph<'a, K> {
-        PageGraph {
-            subject,
-            teller,
+        blank: Blank,
+    ) -> Result<PageGraph<'a, K, S>, AllocError>
+        requires name { blank.name ≡ S.name }
+        requires parts { blank.parts ≡ S.parts }
+        requires one { S.parts ≡ 1 }
+        ensures { IfOk result (λ graph. graph.states.items ≡ []) }
+    {
+        Ok(PageGraph {
+            teller: Teller::new(alloc, subject.legend, start)?,
+            length: subject.length,
             merging,
+            states: Vec::new(alloc),
             nodes: Vec::new(alloc),
             known: IndexSet::new(alloc),
             targets: Vec::new(alloc),
-            gone_on: 0,
-            choices: 0,
-        }
-    }
-
-    fn alloc(&self) -> Global {
-        self.teller.register.alloc
+            ticks: Ticks::new(blank),
+        })
     }
 
     /// The events before the first choice, as an edge.
-    pub fn begin<S: Ledger>(&mut self, ticks: &mut Ticks<S>) -> Result<usize, AllocError> {
-        let PageSubject {
-            program,
-            limits,
-            ..
-        } = self.subject;
-        let mut state = State::start(self.alloc(), program, limits.discipline)?;
-        self.teller.begin_edge(&state)?;
+    pub fn begin(&mut self, job: &SearchJob<'_>, state: &mut State) -> Result<usize, AllocError>
+        requires own { IsStateOf job.now.program.now state.old }
+        requires start { machine_of state.old ≡ opening job.now.program.now job.now.limits.discipline }
+        requires none { self.old.states.items ≡ [] }
+        ensures own { IsStateOf job.now.program.now state.new }
+        ensures states { IfOk result (λ _. All (IsStateOf job.now.program.now) self.new.states.items) }
+    {
+        self.teller.begin_edge(state)?;
         let halt = self
             .teller
-            .tell_opening(program, limits, &mut state, ticks)?;
-        self.arrive(program, state, halt, 0)
+            .tell_opening(job.program, job.limits, state, &mut self.ticks)?;
+        self.arrive(job, state, halt, 0)
     }
 
-    // Goes on from a state, if there is one at this place, with each process that may be chosen.
-    fn expand<O: ObserveProgress, S: Ledger>(
-        &mut self,
-        observer: &mut O,
-        at: usize,
-        ticks: &mut Ticks<S>,
-    ) -> Result<(), AllocError> {
-        let Some(node) = self.nodes.get(at) else {
+    // Begins the edge of a choice in this state, which has this number. The answer is how many choices lead to where it leads.
+    fn begin_choice(&mut self, number: usize, state: &State) -> Result<u8, AllocError>
+        ensures { self.new.states ≡ self.old.states }
+    {
+        self.teller.begin_edge(state)?;
+        let Some(node) = self.nodes.get(number) else {
+            return Ok(0);
+        };
+        self.teller.observer.calls = node.calls.clone()?;
+        Ok(node.depth.saturating_add(1))
+    }
+
+    // One edge more from the state of this number.
+    fn add_edge(&mut self, number: usize, edge: usize) -> Result<(), AllocError>
+        ensures { self.new.states ≡ self.old.states }
+    {
+        let Some(node) = self.nodes.get_mut(number) else {
             return Ok(());
         };
-        let before = node.due.copy(self.alloc())?;
-        self.tell_progress(observer, self.depth_of(at));
-        for process in 0..self.subject.program.processes() {
-            self.go_on(at, &before, process, ticks)?;
-        }
+        node.edges.push(edge)?;
         Ok(())
-    }
-
-    // Tells now and then how far this has come, before a state is gone on from to which so many choices lead.
-    fn tell_progress<O: ObserveProgress>(&mut self, observer: &mut O, depth: u8) {
-        self.choices = self.choices.max(depth);
-        if self.gone_on % STATES_BETWEEN == 0 {
-            observer.observe_progress(Progress {
-                choices: u32::from(self.choices),
-                states: self.nodes.len(),
-                outcomes: None,
-            });
-        }
-        self.gone_on = self.gone_on.wrapping_add(1);
-    }
-
-    // Goes on from a state with a process, if it may be chosen.
-    fn go_on<S: Ledger>(
-        &mut self,
-        at: usize,
-        before: &DueState<'a>,
-        process: u8,
-        ticks: &mut Ticks<S>,
-    ) -> Result<(), AllocError> {
-        let limits = self.subject.limits;
-        let program = before.program;
-        if !may(program, limits, &before.state, process) {
-            return Ok(());
-        }
-        let mut state = before.state.copy(self.alloc())?;
-        self.teller.begin_edge(&state)?;
-        self.teller.observer.calls = before.calls.clone()?;
-        let halt = self
-            .teller
-            .tell_choice(program, limits, &mut state, process, ticks)?;
-        let edge = self.arrive(program, state, halt, before.depth.saturating_add(1))?;
-        if let Some(node) = self.nodes.get_mut(at) {
-            node.edges.push(edge)?;
-        }
-        Ok(())
-    }
-
-    // How many choices lead to a state.
-    fn depth_of(&self, at: usize) -> u8 {
-        match self.nodes.get(at) {
-            Some(node) => node.due.depth,
-            None => 0,
-        }
     }
 
     // The edge to where a stretch came to.
     fn arrive(
         &mut self,
-        program: &'a Resolved,
-        state: State,
+        job: &SearchJob<'_>,
+        state: &State,
         halt: Halt<End>,
         depth: u8,
     ) -> Result<usize, AllocError>
-        requires { IsStateOf program.now state }
+        requires own { IsStateOf job.now.program.now state.now }
+        requires states { All (IsStateOf job.now.program.now) self.old.states.items }
+        ensures states { IfOk result (λ _. All (IsStateOf job.now.program.now) self.new.states.items) }
     {
         match halt {
             Halt::Ended(end) => {
-                let register = &self.teller.register;
-                let row = end_row(register, program, &state, end, self.teller.going)?;
-                let place = self.teller.register.ends.place(&row)?;
+                let Teller {
+                    register,
+                    going,
+                    ..
+                } = &mut self.teller;
+                let row = end_row(register, job.program, state, end, *going)?;
+                let place = register.ends.place(&row)?;
                 self.edge_to(None, place)
             }
             Halt::Choice => {
-                let place = self.place_state(program, state, depth)?;
+                let place = self.place_state(job, state, depth)?;
                 self.edge_to(Some(place), place)
             }
         }
@@ -176,33 +150,33 @@ impl<'a, K: Schedules> PageGraph<'a, K> {
     // The place of a state, which is added where it is new.
     fn place_state(
         &mut self,
-        program: &'a Resolved,
-        state: State,
+        job: &SearchJob<'_>,
+        state: &State,
         depth: u8,
     ) -> Result<usize, AllocError>
-        requires { IsStateOf program.now state }
+        requires own { IsStateOf job.now.program.now state.now }
+        requires states { All (IsStateOf job.now.program.now) self.old.states.items }
+        ensures states { IfOk result (λ _. All (IsStateOf job.now.program.now) self.new.states.items) }
     {
-        let alloc = self.alloc();
-        let (place, is_new) = self
-            .known
-            .insert_full(key_of(alloc, &state, self.merging)?)?;
+        let key = key_of(job.alloc, state, self.merging)?;
+        let (place, is_new) = self.known.insert_full(key)?;
         if is_new {
-            let calls = mem::replace(&mut self.teller.observer.calls, Vec::new(alloc));
+            self.states.push(state.copy(job.alloc)?)?;
             self.nodes.push(Node {
-                due: DueState {
-                    program,
-                    state,
-                    calls,
-                    depth,
-                },
-                edges: Vec::new(alloc),
+                gate: state.pending(),
+                options: candidates(job.program, job.limits, state),
+                calls: mem::replace(&mut self.teller.observer.calls, Vec::new(job.alloc)),
+                depth,
+                edges: Vec::new(job.alloc),
             })?;
         }
         Ok(place)
     }
 
     // The place of the edge with the events that were told, which leads to a state, or else to the end of this place.
-    fn edge_to(&mut self, target: Option<usize>, place: usize) -> Result<usize, AllocError> {
+    fn edge_to(&mut self, target: Option<usize>, place: usize) -> Result<usize, AllocError>
+        ensures { self.new.states ≡ self.old.states }
+    {
         let edge = self.teller.place_edge(target.is_some(), place)?;
         if edge >= self.targets.len() {
             self.targets.push(target)?;
@@ -210,46 +184,66 @@ impl<'a, K: Schedules> PageGraph<'a, K> {
         Ok(edge)
     }
 
-    /// Goes on from the first states that are found, up to so many, with up to K choices where there is such a limit.
-    pub fn explore<O: ObserveProgress, S: Ledger>(
-        &mut self,
-        observer: &mut O,
-        ticks: &mut Ticks<S>,
-    ) -> Result<(), AllocError> {
-        for at in 0..self.subject.states as usize {
-            if !self.is_last(at) {
-                self.expand(observer, at, ticks)?;
-            }
-        }
-        Ok(())
-    }
-
     // Whether K choices lead to a state, where there is such a limit.
-    fn is_last(&self, at: usize) -> bool {
-        self.subject.length == Length::Limited && self.depth_of(at) >= self.subject.limits.choices
+    fn is_last(&self, job: &SearchJob<'_>, number: usize) -> bool {
+        match self.nodes.get(number) {
+            Some(node) => self.length == Length::Limited && node.depth >= job.limits.choices,
+            None => true,
+        }
     }
 
     /// Goes on from the states along a word that were not gone on from; the answer is how many these were.
-    pub fn lay<O: ObserveProgress, S: Ledger>(
+    pub fn lay(
         &mut self,
-        observer: &mut O,
+        job: &SearchJob<'_>,
         start: usize,
         word: &[u8],
-        ticks: &mut Ticks<S>,
-    ) -> Result<usize, AllocError> {
+        state: &mut State,
+        next: &mut State,
+    ) -> Result<usize, AllocError>
+        requires own { IsStateOf job.now.program.now state.old }
+        requires next { IsStateOf job.now.program.now next.old }
+        requires states { All (IsStateOf job.now.program.now) self.old.states.items }
+        ensures own { IsStateOf job.now.program.now state.new }
+        ensures next { IsStateOf job.now.program.now next.new }
+        ensures states { IfOk result (λ _. All (IsStateOf job.now.program.now) self.new.states.items) }
+    {
         let mut edge = Some(start);
         let mut count = 0usize;
         for number in word {
             let Some(at) = self.target_of(edge) else {
                 break;
             };
-            if self.is_open(at) {
-                self.expand(observer, at, ticks)?;
-                count = count.saturating_add(1);
-            }
+            count = count.saturating_add(self.expand(job, at, state, next)?);
             edge = self.edge_of(at, *number);
         }
         Ok(count)
+    }
+
+    // Goes on from the state of this place with each process that may be chosen, if it was not gone on from; the answer is how many states these are.
+    fn expand(
+        &mut self,
+        job: &SearchJob<'_>,
+        at: usize,
+        state: &mut State,
+        next: &mut State,
+    ) -> Result<usize, AllocError>
+        requires own { IsStateOf job.now.program.now state.old }
+        requires next { IsStateOf job.now.program.now next.old }
+        requires states { All (IsStateOf job.now.program.now) self.old.states.items }
+        ensures own { IsStateOf job.now.program.now state.new }
+        ensures next { IsStateOf job.now.program.now next.new }
+        ensures states { IfOk result (λ _. All (IsStateOf job.now.program.now) self.new.states.items) }
+    {
+        let (Some(found), Ok(number)) = (self.states.get(at), u32::try_from(at)) else {
+            return Ok(0);
+        };
+        if !self.is_open(at) {
+            return Ok(0);
+        }
+        state.take_from(found);
+        take_choices(job, self, number, state, next)?;
+        Ok(1)
     }
 
     // The state to which an edge leads.
@@ -268,8 +262,8 @@ impl<'a, K: Schedules> PageGraph<'a, K> {
     // The edge of a number in a state.
     fn edge_of(&self, at: usize, number: u8) -> Option<usize> {
         let node = self.nodes.get(at)?;
-        let options = node.due.options(self.subject.limits);
-        let place = options
+        let place = node
+            .options
             .as_slice()
             .iter()
             .position(|option| *option == number)?;
@@ -280,27 +274,90 @@ impl<'a, K: Schedules> PageGraph<'a, K> {
     pub fn put_nodes(&self, json: &mut Json) {
         json.open();
         for node in &self.nodes {
-            json.open();
-            match node.due.state.pending() {
-                Some(monitor) => json.put_plain(monitor),
-                None => json.put_plain(-1i64),
-            }
-            self.put_options(json, node);
-            json.close();
+            node.put(json);
         }
         json.close();
     }
+}
 
-    fn put_options(&self, json: &mut Json, node: &Node<'_>) {
+impl<'a, K: Schedules, S: Ledger> Visit for PageGraph<'a, K, S> {
+    ghost use Rattle.std.specs.Prelude.{All};
+    ghost use Rattle.cp_machine.specs.System.{IsStateOf};
+
+    ghost before = { λ v job n. All (IsStateOf job.program.now) v.states.items };
+
+    ghost within = { λ v job at m done. All (IsStateOf job.program.now) v.states.items };
+
+    ghost over = { λ v job. All (IsStateOf job.program.now) v.states.items };
+
+    ghost stops = { λ v job at. All (IsStateOf job.program.now) v.states.items };
+
+    fn len(&self) -> usize {
+        self.states.len()
+    }
+
+    fn progress(&self, choices: u32) -> Progress {
+        Progress {
+            choices,
+            states: self.states.len(),
+            outcomes: None,
+        }
+    }
+
+    fn thaw_at(&mut self, job: &SearchJob<'_>, number: u32, state: &mut State) -> bool {
+        if self.is_last(job, number as usize) {
+            return false;
+        }
+        match self.states.get(number as usize) {
+            Some(found) => {
+                state.take_from(found);
+                true
+            }
+            None => false,
+        }
+    }
+
+    fn take(
+        &mut self,
+        job: &SearchJob<'_>,
+        at: u32,
+        state: &State,
+        next: &mut State,
+        process: u8,
+    ) -> Result<bool, AllocError> {
+        let depth = self.begin_choice(at as usize, next)?;
+        let halt = self
+            .teller
+            .tell_choice(job.program, job.limits, next, process, &mut self.ticks)?;
+        let edge = self.arrive(job, next, halt, depth)?;
+        self.add_edge(at as usize, edge)?;
+        next.take_from(state);
+        Ok(true)
+    }
+
+    fn end_state(&mut self, _job: &SearchJob<'_>, _at: u32) -> Result<(), AllocError> {
+        Ok(())
+    }
+
+    ghost fills = { λ v job own. own };
+}
+
+impl Node {
+    fn put(&self, json: &mut Json) {
         json.open();
-        let options = node.due.options(self.subject.limits);
-        for (place, option) in options.as_slice().iter().enumerate() {
+        match self.gate {
+            Some(monitor) => json.put_plain(monitor),
+            None => json.put_plain(-1i64),
+        }
+        json.open();
+        for (place, option) in self.options.as_slice().iter().enumerate() {
             json.put_plain(*option);
-            match node.edges.get(place) {
+            match self.edges.get(place) {
                 Some(edge) => json.put_plain(*edge),
                 None => json.put_plain(-1i64),
             }
         }
+        json.close();
         json.close();
     }
 }

@@ -2,7 +2,6 @@
 #![tactic(auto)]
 
 mod data;
-mod due;
 mod endless;
 mod ends;
 mod events;

@@ -8,13 +8,13 @@ pub const BEGIN: &str = r##"<!DOCTYPE html>
 <meta http-equiv="Content-Security-Policy" content="default-src 'none'; base-uri 'none'; form-action 'none'; style-src 'sha256-"##;
 
 /// The SHA-256 of the style sheet to the base 64.
-pub const STYLE_HASH: &str = "5gEuDmnKkp4MTiZSm66B0XLCe+ZjPC+578I9o9cssz0=";
+pub const STYLE_HASH: &str = "PrKG3boGzshgRolmb7BO30kLJakbpNrEv3Tyrpd8AE8=";
 
 /// Between the hashes.
 pub const BETWEEN: &str = "'; script-src 'sha256-";
 
 /// The SHA-256 of the script to the base 64.
-pub const SCRIPT_HASH: &str = "4EsNZ0lZt1ujLilUfEumN4yj7XE2tRbm20xhFL49coA=";
+pub const SCRIPT_HASH: &str = "0bCbkSbSQzsbvpHSRrl+Li7iXUZzng31Av+VAlTgEzo=";
 
 /// Between the hash of the script and the style sheet.
 pub const HEAD: &str = r##"'">

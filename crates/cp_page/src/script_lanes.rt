@@ -4,7 +4,7 @@
 pub const LANES: &str = r##"// ---- the lanes of all that is laid out: what lies ahead is pale ----
 
 const H = 28;
-const HEAD = 60; // The height of the heads.
+const HEAD = 68; // The height of the heads.
 const TOP = 4;
 const CHOICE = 28; // The width of a number that can be clicked at.
 const LEAST_SCALE = .86; // So that what can be clicked at has 24 pixels.
@@ -213,14 +213,20 @@ const filled = (kind, m) => isHatched(m) ? { fill: patternOf(kind, m) } : {};
 const softly = m => isHatched(m) ? hue(m) : "soft " + hue(m);
 const strongly = m => isHatched(m) ? hue(m) : "strong " + hue(m);
 
+// At the foot of a wait that nobody is left to end.
+function crossAt(x, y) {
+  return svg("g", { class: "stuck" }, svg("circle", { cx: x, cy: y, r: 7 }), svg("path", { d: `M${x - 3} ${y - 3}l6 6m-6 0l6 -6` }));
+}
+
 function monitorShapes(f, { lane, laneX, barX }, isStuck) {
   const boxes = f.boxes.map(({ p, m, from, to, depth }) => [
     rect(laneX(p) - 3 + 6 * depth, from, lane - 8 - 10 * depth, to - from, 5, "box " + softly(m), filled("s", m)),
     rect(barX(m), from, 20, to - from, 4, strongly(m), filled("b", m)),
   ]);
   const waits = f.waits.map(({ p, m, kind, from, to, isOver }) => {
-    const look = `wait ${hue(m)}${isStuck && !isOver ? " ever" : ""}`;
-    return rect(laneX(p) + 4, from, 16, to - from - 2, 4, look, { fill: patternOf(kind, m) });
+    const isEver = isStuck && !isOver;
+    const look = `wait ${hue(m)}${isEver ? " ever" : ""}`;
+    return [rect(laneX(p) + 4, from, 16, to - from - 2, 4, look, { fill: patternOf(kind, m) }), isEver && crossAt(laneX(p) + 12, to - 10)];
   });
   return [boxes, waits];
 }
@@ -240,13 +246,14 @@ function barLetters(f, { barX }, now) {
 
 function headShapes({ lane, laneX, barX }) {
   const processes = D.processes.map(([label], p) => [
-    rect(laneX(p) + 2, 32, 21, 21, 11, "dot"),
-    text(laneX(p) + 12.5, 47, "inv", String(p)),
-    text(laneX(p) + 28, 47, "loud", cut(label, lane - 29, LOUD)),
+    rect(laneX(p) + 2, 40, 21, 21, 11, "dot"),
+    text(laneX(p) + 12.5, 55, "inv", String(p)),
+    text(laneX(p) + 28, 55, "loud", cut(label, lane - 29, LOUD)),
   ]);
   const monitors = D.monitors.map(([label], m) => {
-    const name = svg("g", { transform: `translate(${barX(m) + 8} 50) rotate(-32)` }, text(0, 0, "loud", cut(label, 90, LOUD)));
-    return svg("g", { class: "head" }, rect(barX(m), 53, 20, 6, 1, strongly(m), filled("b", m)), name);
+    const short = fits(label, 24, LOUD) ? `translate(${barX(m) + 10 - widthOf(label, LOUD) / 2} 55)` : "";
+    const name = svg("g", { transform: short || `translate(${barX(m) + 8} 58) rotate(-40)` }, text(0, 0, "loud", cut(label, 90, LOUD)));
+    return svg("g", { class: "head" }, rect(barX(m), 61, 20, 6, 1, strongly(m), filled("b", m)), name);
   });
   return [processes, monitors];
 }
@@ -255,7 +262,7 @@ function endWords(s) {
   const { kind, error, p, line, cause } = s.end;
   const { output } = s;
   const shown = output.length ? " \u00b7 displayed " + (output.length > 12 ? `${output.slice(0, 3).join(" ")} .. ${output.at(-1)}` : output.join(" ")) : "";
-  return kindText(kind) + (error && ` ${error}: ${person(p)}, line ${line}${behindColon(cause)}`) + shown;
+  return (kind === "beyond" ? "? goes on beyond this page" : kindText(kind)) + (error && ` ${error}: ${person(p)}, line ${line}${behindColon(cause)}`) + shown;
 }
 
 // The expression of an annotation, of which the first token stands in a line; the whole line where it has more than one annotation or comment.
@@ -370,11 +377,12 @@ function patterns() {
   return MONITORS.slice(0, 2 * HUES).map(each).flat();
 }
 
-function wordsList(rows) {
+function wordsList(s) {
   const told = r => el("li", {},
     r.choice && `${r.choice.p} of ${r.choice.options.join(", ")}: `, r.words,
     r.line > 0 && el("small", {}, ", line " + r.line), changed(r).map(c => " \u00b7 " + c[1]));
-  const list = el("details", { id: "list" }, el("summary", { id: "listed" }, "The same in words"), el("ol", {}, rows.map(told)));
+  const why = s.end && s.end.kind === "all-waiting" ? reasonsOf(s).map(reason => el("p", {}, reason)) : [];
+  const list = el("details", { id: "list" }, el("summary", { id: "listed" }, "The same in words"), el("ol", {}, s.rows.map(told)), why);
   list.open = $("list") !== null && $("list").open;
   return list;
 }
@@ -416,7 +424,7 @@ function showLanes(s) {
   const about = { id: "lanes", role: "img", "aria-label": `Lanes of ${rows.length} events; the same in words is below` };
   const picture = drawn(plan.bottom + 62, about, [svg("g", {}, pictureOf(s, plan, point))]);
   const { scrollTop, scrollLeft } = panel;
-  panel.replaceChildren(heads, ...(showsKey ? [signs()] : []), picture, wordsList(rows));
+  panel.replaceChildren(heads, ...(showsKey ? [signs()] : []), picture, wordsList(s));
   [panel.scrollTop, panel.scrollLeft] = [scrollTop, scrollLeft];
   const top = heads.offsetHeight;
   const ahead = rows.findIndex(r => r.used > at);

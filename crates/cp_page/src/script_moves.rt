@@ -188,7 +188,7 @@ addEventListener("afterprint", () => show());
 $("patterns").append(...patterns());
 $("source").append(...lines);
 $("source").style.setProperty("--who", 1.8 * Math.min(3, D.processes.length) + "em");
-$("title").textContent = (titleOf() || `A program of ${D.processes.length} processes`) + (D.signals ? ` \u00b7 signals ${D.signals}` : "");
+$("title").textContent = (titleOf() || `A program of ${D.processes.length} process${D.processes.length === 1 ? "" : "es"}`) + (D.signals ? ` \u00b7 signals ${D.signals}` : "");
 $("title").setAttribute("title", $("title").textContent);
 if (titleOf()) document.title = titleOf();
 count();

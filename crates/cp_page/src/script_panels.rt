@@ -23,12 +23,17 @@ function sourceLine(text, i) {
 }
 const lines = D.source.map(sourceLine);
 
-// The first sentence of the comment with which the source begins.
+// The first sentence of the comment with which the source begins, as in pictures: up to a dot that a blank follows and that is none of an
+// abbreviation, to an empty line, or to the end of the comment. There is none where the comment has expectations.
 function titleOf() {
-  const begun = /^\s*(?:"|\(\*)(.*)$/.exec(D.source[0]);
-  if (!begun) return "";
-  const rest = [begun[1], ...D.source.slice(1, 4)].map(line => line.trim()).join(" ");
-  return rest.split(/\.(?=\s|$|"|\*)|[;"]|\*\)/)[0].trim();
+  const first = D.source.findIndex(line => line.trim());
+  const [begun = "", ...more] = D.source.slice(Math.max(0, first)).map(line => line.trim());
+  if (!/^"(?!\(\*)/.test(begun)) return "";
+  const end = more.indexOf("");
+  const comment = [begun.slice(1), ...more.slice(0, end < 0 ? more.length : end)].join(" ").split('"')[0];
+  const words = comment.split(/\s+/).filter(piece => piece);
+  const last = words.findIndex((piece, i) => piece.endsWith(".") && !/^[a-z0-9]/.test(words[i + 1] || ""));
+  return words.slice(0, last < 0 ? words.length : last + 1).join(" ").replace(/\.$/, "");
 }
 
 const isOver = (s, p) => s.status[p] === "ended" || s.status[p] === "unstarted";
@@ -94,13 +99,27 @@ function statusOf(s, p) {
   return is + (inside && (s.status[p] === "ready" ? ", inside " : ", still inside ") + inside);
 }
 
+const inSeries = numbers => (numbers.length > 1 ? numbers.slice(0, -1).join(", ") + " and " : "") + numbers.at(-1);
+
+// Why nobody goes on, in the words of `./show trace`: since which event each waits in its queue, which entries continue it, when that was in
+// vain, and who could do so and waits.
+function reasonsOf(s) {
+  const numbersOf = is => s.rows.flatMap(({ event }, i) => (is(event) ? [i + 1] : []));
+  return s.end.why.map(([p, continuing, callers]) => {
+    const since = numbersOf(e => e.kind === "d" && e.p === p).at(-1);
+    const lost = numbersOf(e => isContinue(e.kind) && !e.woken.length && e.m === callOf(s, p).monitor && S[e.text] === s.place[p]);
+    return `${person(p)} since event ${since}: ${continuing}${lost.length ? "; signalled in vain at " + inSeries(lost) : ""}${callers}`;
+  });
+}
+
 function endCard(s) {
   const { kind, line } = s.end;
   const waiting = kind === "all-waiting" || isAlone(kind) ? PROCESSES.filter(p => !isOver(s, p) && s.status[p] !== "ready") : [];
   return el("div", { class: "card " + kind, id: "end" },
     el("p", {}, el("strong", {}, KINDS[kind][0] + " " + endSentence(s.end))),
     line > 0 && el("p", { class: "value" }, D.source[line - 1].trim()),
-    waiting.map(p => el("p", {}, disc(p, s.status[p]), ` ${D.processes[p][0]} is ${statusOf(s, p)}`)));
+    waiting.map(p => el("p", {}, disc(p, s.status[p]), ` ${D.processes[p][0]} is ${statusOf(s, p)}`)),
+    kind === "all-waiting" && reasonsOf(s).map(reason => el("p", { class: "why" }, reason)));
 }
 
 // A part for each outcome, or where there are many for each kind. There is no bar where it is not known how many lead on to which.

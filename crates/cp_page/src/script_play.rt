@@ -96,7 +96,10 @@ const NODES = D.nodes.map(([gate, pairs]) => {
 const edgeOf = (node, p) => NODES[node].edges[NODES[node].options.indexOf(p)];
 const isWholeGraph = NODES.every(node => !node.isOpen);
 
-const ENDS = D.ends.map(([kind, error, p, line, cause, broken]) => ({ kind, error, p, line, cause, broken }));
+const ENDS = D.ends.map(([kind, error, p, line, more, broken]) => {
+  const [cause, why] = kind === "all-waiting" ? [undefined, more] : [more, []];
+  return { kind, error, p, line, cause, broken, why };
+});
 const CHOICE_LIMIT = { kind: "choice-limit", error: "", p: 0, line: 0 };
 const BEYOND = { kind: "beyond", error: "", p: 0, line: 0 };
 

@@ -110,7 +110,7 @@ h3 { margin: 0; font-size: 1em; display: inline }
 #end strong, #round strong { color: var(--k) }
 .card.for-ever { border: 2px solid var(--k) }
 .card ul { margin: .1em 0; padding-left: 1.4em }
-.loss { display: block }
+.go small { display: block }
 .word { font-family: ui-monospace, "DejaVu Sans Mono", monospace }
 #can { margin: 0 0 .4em }
 .bar { width: 100% }
@@ -133,7 +133,7 @@ svg .ahead { fill: var(--ground); opacity: .66 }
 #signs li { display: flex; gap: .5em; align-items: center; break-inside: avoid }
 #signs svg { flex: none }
 svg .point { stroke: var(--k); stroke-width: 3; stroke-dasharray: 9 4 }
-svg text.point { fill: var(--k); stroke: none; font-weight: 700 }
+svg text.point { fill: var(--k); stroke: var(--ground); stroke-width: 4; stroke-dasharray: none; paint-order: stroke; font-weight: 700 }
 svg .folded { fill: var(--band); stroke: var(--pale) }
 svg .band { fill: var(--band) }
 svg .band.at { fill: var(--mark) }
@@ -152,6 +152,8 @@ svg text.inv { fill: var(--ground); font-weight: 700; font-size: 12px; text-anch
 svg text.held { fill: var(--l) }
 svg .wait { stroke: var(--c); stroke-width: 1.8 }
 svg .wait.ever { stroke: var(--red); stroke-width: 3 }
+svg .stuck circle { fill: var(--red) }
+svg .stuck path { stroke: var(--ground); stroke-width: 2 }
 svg .cross, svg .edge { fill: none; stroke: var(--red); stroke-width: 3 }
 svg text.broken { fill: var(--red) }
 svg .opt { fill: var(--ground); stroke: var(--pale) }
@@ -180,9 +182,10 @@ kbd { border: 1px solid var(--pale); border-radius: .25em; padding: 0 .3em; font
   main > section { margin-top: 1em }
   .card, #outcomes li, #source li { break-inside: avoid }
   #picture svg { max-width: 100%; height: auto }
-  .heads { position: static; break-after: avoid }
+  .heads { position: static }
+  .heads, h2 { break-after: avoid }
   .sheet { break-inside: avoid }
-  #lanes, button, #tools, #typed, footer { display: none }
+  #lanes, button, #tools, #typed, footer, details:not([open]) { display: none }
   h1, #whole { display: block }
 }
 "##;

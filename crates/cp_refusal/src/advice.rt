@@ -1,13 +1,12 @@
 //! What may have been meant by a token that can't stand in its place.
 
-use crate::draft::spelling;
 use crate::extent::{is_adding, is_multiplying, is_relation};
 use crate::foreign::{instead_of, is_start};
 use crate::further_up::is_real;
 use crate::place::has_comment_before;
 use crate::rules::mark_before;
 use crate::teller::Teller;
-use cp_text::Mark;
+use cp_text::{Kind, Mark};
 
 // The mark so many tokens before the one that is refused.
 fn back(teller: &Teller, number: usize) -> Option<Mark> {
@@ -48,6 +47,9 @@ fn sign_advice(teller: &mut Teller) -> &'static str {
             ": comments stand between double quotes",
         (Some(Mark::Equal), Some(Mark::Equal), _) => ": write =",
         (Some(Mark::And), Some(Mark::And), _) => ": write and",
+        (_, Some(Mark::Plus | Mark::Minus), Some(Mark::Equal))
+            if is_statement && !is_one_behind(teller) =>
+            ": an assignment is written with :=, as in x := x + 2",
         (_, Some(Mark::Plus), Some(Mark::Plus | Mark::Equal)) if is_statement =>
             ": write x := x + 1",
         (_, Some(Mark::Minus), Some(Mark::Minus | Mark::Equal)) if is_statement =>
@@ -56,6 +58,14 @@ fn sign_advice(teller: &mut Teller) -> &'static str {
             ": a call without arguments has no parentheses",
         _ => "",
     }
+}
+
+// Whether 1 stands behind the two signs at the token.
+fn is_one_behind(teller: &Teller) -> bool {
+    matches!(
+        teller.tokens.get(teller.at.saturating_add(2)),
+        Some(Kind::Number(1))
+    )
 }
 
 fn mark_advice(teller: &mut Teller, mark: Mark) -> &'static str {
@@ -143,6 +153,9 @@ fn place_advice(teller: &Teller, mark: Mark) -> &'static str {
         Mark::Invariant => {
             ": invariants stand in a class or a monitor, behind its declarations and before its routines"
         }
+        Mark::Array | Mark::Record | Mark::Set if is_type_of_parameter(teller) => {
+            ": the type of a parameter or a result is a name that a type part defines"
+        }
         Mark::Period if is_real(teller) => ": there are no real numbers",
         _ => "",
     }
@@ -191,6 +204,9 @@ fn is_system_parameter(teller: &Teller) -> bool {
 
 // Of a sign that compares.
 fn relation_advice(teller: &mut Teller) -> &'static str {
+    if teller.mark() == Some(Mark::In) && back(teller, 2) == Some(Mark::For) {
+        return ": a for goes from one value to another, as in for i := 1 to 5 do";
+    }
     if teller.takes(":=") {
         return ": an assignment is written with :=";
     }
@@ -212,8 +228,10 @@ fn word_advice(teller: &mut Teller) -> &'static str {
     };
     if is_annotation_word(before) {
         instead_of(before)
-    } else if name == "elsif" {
+    } else if is_else_if(name) {
         ": write else if"
+    } else if is_loop(before) {
+        ": what is repeated for ever stands between cycle and end"
     } else if before == "return" {
         ": a function gives its result by an assignment to its own name"
     } else if !name.is_empty() && is_start(before) {
@@ -221,6 +239,16 @@ fn word_advice(teller: &mut Teller) -> &'static str {
     } else {
         ""
     }
+}
+
+/// Whether a name stands in other languages for `else if`.
+pub fn is_else_if(name: &str) -> bool {
+    matches!(name, "elsif" | "elif" | "elseif")
+}
+
+/// Whether a name begins in other languages what is repeated for ever.
+pub fn is_loop(name: &str) -> bool {
+    matches!(name, "loop" | "forever")
 }
 
 // Whether a name is the word of an annotation that stands in no comment.
@@ -240,14 +268,18 @@ fn end_advice(teller: &mut Teller) -> &'static str {
 pub fn is_reserved_name(teller: &mut Teller) -> bool {
     is_word(teller)
         && !is_system_parameter(teller)
+        && !is_type_of_parameter(teller)
         && teller.takes("x")
         && !teller.takes_one_of(&["not", "while", "begin"])
 }
 
-// Whether it is a reserved word.
+// Whether a type is written where the name of one is wanted.
+fn is_type_of_parameter(teller: &Teller) -> bool {
+    matches!(teller.mark(), Some(Mark::Array | Mark::Record | Mark::Set))
+        && back(teller, 1) == Some(Mark::Colon)
+}
+
+// Whether it is a reserved word, or the sign for one.
 fn is_word(teller: &Teller) -> bool {
-    match teller.mark() {
-        Some(mark) => matches!(spelling(mark).as_bytes(), [b'a'..=b'z', ..]),
-        None => false,
-    }
+    teller.mark().is_some() && matches!(teller.spelling(), [b'A'..=b'Z' | b'a'..=b'z' | b'&', ..])
 }

@@ -2,12 +2,14 @@
 
 use crate::extent::{Extent, between, body_extent, definition_end};
 use crate::rules::name_at;
-use crate::types::ValueType;
-use cp_text::Tokens;
+use cp_check::names_at_fault;
+use cp_check::operand::Context;
+use cp_scope::{Meaning, ScopeTable, ValueType};
+use cp_text::{Name, Tokens};
 use cp_tree::{
     Body, Constant, ConstantDefinition, Definition, FieldGroup, Group, Identifier, Part, PartKind,
     Program, ProgramPartKind, Routine, RoutineKind, Simple, SimpleKind, System, SystemDefinition,
-    Type, TypeKind, VariableGroup,
+    Tree, Type, TypeKind, VariableGroup,
 };
 use std::alloc::{AllocError, Global};
 
@@ -18,7 +20,7 @@ pub enum Declared<'a> {
     /// A constant of the enumeration that is written at this token.
     Member(usize),
     Type(&'a Type),
-    System,
+    System(&'a System),
     Variable(&'a Type),
     /// A parameter without `var`, with the name of its type.
     Parameter(&'a Identifier),
@@ -49,6 +51,7 @@ impl<'a> Declared<'a> {
 #[derive(Clone, Copy, Drop)]
 pub struct Declaration<'a> {
     pub name: &'a str,
+    spelling: &'a Name,
     pub what: Declared<'a>,
     /// The number of the token that it names.
     pub at: usize,
@@ -68,12 +71,16 @@ impl<'a> Declaration<'a> {
     }
 
     pub fn is_system_type(&self) -> bool {
-        matches!(self.what, Declared::System)
+        matches!(self.what, Declared::System(_))
     }
 
-    /// Whether it is a parameter with `var`.
-    pub fn is_var(&self) -> bool {
-        matches!(self.what, Declared::VarParameter(_))
+    /// Whether it is the routine or the system type that the checker knows by this token.
+    fn is_headed_at(&self, at: usize) -> bool {
+        match self.what {
+            Declared::Routine(_) => self.at == at,
+            Declared::System(system) => system.at == at,
+            _ => false,
+        }
     }
 
     /// Whether it is a parameter of a routine or a system type.
@@ -114,14 +121,22 @@ struct Block<'a> {
     owner: &'a str,
     routine: &'a str,
     end: usize,
+    context: Context,
 }
 
-/// A body, and the routine whose body it is, where it is that of one.
+/// A body, and where it stands.
 #[derive(Clone, Copy, Drop)]
 pub struct OwnedBody<'a> {
     pub body: &'a Body,
-    pub routine: Option<&'a Routine>,
+    pub context: Context,
 }
+
+/// Where the initial statement of the program stands.
+pub const IN_PROGRAM: Context = Context {
+    owner: None,
+    routine: None,
+    is_quiet: false,
+};
 
 /// The declarations of a program, in the order of its text, but for fields of records.
 #[derive(Drop)]
@@ -131,21 +146,27 @@ pub struct Declarations<'a> {
     bodies: Vec<OwnedBody<'a>>,
     /// The body of the program itself.
     body: Extent,
+    /// The names that the checker knew where it ended.
+    pub scopes: ScopeTable,
 }
 
 impl<'a> Declarations<'a> {
     pub fn of(
         alloc: Global,
         tokens: &'a Tokens,
-        program: &'a Program,
+        tree: &'a Tree,
     ) -> Result<Declarations<'a>, AllocError> {
+        let Ok(scopes) = names_at_fault(alloc, tree) else {
+            return Err(AllocError);
+        };
         let mut declarations = Declarations {
             tokens,
             all: Vec::new(alloc),
             bodies: Vec::new(alloc),
-            body: body_extent(tokens, &program.body),
+            body: body_extent(tokens, &tree.program.body),
+            scopes,
         };
-        declarations.add_program(program)?;
+        declarations.add_program(&tree.program)?;
         Ok(declarations)
     }
 
@@ -154,6 +175,7 @@ impl<'a> Declarations<'a> {
             owner: "",
             routine: "",
             end: self.tokens.count(),
+            context: IN_PROGRAM,
         };
         for part in &program.parts {
             match &part.kind {
@@ -163,11 +185,14 @@ impl<'a> Declarations<'a> {
             }
         }
         self.add_routines(&program.routines, block)?;
-        self.add_body(&program.body, None)
+        self.add_body(&program.body, block)
     }
 
-    fn add_body(&mut self, body: &'a Body, routine: Option<&'a Routine>) -> Result<(), AllocError> {
-        self.bodies.push(OwnedBody { body, routine })?;
+    fn add_body(&mut self, body: &'a Body, block: Block<'a>) -> Result<(), AllocError> {
+        self.bodies.push(OwnedBody {
+            body,
+            context: block.context,
+        })?;
         Ok(())
     }
 
@@ -206,13 +231,17 @@ impl<'a> Declarations<'a> {
         let inner = Block {
             owner: name.name.as_str(),
             end: body.to,
+            context: Context {
+                owner: Some(system.kind),
+                ..block.context
+            },
             ..block
         };
-        self.add_with(name, Declared::System, body.to, block, body)?;
+        self.add_with(name, Declared::System(system), body.to, block, body)?;
         self.add_groups(&system.parameters, inner)?;
         self.add_parts(&system.parts, inner)?;
         self.add_routines(&system.routines, inner)?;
-        self.add_body(&system.body, None)
+        self.add_body(&system.body, inner)
     }
 
     fn add_routines(
@@ -221,10 +250,7 @@ impl<'a> Declarations<'a> {
         block: Block<'a>,
     ) -> Result<(), AllocError> {
         for routine in routines {
-            if !matches!(routine.kind, RoutineKind::Invariants) {
-                self.add_routine(routine, block)?;
-            }
-            self.add_body(&routine.body, Some(routine))?;
+            self.add_routine(routine, block)?;
         }
         Ok(())
     }
@@ -234,8 +260,15 @@ impl<'a> Declarations<'a> {
         let inner = Block {
             routine: routine.name.name.as_str(),
             end: body.to,
+            context: Context {
+                routine: Some(routine.name.at),
+                ..block.context
+            },
             ..block
         };
+        if matches!(routine.kind, RoutineKind::Invariants) {
+            return self.add_body(&routine.body, inner);
+        }
         let from = after_heading(routine);
         self.add_with(&routine.name, Declared::Routine(routine), from, block, body)?;
         match &routine.kind {
@@ -247,7 +280,8 @@ impl<'a> Declarations<'a> {
             RoutineKind::Function(groups, _) => self.add_groups(groups, inner)?,
             RoutineKind::Invariants => {}
         }
-        self.add_parts(&routine.parts, inner)
+        self.add_parts(&routine.parts, inner)?;
+        self.add_body(&routine.body, inner)
     }
 
     fn add_parts(&mut self, parts: &'a [Part], block: Block<'a>) -> Result<(), AllocError> {
@@ -374,6 +408,7 @@ impl<'a> Declarations<'a> {
     ) -> Result<(), AllocError> {
         self.all.push(Declaration {
             name: name.name.as_str(),
+            spelling: &name.name,
             what,
             at: name.at,
             owner: block.owner,
@@ -429,14 +464,47 @@ impl<'a> Declarations<'a> {
 
     /// The name of the system type of a variable or of its elements, or of a parameter; empty where it has none.
     pub fn component_of(&self, one: &Declaration<'a>) -> &'a str {
-        let value_type = match self.type_of_declared(one.what) {
-            Some(ValueType::Array(_, element)) => self.type_of(element),
+        let found = match self.type_of_permanent(one) {
+            Some(ValueType::Array(at)) => match self.scopes.shapes().array(at) {
+                Some(array) => Some(array.element),
+                None => None,
+            },
             other => other,
         };
-        match value_type {
-            Some(ValueType::Component(name)) => name,
+        match found {
+            Some(ValueType::Component(_, at)) => match self.headed_at(at) {
+                Some(system) => system.name,
+                None => "",
+            },
             _ => "",
         }
+    }
+
+    /// The type of a variable or a parameter of a system type or of the program.
+    fn type_of_permanent(&self, one: &Declaration<'a>) -> Option<ValueType> {
+        let meaning = match self.system_type(one.owner) {
+            Some(
+                Declaration {
+                    what: Declared::System(system),
+                    ..
+                },
+            ) => self.scopes.shapes().member(system.at, one.spelling)?,
+            _ => self.scopes.look(one.spelling)?,
+        };
+        match meaning {
+            Meaning::Variable(value_type) | Meaning::Parameter(value_type) => Some(value_type),
+            _ => None,
+        }
+    }
+
+    /// The routine or the system type that the checker knows by this token.
+    fn headed_at(&self, at: usize) -> Option<Declaration<'a>> {
+        for one in &self.all {
+            if one.is_headed_at(at) {
+                return Some(*one);
+            }
+        }
+        None
     }
 
     /// The name of the type of a component that a system type has or is given, or that the program has.
@@ -449,18 +517,9 @@ impl<'a> Declarations<'a> {
         None
     }
 
-    /// The routine of a system type with a name.
-    pub fn routine_of(&self, owner: &str, name: &str) -> Option<Declaration<'a>> {
-        for one in &self.all {
-            if one.is_routine_of(owner) && one.name == name {
-                return Some(*one);
-            }
-        }
-        None
-    }
-
-    /// The parameter of a routine or a system type before which so many stand.
-    pub fn parameter(&self, called: Declaration<'a>, number: usize) -> Option<Declaration<'a>> {
+    /// The parameter before which so many stand, of the routine or the system type that the checker knows by a token.
+    pub fn parameter(&self, heading: usize, number: usize) -> Option<Declaration<'a>> {
+        let called = self.headed_at(heading)?;
         let mut left = number;
         for one in &self.all {
             if one.is_parameter_of(called) {
@@ -471,17 +530,6 @@ impl<'a> Declarations<'a> {
             }
         }
         None
-    }
-
-    /// How many parameters a routine or a system type has.
-    pub fn parameters(&self, called: Declaration<'a>) -> usize {
-        let mut count: usize = 0;
-        for one in &self.all {
-            if one.is_parameter_of(called) {
-                count = count.saturating_add(1);
-            }
-        }
-        count
     }
 
     /// The name of the system type that a token is in; empty in the program.

@@ -9,7 +9,6 @@ ghost use Rattle.cp_refusal.specs.Lines.{last_line};
 
 use crate::advice::{advice, is_reserved_name};
 use crate::candidates::put_wanted;
-use crate::draft::spelling;
 use crate::extent::single;
 use crate::foreign::sign_sentence;
 use crate::further_up::{Missing, what_is_missing};
@@ -69,7 +68,7 @@ fn check_refused(
     match fault {
         CheckFault::Rule { at, rule } => {
             let broken = Broken {
-                program: &tree.program,
+                tree,
                 at: *at,
                 rule: *rule,
             };
@@ -257,16 +256,18 @@ fn put_line(teller: &mut Teller, at: usize) {
 
 // What may have been meant, where nothing is missing further up.
 fn put_meant(teller: &mut Teller) {
-    match teller.mark() {
-        Some(mark) if is_reserved_name(teller) => {
-            teller.put(": ");
-            teller.put(spelling(mark));
-            teller.put(" is a reserved word");
+    if is_reserved_name(teller) {
+        teller.put(": ");
+        for byte in teller.spelling() {
+            match byte {
+                b'&' => teller.put("and"),
+                _ => teller.text.put_char(char::from(byte.to_ascii_lowercase())),
+            }
         }
-        _ => {
-            let said = advice(teller);
-            teller.put(said);
-        }
+        teller.put(" is a reserved word");
+    } else {
+        let said = advice(teller);
+        teller.put(said);
     }
 }
 

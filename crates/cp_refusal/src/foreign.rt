@@ -86,11 +86,25 @@ pub fn is_start(name: &str) -> bool {
     STARTS.contains(&name)
 }
 
+/// Whether statements seem to stand in braces.
+fn is_block(text: &[u8]) -> bool {
+    for byte in text {
+        match byte {
+            b';' => return true,
+            b'}' => return false,
+            _ => {}
+        }
+    }
+    false
+}
+
 /// What is said of a sign that begins no lexeme, and stands at the front of a text.
 pub fn sign_sentence(text: &[u8]) -> &'static str {
     match text {
         [0xEF, 0xBB, 0xBF, ..] =>
             "the file begins with a byte order mark, which is no part of a program: save it without one",
+        [b'{', ..] if is_block(text) =>
+            "this sign is none of the language: a block stands between begin and end, and a comment between double quotes",
         [b'{' | b'}', ..] | [b'/', b'/' | b'*', ..] =>
             "this sign is none of the language: comments stand between double quotes",
         [b'/', ..] => "this sign is none of the language: integers are divided by div",

@@ -1,5 +1,6 @@
 //! What is missing further up than where the parser notices it.
 
+use crate::advice::{is_else_if, is_loop};
 use crate::extent::closing;
 use crate::page::are_on_one_line;
 use crate::rules::is_mark_of;
@@ -102,6 +103,10 @@ fn line_without_semicolon(teller: &mut Teller) -> Option<usize> {
     let is_beginning = !teller.name().is_empty()
         || is_mark_of(tokens, at, &DECLARATIONS)
         || is_mark_of(tokens, at, &STATEMENTS);
+    // These end no line: they are words of other languages.
+    if is_else_if(teller.name()) || is_loop(teller.name_at(before)) {
+        return None;
+    }
     let is_torn = is_ending && is_beginning && !are_on_one_line(teller.source, before);
     if is_torn && teller.takes(";") {
         Some(before)

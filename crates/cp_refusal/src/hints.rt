@@ -1,12 +1,24 @@
 //! What is legal, but rarely meant.
 
+mod after_cycle;
+mod constant_values;
+mod early_starts;
+mod empty_bodies;
+mod hidden;
+mod outside_indices;
+mod unnamed_queues;
+mod unset_results;
+mod written;
+
 use crate::declared::Declarations;
 use crate::extent::closing;
+use crate::hints::written::Written;
 use crate::place::{Sought, find};
 use crate::report::{Hint, Hints};
 use crate::rules::{mark_at, mark_before, name_at};
 use cp_front::Loaded;
 use cp_text::{Mark, Tokens};
+use cp_tree::Program;
 use std::alloc::{AllocError, Global};
 
 /// The most hints that are told.
@@ -18,6 +30,7 @@ pub struct Gathering<'a, 'b> {
     pub alloc: Global,
     pub source: &'a [u8],
     pub tokens: &'a Tokens,
+    pub program: &'a Program,
     pub declarations: &'b Declarations<'a>,
     /// Whether `continue` ends the call of its entry procedure.
     continue_returns: bool,
@@ -65,6 +78,11 @@ impl<'a, 'b> Gathering<'a, 'b> {
         }
         let sentence = String::from_str(self.alloc, words)?;
         self.push(at, sentence)
+    }
+
+    /// The line of a token.
+    pub fn line_of(&self, at: usize) -> u32 {
+        self.tokens.line(at.min(self.tokens.count()))
     }
 
     /// The statement after a `continue` that every run of it skips, where there is one.
@@ -134,11 +152,14 @@ pub fn hints(
     continue_returns: bool,
 ) -> Result<Hints, AllocError> {
     let tokens = &loaded.tokens;
-    let declarations = Declarations::of(alloc, tokens, &loaded.checked.tree().program)?;
+    let declarations = Declarations::of(alloc, tokens, loaded.checked.tree())?;
+    let program = &loaded.checked.tree().program;
+    let written = Written::in_program(alloc, program)?;
     let mut gathering = Gathering {
         alloc,
         source,
         tokens,
+        program,
         declarations: &declarations,
         continue_returns,
         hints: Hints {
@@ -155,5 +176,12 @@ pub fn hints(
     gathering.add_plain_delays()?;
     gathering.add_starts()?;
     gathering.add_nearly_annotations()?;
+    gathering.add_unnamed_queues(&written)?;
+    gathering.add_empty_bodies(&written)?;
+    gathering.add_unset_results()?;
+    gathering.add_hidden()?;
+    gathering.add_early_starts()?;
+    gathering.add_outside_indices(&written)?;
+    gathering.add_behind_cycles(&written)?;
     Ok(gathering.hints)
 }

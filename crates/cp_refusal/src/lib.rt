@@ -2,12 +2,12 @@
 #![tactic(auto)]
 
 mod advice;
-mod calls;
 mod candidates;
 mod characters;
 mod declared;
-mod draft;
+mod ends;
 mod explain;
+mod explaining;
 mod extent;
 mod foreign;
 mod further_up;
@@ -15,9 +15,10 @@ mod hints;
 mod judging;
 mod looking_again;
 mod nearly;
-mod operations;
+mod operands;
 mod page;
 mod place;
+mod refused;
 mod report;
 mod rules;
 mod saying;
@@ -25,7 +26,6 @@ mod spelling;
 mod starts;
 mod statements;
 mod teller;
-mod types;
 mod waits;
 
 pub use explain::refusal;

@@ -3,7 +3,7 @@
 ghost use Rattle.std.specs.Prelude.{◌≡◌};
 ghost use Rattle.cp_refusal.specs.Explaining.{rule_code};
 
-use crate::declared::Declarations;
+use crate::declared::{Declarations, IN_PROGRAM};
 use crate::extent::{Extent, between, single};
 use crate::foreign::{instead_of, is_start};
 use crate::judging::Judging;
@@ -13,7 +13,7 @@ use crate::spelling::similar_declaration;
 use crate::teller::Teller;
 use cp_scope::Rule;
 use cp_text::{Kind, Mark, Tokens};
-use cp_tree::Program;
+use cp_tree::Tree;
 use std::alloc::{AllocError, Global};
 
 /// The reserved word or sign at this number, where there is one.
@@ -151,7 +151,7 @@ pub fn code(rule: Rule) -> &'static str
 /// A fault of a program that the checker refuses.
 #[derive(Clone, Copy)]
 pub struct Broken<'a> {
-    pub program: &'a Program,
+    pub tree: &'a Tree,
     pub at: usize,
     pub rule: Rule,
 }
@@ -165,10 +165,9 @@ pub fn sentence<'a>(
 ) -> Result<String, AllocError> {
     let mut judging = Judging {
         teller: Teller::new(alloc, source, tokens, broken.at),
-        declarations: Declarations::of(alloc, tokens, broken.program)?,
+        declarations: Declarations::of(alloc, tokens, broken.tree)?,
         rule: broken.rule,
-        routine: None,
-        is_told: false,
+        context: IN_PROGRAM,
     };
     if !put_particular(&mut judging, broken.rule) {
         put_complaint(&mut judging, complained_of(tokens, broken));
@@ -203,7 +202,7 @@ fn put_particular(judging: &mut Judging, rule: Rule) -> bool {
         Rule::C9 | Rule::C10 | Rule::C22 => put_own_name(&mut judging.teller),
         Rule::C5 | Rule::C6 | Rule::C7 | Rule::C17 | Rule::C21 => {
             judging.tell();
-            judging.is_told
+            judging.teller.text.len() > 0
         }
         _ => false,
     }

@@ -1,9 +1,12 @@
 //! The statement in which a rule is broken, judged once more.
 
-use crate::extent::single;
-use crate::judging::{Designated, Judging, Named, Value};
-use crate::types::{Base, ValueType, whole};
-use cp_scope::Rule;
+use crate::extent::{body_extent, single};
+use crate::judging::Judging;
+use crate::operands::Designated;
+use cp_check::name::name_meaning;
+use cp_check::operand::Named;
+use cp_check::statement::Target;
+use cp_scope::{Base, Predeclared, Rule, ValueType};
 use cp_tree::{
     Arm, AssertionKind, Designator, Expression, Identifier, Start, Statement, StatementKind,
 };
@@ -11,8 +14,10 @@ use cp_tree::{
 impl<'a> Judging<'a> {
     /// Says what is wrong, where that is in a body.
     pub fn tell(&mut self) {
-        if let Some(found) = self.declarations.body_before(self.teller.at) {
-            self.routine = found.routine;
+        if let Some(found) = self.declarations.body_before(self.teller.at)
+            && self.teller.at < body_extent(self.teller.tokens, found.body).to
+        {
+            self.context = found.context;
             self.statements(&found.body.statements);
         }
     }
@@ -38,7 +43,7 @@ impl<'a> Judging<'a> {
         match &node.kind {
             StatementKind::Empty => {}
             StatementKind::Assign(left, right) => {
-                let _ = self.assignment(at, left, right);
+                let _ = self.assignment(left, right);
             }
             StatementKind::Call(target, nodes) => {
                 let _ = self.call(target, nodes);
@@ -106,8 +111,11 @@ impl<'a> Judging<'a> {
 
     // The condition of a statement that begins at a token.
     fn test(&mut self, at: usize, taker: &str, test: &'a Expression) {
-        if let Some(found) = self.expression(test) {
-            self.check_condition(at, taker, found);
+        if let Some(found) = self.value(false, test)
+            && !found.value_type().is_of(Base::Boolean)
+            && self.is_broken(at, Rule::C5)
+        {
+            self.put_wanted(taker, "a boolean", found);
         }
     }
 
@@ -117,66 +125,55 @@ impl<'a> Judging<'a> {
             AssertionKind::Assertion => "assert",
             AssertionKind::Invariant => "invariant",
         };
+        self.context = self.context.quiet();
         for test in tests {
             self.test(test.at, taker, test);
         }
     }
 
-    fn check_condition(&mut self, at: usize, taker: &str, test: Value<'a>) {
-        if !test.value_type.is_of(Base::Boolean) && self.tells(at, Rule::C5) {
-            self.put_wanted(taker, "a boolean", test);
-        }
-    }
-
-    fn assignment(&mut self, at: usize, left: &'a Designator, right: &'a Expression) -> Option<()> {
-        let left = self.designator(left)?;
-        let wanted = self.target_type(left.named);
-        if wanted.is_none() {
-            if self.tells(at, Rule::C5) {
-                self.put_role(left, ", and can't be assigned");
-            }
+    fn assignment(&mut self, left: &'a Designator, right: &'a Expression) -> Option<()> {
+        let left = self.name(left)?;
+        let target = self.target(left.named);
+        if let Target::Kind = target {
+            self.put_role(left, ", and can't be assigned");
             return None;
         }
-        let value = self.expression(right)?;
-        if self.tells(at, Rule::C6) {
-            self.put_unchangeable(left);
-        } else if let Some(wanted) = wanted
-            && !wanted.agrees(value.value_type)
-            && self.tells(at, Rule::C5)
-        {
-            self.put_assignment(left, wanted, value);
+        let value = self.value(false, right)?;
+        if !self.is_broken(left.extent.from, self.rule) {
+            return None;
         }
-        Some(())
-    }
-
-    // The type of what is given to a name; none where it is that of a procedure or a type.
-    fn target_type(&self, named: Named<'a>) -> Option<ValueType<'a>> {
-        match named {
-            Named::Routine(routine) => self.declarations.type_of_declared(routine.what),
-            // No value is assigned to one of these, so that its type is never looked at.
-            Named::Standard(_) if named.is_function() => Some(whole(Base::Integer)),
-            _ => named.value_type(),
+        match target {
+            Target::Assignable(wanted) | Target::Fixed(Some(wanted)) if self.rule == Rule::C5 => {
+                self.put_assignment(left, wanted, value);
+            }
+            _ => self.put_unchangeable(left),
         }
+        None
     }
 
     // A call as a statement.
     fn call(&mut self, target: &'a Designator, nodes: &'a [Expression]) -> Option<()> {
-        let called = self.designator(target)?;
-        let routine = match called.named.routine(false) {
-            Some(routine) if self.declarations.parameters(routine) == nodes.len() => Some(routine),
+        let called = self.name(target)?;
+        let heading = match called.named {
+            Named::Routine(at) | Named::Entry(at) if !self.is_function(called.named) => Some(at),
             _ => None,
         };
-        let fit = self.arguments(routine, nodes)?;
-        match called.named {
-            named if named.is_function() => {}
-            Named::Standard(name) => return self.check_standard_call(called, name, fit, nodes),
-            Named::Routine(routine) => {
-                return self.check_call(called, routine, fit, nodes.len());
+        self.arguments(heading, nodes)?;
+        match (called.named, heading) {
+            (_, Some(heading)) => return self.explain_call(called, heading, nodes),
+            (Named::Predeclared(Predeclared::Display), _) => {
+                let argument = self.only_argument(called, nodes)?;
+                if self.is_broken(argument.operand.at, Rule::C21) {
+                    self.put_argument_wanted(called, "a value", argument);
+                }
             }
-            _ => {}
-        }
-        if self.tells(target.name.at, Rule::C5) {
-            self.put_no_call(called);
+            (Named::Predeclared(Predeclared::Delay | Predeclared::Continue), _) => {
+                let argument = self.only_argument(called, nodes)?;
+                if self.is_broken(called.extent.from, Rule::C5) {
+                    self.put_no_queue(called, argument);
+                }
+            }
+            _ => self.put_no_call(called),
         }
         None
     }
@@ -189,43 +186,43 @@ impl<'a> Judging<'a> {
         from: &'a Expression,
         to: &'a Expression,
     ) -> Option<()> {
-        let named = self.meaning(name)?;
+        let named = name_meaning(&self.declarations.scopes, name).ok()?.named;
         let variable = Designated {
             extent: single(name.at),
             named,
             last: None,
         };
-        let low = self.expression(from)?;
-        let high = self.expression(to)?;
-        if self.tells(name.at, Rule::C6) {
+        let low = self.value(false, from)?;
+        let high = self.value(false, to)?;
+        if self.is_broken(name.at, Rule::C6) {
             self.put_unchangeable(variable);
-        } else if self.tells(at, Rule::C5) {
-            let wanted = self.target_type(named);
-            self.put_counting(variable, wanted, low, high);
+        } else if self.is_broken(at, Rule::C5) {
+            let target = self.target(named);
+            self.put_counting(variable, target, low, high);
         }
-        Some(())
+        None
     }
 
     fn starts(&mut self, nodes: &'a [Start]) -> Option<()> {
         for node in nodes {
             self.start(node)?;
         }
-        Some(())
+        None
     }
 
+    // Whether a start breaks no rule.
     fn start(&mut self, node: &'a Start) -> Option<()> {
-        let target = self.designator(&node.target)?;
-        let system = match target.named {
-            Named::Variable(ValueType::Component(name)) => self.declarations.system_type(name),
-            _ => None,
-        };
-        let fit = self.arguments(system, &node.arguments)?;
-        match system {
-            Some(system) => self.check_call(target, system, fit, node.arguments.len()),
-            None => {
-                if self.tells(target.extent.from, Rule::C17) {
-                    self.put_no_component(target);
+        let target = self.name(&node.target)?;
+        self.arguments(None, &node.arguments)?;
+        match target.named {
+            Named::Variable(ValueType::Component(_, system)) => {
+                if self.is_broken(target.extent.from, self.rule) {
+                    return self.explain_call(target, system, &node.arguments);
                 }
+                Some(())
+            }
+            _ => {
+                self.put_no_component(target);
                 None
             }
         }
@@ -233,10 +230,10 @@ impl<'a> Judging<'a> {
 
     // The selector of a `case`, or else its labels.
     fn selector(&mut self, at: usize, selector: &'a Expression) -> Option<()> {
-        let found = self.expression(selector)?;
-        if self.tells(at, Rule::C5) {
+        let found = self.value(false, selector)?;
+        if self.is_broken(at, Rule::C5) {
             self.put_selector(found);
         }
-        Some(())
+        None
     }
 }

@@ -1,12 +1,12 @@
 //! Who tells of a source that is refused at a token.
 
-use crate::draft::{push_copies, spelling, tokens_of};
-use crate::extent::{Extent, between};
+use crate::extent::Extent;
 use crate::page::push_tokens;
+use crate::place::{ByteRange, Sought, find};
 use crate::rules::{mark_at, name_at};
 use cp_drops::drop_tree;
 use cp_prose::Prose;
-use cp_text::{Mark, Tokens};
+use cp_text::{Mark, ScanCause, Tokens, scan};
 use cp_tree::{ParseFault, parse};
 use std::alloc::{AllocError, Global};
 
@@ -21,11 +21,8 @@ pub struct Teller<'a> {
     pub text: Prose,
 }
 
-// Appends words, and a space.
-fn push_words(draft: &mut Prose, words: &str) {
-    draft.put(words);
-    draft.put(" ");
-}
+/// What ends an annotation.
+const CLOSING: &str = "*)\"";
 
 // The number of the opening of the annotation in which the token of this number stands.
 fn opening_before(tokens: &Tokens, at: usize) -> Option<usize> {
@@ -58,6 +55,22 @@ impl<'a> Teller<'a> {
     /// The token where it is a name, else an empty text.
     pub fn name(&self) -> &'a str {
         self.name_at(self.at)
+    }
+
+    /// Where the token stands; none at the end of the source.
+    fn place(&self) -> Option<ByteRange> {
+        find(self.source, Sought::Token(self.at))
+    }
+
+    /// The token as it is written.
+    pub fn spelling(&self) -> &'a [u8] {
+        match self.place() {
+            Some(place) => {
+                let rest = &self.source[place.from.min(self.source.len())..];
+                &rest[..place.len.min(rest.len())]
+            }
+            None => &[],
+        }
     }
 
     /// The reserved word or sign at this number, where there is one.
@@ -106,16 +119,23 @@ impl<'a> Teller<'a> {
         false
     }
 
-    /// Whether the parser refuses none of the tokens up to this one in the place of the one that is refused.
+    /// Whether the parser refuses none of the tokens up to this one in the place of the one that is refused: the source is read up to there, and this word.
     fn may_stand(&self, word: &'static str) -> Result<bool, AllocError> {
-        let mut draft = Prose::new(self.alloc);
-        push_copies(&mut draft, self.tokens, between(0, self.at));
-        push_words(&mut draft, word);
-        if self.is_in_annotation() && word != spelling(Mark::Closes) {
-            push_words(&mut draft, spelling(Mark::Closes));
+        let before = match self.place() {
+            Some(place) => place.from.min(self.source.len()),
+            None => self.source.len(),
+        };
+        let mut draft = Vec::new(self.alloc);
+        draft.extend_from_slice(&self.source[..before])?;
+        draft.extend_from_slice(b" ")?;
+        draft.extend_from_slice(word.as_bytes())?;
+        if self.is_in_annotation() && word != CLOSING {
+            draft.extend_from_slice(CLOSING.as_bytes())?;
         }
-        let Some(tokens) = tokens_of(self.alloc, &draft)? else {
-            return Ok(false);
+        let tokens = match scan(self.alloc, &draft) {
+            Ok(tokens) => tokens,
+            Err(fault) if fault.cause == ScanCause::Memory => return Err(AllocError),
+            Err(_) => return Ok(false),
         };
         match parse(self.alloc, &tokens) {
             Ok(tree) => {

@@ -7,6 +7,7 @@ pub mod Changing
 pub mod Floats
 pub mod Lists
 pub mod Queued
+pub mod Reasoning
 pub mod Rows
 pub mod StoryFloats
 pub mod Telling

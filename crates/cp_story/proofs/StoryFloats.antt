@@ -29,10 +29,13 @@ use Rattle.cp_story.specs.Changes.{Changed}
 use Rattle.cp_story.specs.Halted.{Halted, halted_seen}
 use Rattle.cp_story.specs.Objects.{array_of, flag, integer_data, number_data, numbers_data, optional, text_data, with_member}
 use Rattle.cp_story.specs.Passed.{Given}
+use Rattle.cp_story.specs.ReasonText.{callers_data, reason_data, reason_text, reasons_data, routine_text, routines_data, why_members}
+use Rattle.cp_story.specs.Reasons.{Reason, reason_seen}
 use Rattle.cp_story.specs.Story.{Decision, Happened, Enters, Leaves, Delays, Continues, Starts, Displays, Ends, IsAdmitted, Told}
 use Rattle.cp_story.specs.StoryData as spec
 use Rattle.cp_story.specs.Views.{decision_of, told_of, wait_of}
 use Rattle.cp_story.specs.Waiting.{Waiting}
+use Rattle.cp_story.specs.declared.reasons.Caller.{Caller}
 use Rattle.cp_story.specs.declared.story.Story.{Story}
 
 -- ---- names and values
@@ -234,12 +237,36 @@ signals_free Return = refl
 signals_free Continue = refl
 signals_free Wait = refl
 
+reason_free : (l : Legend) (r : Reason) → has_float (reason_data l r) ≡ false
+unfolding reason_data
+reason_free l r =
+    no_float-object
+    ((codes "process", number_data r.process)
+    ∷ (codes "since", number_data r.since)
+    ∷ (codes "entries", routines_data l r.entries)
+    ∷ (codes "in_vain", numbers_data r.in_vain)
+    ∷ (codes "callers", callers_data r.callers)
+    ∷ (codes "text", text_data (reason_text l r))
+    ∷ [])
+    (both refl
+    (both refl
+    (both (no_float-array (λ n. text_data (routine_text l n)) r.entries (λ n. refl))
+    (both (no_float-numbers r.in_vain)
+    (both (no_float-array (λ (c : Caller). number_data c.process) r.callers (λ c. refl)) refl)))))
+
+why_free : (l : Legend) (rs : List Reason) (b : Bool) → list_any is_float_member (if b then [] else (codes "why", reasons_data l rs) ∷ []) ≡ false
+why_free l rs true = refl
+why_free l rs false = both (no_float-array (reason_data l) rs (reason_free l)) refl
+
 pub story_free : (l : Legend) (s : Story) (word : List ℕ) (source : List (List ℕ)) → has_float (spec.story_data l s word source) ≡ false
 story_free l s word source =
     let outcome = spec.outcome_members l (answer_of s.end) word in
     let last = (codes "final", spec.waits_data l (map wait_of s.waits.items)) ∷ (codes "source", spec.lines_data source) ∷ spec.signals_members s.signals in
-    no_float-object (spec.first_members l s ++ outcome ++ last)
+    let why = why_members l (map reason_seen s.reasons.items) in
+    no_float-object (spec.first_members l s ++ outcome ++ last ++ why)
+    (none_of (spec.first_members l s ++ outcome ++ last) why
     (none_of (spec.first_members l s ++ outcome) last
     (none_of (spec.first_members l s) outcome (first_free l s) (outcome_free l (answer_of s.end) word))
     (both (no_float-array (spec.wait_data l) (map wait_of s.waits.items) (wait_free l))
     (both (no_float-array text_data source line_free) (signals_free s.signals))))
+    (why_free l (map reason_seen s.reasons.items) (length (map reason_seen s.reasons.items) == 0)))

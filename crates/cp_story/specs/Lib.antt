@@ -1,3 +1,4 @@
+pub mod Ahead
 pub mod Aimed
 pub mod Annotations
 pub mod AnnotationText
@@ -12,6 +13,8 @@ pub mod Integers
 pub mod Joined
 pub mod Objects
 pub mod Passed
+pub mod ReasonText
+pub mod Reasons
 pub mod Sentences
 pub mod Story
 pub mod StoryData

@@ -21,6 +21,8 @@ use Rattle.cp_story.specs.Ends.{error_name, kind_name, output_text}
 use Rattle.cp_story.specs.Halted.{Halted, halted_seen}
 use Rattle.cp_story.specs.Objects.{Member, array_of, flag, integer_data, number_data, numbers_data, object_with, optional, text_data}
 use Rattle.cp_story.specs.Passed.{Given}
+use Rattle.cp_story.specs.ReasonText.{why_members}
+use Rattle.cp_story.specs.Reasons.{reason_seen}
 use Rattle.cp_story.specs.Sentences.{shown_text}
 use Rattle.cp_story.specs.Story.{Decision, Happened, Enters, Leaves, Delays, Continues, Starts, Displays, Ends, IsAdmitted, Told, queue_at}
 use Rattle.cp_story.specs.Views.{decision_of, told_of, wait_of}
@@ -234,6 +236,6 @@ signals_members Return = []
 signals_members Continue = (codes "signals", text_data (codes "continue")) ∷ []
 signals_members Wait = (codes "signals", text_data (codes "wait")) ∷ []
 
--- and what a run that ended used and displayed; the processes that wait; the lines of the source; and the discipline
+-- and what a run that ended used and displayed; the processes that wait; the lines of the source; the discipline; and why nobody goes on
 abbrev pub story_data : Legend → Story → (word : List ℕ) → (source : List (List ℕ)) → Data
-story_data l s word source = object_with (first_members l s ++ outcome_members l (answer_of s.end) word ++ (codes "final", waits_data l (map wait_of s.waits.items)) ∷ (codes "source", lines_data source) ∷ signals_members s.signals)
+story_data l s word source = object_with (first_members l s ++ outcome_members l (answer_of s.end) word ++ (codes "final", waits_data l (map wait_of s.waits.items)) ∷ (codes "source", lines_data source) ∷ signals_members s.signals ++ why_members l (map reason_seen s.reasons.items))

@@ -12,6 +12,7 @@ use Rattle.cp_story.specs.Changes.{Changed}
 use Rattle.cp_story.specs.Columns.{Row, rows_text}
 use Rattle.cp_story.specs.Halted.{Halted, halted_seen}
 use Rattle.cp_story.specs.Joined.{joined}
+use Rattle.cp_story.specs.ReasonText.{reason_text}
 use Rattle.cp_story.specs.Sentences.{monitor_text, process_text, event_text, wait_text, refused_text, unused_text}
 use Rattle.cp_story.specs.Story.{Decision}
 use Rattle.cp_story.specs.Views.{decision_of, told_of, wait_of}
@@ -19,6 +20,7 @@ use Rattle.cp_story.specs.Waiting.{Waiting}
 use Rattle.cp_story.specs.declared.cause.Cause.{Cause}
 use Rattle.cp_story.specs.declared.cause.Cause.TheVariants as cause
 use Rattle.cp_story.specs.declared.event.StoryEvent.{StoryEvent}
+use Rattle.cp_story.specs.Reasons.{Reason, reason_seen}
 use Rattle.cp_story.specs.declared.story.Story.{Story}
 
 -- ---- cells
@@ -82,6 +84,9 @@ story_rows l s = map (event_row l) s.events.items ++ stop_rows l (option_map dec
 abbrev pub waits_text : Legend → List Waiting → List ℕ
 waits_text l ws = each (λ w. wait_text l w ++ codes "\n") ws
 
+abbrev pub reasons_text : Legend → List Reason → List ℕ
+reasons_text l rs = each (λ r. reason_text l r ++ codes "\n") rs
+
 -- why the number of the last choice can't be taken, where it can't
 abbrev pub refusal : RunEnd → Option Decision → Option Decision
 refusal (run_end.NotReady place) choice = choice
@@ -97,4 +102,4 @@ unused_line (Some words) = words ++ codes "\n"
 
 -- The rows of all events; who waits; why a number can't be taken; that numbers are left; and the last line.
 abbrev pub story_text : Legend → Story → (end : List ℕ) → List ℕ
-story_text l s end = rows_text (story_rows l s) ++ waits_text l (map wait_of s.waits.items) ++ refused_line (refusal s.end (option_map decision_of s.last_choice)) ++ unused_line (unused_text s.left) ++ end
+story_text l s end = rows_text (story_rows l s) ++ waits_text l (map wait_of s.waits.items) ++ reasons_text l (map reason_seen s.reasons.items) ++ refused_line (refusal s.end (option_map decision_of s.last_choice)) ++ unused_line (unused_text s.left) ++ end

@@ -1,6 +1,7 @@
 //! One schedule told in names: its events, as text and as JSON.
 #![tactic(auto)]
 
+mod ahead;
 pub mod aim;
 pub mod annotation;
 mod annotation_objects;
@@ -17,6 +18,9 @@ pub mod objects;
 pub mod observer;
 mod open_calls;
 mod reading;
+mod reason_objects;
+mod reason_words;
+pub mod reasons;
 mod returned;
 mod statuses;
 mod stopping;
@@ -37,6 +41,9 @@ pub use event::{Change, Choice, Happening, OpenCall, Queue, Returned, StoryEvent
 pub use happening::arguments;
 pub use objects::json;
 pub use observer::Observer;
+pub use reason_objects::put_reasons;
+pub use reason_words::{push_callers, push_continuing, reason_text};
+pub use reasons::{Caller, WaitReason, reasons_in};
 pub use stopping::AbruptEnd;
 pub use story::{MOST_NUMBERS, Story, Wait, tell};
 pub use texts::{stop_words, text};

@@ -17,6 +17,7 @@ ghost use Rattle.cp_story.specs.Views.{changed_of, decision_of, given_of, happen
 use crate::annotation_objects::put_violation;
 use crate::cause_objects::put_error_cause;
 use crate::event::{Change, Choice, Happening, OpenCall, Returned, StoryEvent};
+use crate::reason_objects::put_reasons;
 use crate::story::{Story, Wait};
 use crate::words::{error_words, kind_words, output_words, push_shown};
 use cp_legend::{Legend, Member, SourceValue as Written};
@@ -118,6 +119,7 @@ fn story_object(
     whole.put("final", waits(alloc, legend, &story.waits)?)?;
     whole.put("source", lines(alloc, source)?)?;
     put_signals(&mut whole, story.signals)?;
+    put_reasons(alloc, legend, &mut whole, &story.reasons)?;
     Ok(whole)
 }
 

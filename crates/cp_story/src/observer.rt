@@ -8,7 +8,7 @@ ghost use Rattle.cp_machine.specs.Machine.{machine_of, thread_at};
 ghost use Rattle.cp_run.specs.declared.line.TraceEvent.TheVariants as event;
 ghost use Rattle.cp_story.specs.Events.{event_of};
 ghost use Rattle.cp_story.specs.Passed as passed;
-ghost use Rattle.cp_story.specs.Story.{Enters, call_begun, calls_after, calls_continued, innermost_call, is_gated, last_or, last_with, line_told, no_call, nothing_told, past_after, past_before, queue_told, statuses_in, told_event, what_happened, with_call, with_calls};
+ghost use Rattle.cp_story.specs.Story.{Enters, call_begun, calls_after, calls_continued, innermost_call, is_gated, last_or, last_with, line_told, no_call, nothing_told, past_after, past_before, queue_at, queue_told, statuses_in, told_event, what_happened, with_call, with_calls};
 ghost use Rattle.cp_story.specs.Views.{happened_of, past_of, queue_seen, told_of};
 ghost use Rattle.cp_story.specs.Waiting.{innermost_open};
 
@@ -217,16 +217,23 @@ impl<'a> Observer<'a> {
         ensures { IfOk result (λ q. queue_seen q ≡ queue_told (past_of self.now).legend cell) }
     {
         match cell {
-            Some(cell) => Ok(Queue {
-                monitor: self.legend.monitor_of(cell).unwrap_or(0),
-                name: self.legend.permanent_name(alloc, cell, 1)?,
-            }),
+            Some(cell) => queue_of_cell(alloc, self.legend, cell),
             None => Ok(Queue {
                 monitor: 0,
                 name: String::new(alloc),
             }),
         }
     }
+}
+
+/// The queue of a cell.
+pub fn queue_of_cell(alloc: Global, legend: &Legend, cell: usize) -> Result<Queue, AllocError>
+    ensures { IfOk result (λ q. queue_seen q ≡ queue_at (legend_seen legend.now) cell) }
+{
+    Ok(Queue {
+        monitor: legend.monitor_of(cell).unwrap_or(0),
+        name: legend.permanent_name(alloc, cell, 1)?,
+    })
 }
 
 // The step of a process that is about to be made, after a last one: where it has no line, it is on the line that its process came to.

@@ -12,6 +12,7 @@ ghost use Rattle.cp_story.specs.Halted.{halted_seen, how_halted};
 ghost use Rattle.cp_run.specs.Stop.{numbers_left};
 ghost use Rattle.cp_story.specs.Annotations.{violation_of_run, violation_seen};
 ghost use Rattle.cp_story.specs.Causes.{cause_of_run};
+ghost use Rattle.cp_story.specs.Reasons.{reason_seen, reasons_of_run};
 ghost use Rattle.cp_story.specs.Told.{lines_of};
 ghost use Rattle.cp_story.specs.Views.{past_of, decision_of, telling_of, told_of, wait_of};
 ghost use Rattle.cp_story.specs.Waiting as waiting;
@@ -22,6 +23,7 @@ use crate::annotation::{Violation, violation_of_end};
 use crate::cause::{Cause, cause_of_end};
 use crate::event::{Choice, OpenCall, StoryEvent};
 use crate::observer::Observer;
+use crate::reasons::{WaitReason, reasons_at};
 use crate::statuses::status_of;
 use crate::stopping::{AbruptEnd, abrupt_end};
 use cp_legend::Legend;
@@ -59,6 +61,8 @@ pub struct Story {
     pub cause: Option<Cause>,
     /// The annotation that is false, where it stopped with one.
     pub violation: Option<Violation>,
+    /// Why those who wait in queues are not woken, where all wait.
+    pub reasons: Vec<WaitReason>,
     /// How many numbers of the word were not used, since the run had ended.
     pub left: usize,
     /// Who goes on after a `continue`.
@@ -305,6 +309,7 @@ pub fn tell<L: Ledger>(
     ensures stop { IfOk result (λ s. option_map halted_seen s.stop ≡ how_halted (legend_seen legend.now) program.now limits.discipline limits.choices limits.steps word.now) }
     ensures cause { IfOk result (λ s. s.cause ≡ cause_of_run program.now limits.discipline limits.choices limits.steps word.now) }
     ensures violation { IfOk result (λ s. option_map violation_seen s.violation ≡ violation_of_run (legend_seen legend.now) program.now limits.discipline limits.choices limits.steps word.now) }
+    ensures reasons { IfOk result (λ s. map reason_seen s.reasons.items ≡ reasons_of_run (legend_seen legend.now) program.now limits.discipline limits.choices limits.steps word.now) }
     ensures left { IfOk result (λ s. s.left ≡ numbers_left word.now (run (slots program.now limits.discipline) limits.choices limits.steps word.now)) }
     ensures signals { IfOk result (λ s. s.signals ≡ limits.discipline.signals) }
     ensures ticks { ticks.new ≤ ticks.old + (limits.choices + 1) * limits.steps }
@@ -329,6 +334,7 @@ pub fn tell<L: Ledger>(
     let stop = abrupt_end(alloc, legend, &end, observer.last, &waits)?;
     let cause = cause_of_end(program, &state, &end);
     let violation = violation_of_end(alloc, legend, program, &state, &end)?;
+    let reasons = reasons_at(alloc, program, legend, &state, &end, &events, &waits)?;
     Ok(Story {
         events,
         last_choice: observer.choice,
@@ -337,6 +343,7 @@ pub fn tell<L: Ledger>(
         stop,
         cause,
         violation,
+        reasons,
         left,
         signals: limits.discipline.signals,
     })

@@ -9,6 +9,7 @@ ghost use Rattle.cp_story.specs.Halted.{halted_seen};
 ghost use Rattle.cp_story.specs.Joined.{joined};
 ghost use Rattle.cp_story.specs.Sentences as sentences;
 ghost use Rattle.cp_story.specs.Text as spec;
+ghost use Rattle.cp_story.specs.Reasons.{reason_seen};
 ghost use Rattle.cp_story.specs.Views.{changed_of, decision_of, wait_of};
 
 use crate::annotation::Violation;
@@ -16,6 +17,8 @@ use crate::annotation_words::violation_words;
 use crate::cause::Cause;
 use crate::cause_words::cause_text;
 use crate::event::{Change, Choice, StoryEvent};
+use crate::reason_words::reason_text;
+use crate::reasons::WaitReason;
 use crate::stopping::AbruptEnd;
 use crate::story::{Story, Wait};
 use crate::tables::{TableRow, push_rows};
@@ -32,6 +35,7 @@ pub fn text(alloc: Global, legend: &Legend, story: &Story, end: &str) -> Result<
     let mut text = String::new(alloc);
     push_table(alloc, legend, &mut text, story)?;
     push_waits(alloc, legend, &mut text, &story.waits)?;
+    push_reasons(alloc, legend, &mut text, &story.reasons)?;
     push_refused(alloc, &mut text, &story.end, &story.last_choice)?;
     push_unused(alloc, &mut text, story.left)?;
     text.push_str(end)?;
@@ -87,6 +91,23 @@ fn push_waits(
 {
     for wait in waits {
         let words = wait_words(alloc, legend, wait)?;
+        text.push_str(words.as_str())?;
+        text.push_str("\n")?;
+    }
+    Ok(())
+}
+
+#[tactic(auto, using(crate::proofs::Rows::each_step, crate::proofs::Rows::each_none))]
+fn push_reasons(
+    alloc: Global,
+    legend: &Legend,
+    text: &mut String,
+    reasons: &[WaitReason],
+) -> Result<(), AllocError>
+    ensures { OnOk result (string_bytes text.new ≡ string_bytes text.old ++ spec.reasons_text (legend_seen legend.now) (map reason_seen reasons.now)) }
+{
+    for reason in reasons {
+        let words = reason_text(alloc, legend, reason)?;
         text.push_str(words.as_str())?;
         text.push_str("\n")?;
     }

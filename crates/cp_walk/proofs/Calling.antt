@@ -1,7 +1,7 @@
 -- The nodes of the walk are counted by the words that begin a word of its rows.
-use Rattle.std.proofs.Common.{◌≡◌, ◌∙◌, ℕ, zero, suc, ◌<◌, ◌≤◌, ◌+◌, ◌-◌, ◌⊎◌, ⊎_elim, Bool, true, false, ◌&&◌, ◌==◌, nat_lt, if◌then◌else◌, List, [], ◌∷◌, ◌++◌, length, map, Result, Ok, Err, IfOk, refl, sym, ap, subst, arith}
+use Rattle.std.proofs.Common.{◌≡◌, ◌∙◌, ℕ, zero, suc, ◌<◌, ◌≤◌, ◌+◌, ◌⊎◌, ⊎_elim, Bool, true, false, ◌&&◌, nat_lt, if◌then◌else◌, List, [], ◌∷◌, ◌++◌, length, map, Result, Ok, Err, IfOk, refl, sym, ap, subst, arith}
 use Rattle.std.proofs.lemmas.Bool.{eq-eqb, ne_eqb, ltb-true, cases_order}
-use Rattle.cp_walk.proofs.Words.{length-append, map-append, System, joined_below, Node, Halted, Choosing, may, chosen, Line, beginnings, common, words_in}
+use Rattle.cp_walk.proofs.Words.{length-append, map-append, System, joined_below, Node, Choosing, may, chosen, Line, beginnings, common, words_in}
 use Rattle.cp_walk.proofs.Words.{Pairwise, parts_before, behind, walk, IsDue}
 use Rattle.cp_walk.proofs.Branches.{branch, walk_due}
 use Rattle.cp_walk.proofs.Counted.{added, counted, last_of, walk_parted}

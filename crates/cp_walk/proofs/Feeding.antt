@@ -1,5 +1,5 @@
 -- What an outcome feeds a hasher, and the numbers of no value.
-use Rattle.std.proofs.Common.{◌≡◌, ◌∙◌, ℕ, suc, ◌+◌, ◌<◌, arith, take, get_or, List, [], ◌∷◌, ◌++◌, Bool, true, false, ◌&&◌, ◌*◌, ◌-◌, length, fold, flat_map, map, nat_eq, ◌==◌, if◌then◌else◌, refl, sym, ap}
+use Rattle.std.proofs.Common.{◌≡◌, ◌∙◌, ℕ, suc, ◌+◌, ◌<◌, arith, take, get_or, List, [], ◌∷◌, ◌++◌, Bool, ◌*◌, ◌-◌, length, fold, flat_map, map, nat_eq, ◌==◌, if◌then◌else◌, refl, sym, ap}
 use Rattle.std.specs.Prelude.{unsigned_abs, ℤ, pos, negsuc}
 use Rattle.std.specs.Int.{is_negative, cast_unsigned}
 use mir.Syntax.{w16}

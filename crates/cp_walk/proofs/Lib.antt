@@ -22,6 +22,7 @@ pub mod Repeats
 pub mod Replaying
 pub mod Reporting
 pub mod Starting
+pub mod Walking
 pub mod Walks
 pub mod Whole
 mod Words

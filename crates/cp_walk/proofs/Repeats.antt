@@ -1,5 +1,5 @@
 -- A node like one that was walked has its rows, with another beginning of the words and of what was displayed.
-use Rattle.std.proofs.Common.{◌≡◌, ◌∙◌, ◌⊎◌, inl, inr, Result, Ok, Err, IfOk, ◌+◌, ◌-◌, ◌<◌, ◌≤◌, ℕ, zero, suc, Bool, true, false, cond, if◌then◌else◌, Option, None, Some, unwrap_or, take_all, List, [], ◌∷◌, ◌++◌, get_or, length, map, take, drop, All, refl, sym, ap, subst, arith}
+use Rattle.std.proofs.Common.{◌≡◌, ◌∙◌, ◌⊎◌, inl, inr, Result, Ok, Err, IfOk, ◌+◌, ◌-◌, ◌<◌, ◌≤◌, ℕ, zero, suc, Bool, true, false, cond, if◌then◌else◌, Some, unwrap_or, take_all, List, [], ◌∷◌, ◌++◌, get_or, length, map, take, drop, All, refl, sym, ap, subst, arith}
 use Rattle.std.specs.Prelude.{nat_eq, slice_index_or}
 use Rattle.cp_walk.proofs.Words.{list_any, lookup, pointwise, Tables, Shown, Choosing, slots, System, Line, each, beginnings, beginnings_of, with_new}
 use Rattle.cp_walk.proofs.Words.{words_in, line_of, Row}

@@ -1,5 +1,5 @@
 -- The rows that begin with a word, number by number.
-use Rattle.std.proofs.Common.{◌≡◌, ℕ, zero, suc, ◌+◌, ◌-◌, ◌<◌, true, false, if◌then◌else◌, List, [], ◌∷◌, ◌++◌, length, map, take, drop, get_or, refl, sym, ap, subst, ◌∙◌, arith, take-suc}
+use Rattle.std.proofs.Common.{◌≡◌, ℕ, zero, suc, ◌+◌, ◌-◌, ◌<◌, true, false, if◌then◌else◌, List, [], ◌∷◌, ◌++◌, length, map, take, drop, get_or, refl, sym, ap, ◌∙◌, arith, take-suc}
 use Rattle.cp_walk.proofs.Words.{append_assoc, Halt, OutcomeKind, System, Node, Halted, Choosing, may, chosen, opened, Line, behind, walk, rows_from, rows_behind}
 use Rattle.cp_walk.proofs.Words.{eqb-true}
 use Rattle.cp_run.specs.declared.outcome.Halt.TheVariants.{Choice, Ended as HasEnded}
@@ -63,10 +63,3 @@ replayed_all sys steps k n word node e =
 pub nothing_replayed : {S : Type 0} (sys : System S) (choices steps : ℕ) (word : List ℕ) (node : Node S) → opened sys steps ≡ node → rows_behind sys choices steps word ≡ map (behind []) (rows_from sys steps choices word node)
 unfolding rows_behind
 nothing_replayed sys choices steps word node at = ap (rows_from sys steps choices word) at ∙ sym (behind_none (rows_from sys steps choices word node))
-
--- a walk by as many numbers as are left, after no rows
-pub walked_at : {S : Type 0} (sys : System S) (steps : ℕ) (word : List ℕ) (node : Node S) (lines old : List Line) (k left : ℕ) → lines ≡ old ++ map (behind word) (walk sys steps k node) → old ≡ [] → k ≡ left → lines ≡ map (behind word) (walk sys steps left node)
-walked_at sys steps word node lines old k left is none e = is ∙ ap (λ l. l ++ map (behind word) (walk sys steps k node)) none ∙ ap (λ j. map (behind word) (walk sys steps j node)) e
-
-pub many_at : {S : Type 0} (sys : System S) (steps : ℕ) (node : Node S) (old k left : ℕ) → 50000 < old + length (walk sys steps k node) → k ≡ left → 50000 < old + length (walk sys steps left node)
-many_at sys steps node old k left many e = subst (λ j. 50000 < old + length (walk sys steps j node)) e many

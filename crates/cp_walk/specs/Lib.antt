@@ -14,3 +14,4 @@ pub mod Text
 pub mod TraceText
 pub mod Walk
 pub mod Walked
+pub mod Walking

@@ -6,6 +6,7 @@ mod children;
 mod collect;
 pub mod cutting;
 pub mod fault;
+mod found;
 mod groups;
 pub mod job;
 mod key;

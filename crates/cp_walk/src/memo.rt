@@ -13,6 +13,7 @@ ghost use Rattle.cp_machine.specs.System.{machine_of};
 use arrayvec::ArrayVec;
 use cp_key::{freeze_core, most_bytes};
 use cp_machine::State;
+use cp_run::{Halt, OutcomeKind};
 use indexmap::IndexMap;
 use std::alloc::{AllocError, Global};
 use std::hash::{Hash, Hasher};
@@ -77,11 +78,22 @@ impl Walked {
         })
     }
 
-    /// The key of a node, if it is not too long to be remembered.
-    pub fn key_of(&mut self, state: &State, left: u8) -> Result<Option<NodeKey>, AllocError>
+    /// The key of a node where a choice is due and some are left, if it is not too long to be remembered.
+    // Else its call is made at each leaf.
+    #[inline(always)]
+    pub fn key_of(
+        &mut self,
+        state: &State,
+        halt: Halt<OutcomeKind>,
+        left: u8,
+    ) -> Result<Option<NodeKey>, AllocError>
+        ensures due { IfOk result (λ o. IfSome o (λ k. halt ≡ Halt.Choice)) }
         ensures key { IfOk result (λ o. IfSome o (λ k. k.bytes.items ≡ left ∷ core_key (machine_of state.now))) }
         ensures nodes { self.new.nodes.entries ≡ self.old.nodes.entries }
     {
+        if left == 0 || matches!(halt, Halt::Ended(_)) {
+            return Ok(None);
+        }
         self.scratch.clear();
         self.scratch.push(left)?;
         freeze_core(state, &mut self.scratch)?;

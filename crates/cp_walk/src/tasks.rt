@@ -26,8 +26,7 @@ impl Work for Cutting<'_> {
         };
         member_rows::<Brand, Brand, N>(
             alloc,
-            self.job.program,
-            self.job.limits,
+            &self.job,
             word.as_slice(),
             Blank::new(1),
             Blank::new(1),

@@ -1,12 +1,11 @@
-use Rattle.cp_merged.proofs.Words.{machine_of, IsStateOf, IsRowOf, Reached}
+use Rattle.cp_merged.proofs.Words.{Reached}
+use Rattle.cp_merged.specs.Stored.{IsStored}
 use Rattle.cp_merged.proofs.explorer.ends_of.Given as goal
 
 abbrev pub invariant-loop-depth : goal.invariant-loop-depth
 invariant-loop-depth g l =
     record {
-      own : IsStateOf l.program l.state;
-      next : IsStateOf l.program l.next;
-      row : IsRowOf l.frontier.store l.row.numbers (machine_of l.state);
-      next_row : IsRowOf l.frontier.store l.next_row.numbers (machine_of l.next);
-      reached : Reached l.program l.limits.discipline l.limits.choices l.limits.steps l.most l.depth l.frontier.store l.frontier.ended.entries l.frontier.layer.entries;
+      here : IsStored l.job.program.now l.layering.frontier.store l.layering.here;
+      next : IsStored l.job.program.now l.layering.frontier.store l.layering.next;
+      reached : Reached l.job.program.now l.job.limits.discipline l.job.limits.choices l.job.limits.steps l.job.most l.depth l.layering.frontier.store l.layering.frontier.ended.entries l.layering.frontier.layer.entries;
     }

@@ -1,0 +1,13 @@
+pub mod Overlays
+pub mod Lying
+pub mod Reading
+pub mod Writing
+pub mod Machines
+pub mod Kernel
+pub mod Statements
+pub mod Arguments
+pub mod Calls
+pub mod Steps
+pub mod Legs
+pub mod Walked
+pub mod Parts

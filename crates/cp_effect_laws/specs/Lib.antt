@@ -1,0 +1,4 @@
+pub mod Footprint
+pub mod Touches
+pub mod Effects
+pub mod Parts

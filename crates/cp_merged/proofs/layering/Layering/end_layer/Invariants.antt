@@ -1,0 +1,11 @@
+use Rattle.cp_merged.proofs.Words.{◌≤◌, MOST_SHOWN}
+use Rattle.std.specs.Prelude.{vec_capacity}
+use Rattle.cp_merged.proofs.Making.{Ending}
+use Rattle.cp_merged.proofs.layering.Layering.end_layer.Given as goal
+
+abbrev pub invariant-loop-key : goal.invariant-loop-key
+invariant-loop-key g l =
+    record {
+      room : MOST_SHOWN ≤ vec_capacity l.self.here.state.output;
+      ending : Ending l.job.program.now l.job.limits.discipline l.job.limits.steps l.job.limits.choices l.self.frontier.store l.self.frontier.ended.entries l.key-iterator;
+    }

@@ -1,0 +1,175 @@
+//! Processes that are started before a monitor that they are given is initialised.
+
+use crate::hints::Gathering;
+use crate::hints::written::{PlacedStatement, Written, name_alone};
+use cp_prose::Prose;
+use cp_tree::{
+    Definition, Designator, Program, ProgramPartKind, Selector, Start, StatementKind, SystemKind,
+};
+use std::alloc::AllocError;
+
+/// A component of the program where it is named.
+#[derive(Clone, Copy)]
+struct NamedComponent {
+    kind: SystemKind,
+    /// The token at which it, or the array that it is an element of, is declared.
+    declared: usize,
+    /// Its index, where that is a constant.
+    index: Option<i64>,
+}
+
+/// A component where it is initialised, and where the outermost loop around that begins, if there is one.
+#[derive(Clone, Copy, Drop)]
+struct PlacedStart<'a> {
+    start: &'a Start,
+    component: NamedComponent,
+    outermost_loop: Option<usize>,
+}
+
+impl NamedComponent {
+    fn may_be(self, other: NamedComponent) -> bool {
+        self.declared == other.declared
+            && match (self.index, other.index) {
+                (Some(one), Some(other)) => one == other,
+                _ => true,
+            }
+    }
+}
+
+/// Whether a component may be initialised by one of these.
+fn may_start(starts: &[PlacedStart], component: NamedComponent) -> bool {
+    for one in starts {
+        if one.component.may_be(component) {
+            return true;
+        }
+    }
+    false
+}
+
+/// What a system type with a name is.
+fn kind_named(program: &Program, name: &str) -> Option<SystemKind> {
+    for part in &program.parts {
+        if let ProgramPartKind::Types(all) = &part.kind {
+            for one in all {
+                if let Definition::System(system) = &one.value
+                    && one.name.name.as_str() == name
+                {
+                    return Some(system.kind);
+                }
+            }
+        }
+    }
+    None
+}
+
+impl<'a, 'b> Gathering<'a, 'b> {
+    /// The component variable of the program, or the element of one, that a name with its selectors is.
+    fn named_component(&self, node: &'a Designator) -> Option<NamedComponent> {
+        let one = self
+            .declarations
+            .find(node.name.name.as_str(), node.name.at)?;
+        let kind = kind_named(self.program, self.declarations.component_of(&one))?;
+        let index = match node.selectors.first() {
+            Some(Selector::Index(index)) => self.declarations.value(index),
+            _ => None,
+        };
+        Some(NamedComponent {
+            kind,
+            declared: one.at,
+            index,
+        })
+    }
+
+    /// Adds the starts of a statement.
+    fn add_placed_starts(
+        &self,
+        all: &mut Vec<PlacedStart<'a>>,
+        placed: PlacedStatement<'a>,
+    ) -> Result<(), AllocError> {
+        if let StatementKind::Init(starts) = &placed.statement.kind {
+            for start in starts {
+                if let Some(component) = self.named_component(&start.target) {
+                    all.push(PlacedStart {
+                        start,
+                        component,
+                        outermost_loop: placed.outermost_loop,
+                    })?;
+                }
+            }
+        }
+        Ok(())
+    }
+
+    /// Adds a hint on each monitor that is given to a process and initialised only behind the start of it.
+    pub fn add_early_starts(&mut self) -> Result<(), AllocError> {
+        let written = Written::in_statements(self.alloc, &self.program.body.statements)?;
+        let mut all = Vec::new(self.alloc);
+        for one in &written.statements {
+            self.add_placed_starts(&mut all, *one)?;
+        }
+        for (number, one) in all.iter().enumerate() {
+            let (before, behind) = all.split_at(number.min(all.len()));
+            if one.component.kind == SystemKind::Process {
+                self.add_early_start(before, *one, behind)?;
+            }
+        }
+        Ok(())
+    }
+
+    fn add_early_start(
+        &mut self,
+        before: &[PlacedStart<'a>],
+        process: PlacedStart<'a>,
+        behind: &[PlacedStart<'a>],
+    ) -> Result<(), AllocError> {
+        for argument in &process.start.arguments {
+            if let Some(given) = name_alone(argument)
+                && let Some(monitor) = self.named_component(given)
+                && !may_start(before, monitor)
+                && let Some(line) = self.line_of_start(behind, monitor, process.outermost_loop)
+            {
+                self.add_uninitialised(given, &process.start.target, line)?;
+            }
+        }
+        Ok(())
+    }
+
+    /// The line of the first of these by which a component may be initialised, where no loop is around both that and another start.
+    fn line_of_start(
+        &self,
+        starts: &[PlacedStart<'a>],
+        component: NamedComponent,
+        outermost_loop: Option<usize>,
+    ) -> Option<u32> {
+        for one in starts {
+            if one.component.may_be(component) {
+                return if outermost_loop.is_some() && one.outermost_loop == outermost_loop {
+                    None
+                } else {
+                    Some(self.line_of(one.start.target.name.at))
+                };
+            }
+        }
+        None
+    }
+
+    fn add_uninitialised(
+        &mut self,
+        given: &Designator,
+        process: &Designator,
+        line: u32,
+    ) -> Result<(), AllocError> {
+        if self.is_full() {
+            return Ok(());
+        }
+        let name = given.name.name.as_str();
+        let mut sentence = Prose::new(self.alloc);
+        sentence.put(process.name.name.as_str());
+        sentence.put(" is started before ");
+        sentence.put(name);
+        sentence.put_display(format_args!(
+            " is initialised in line {line}: where it calls {name} before that, it is the run error not-init"
+        ));
+        self.push(given.name.at, sentence.finish()?)
+    }
+}

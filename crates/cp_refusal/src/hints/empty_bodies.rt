@@ -1,0 +1,84 @@
+//! Statements that a semicolon ends before what they were meant for.
+
+use crate::declared::Declarations;
+use crate::hints::Gathering;
+use crate::hints::written::{Sequence, Written, WrittenName};
+use cp_tree::{Expression, Selector, Statement, StatementKind};
+use std::alloc::AllocError;
+
+/// The `if`, `while` or `for` at the end of a statement whose `then` or `do` has nothing behind it.
+#[cycle(ends)]
+fn empty_at_end(statement: &Statement) -> Option<&Statement> {
+    match &statement.kind {
+        StatementKind::If(_, body, None)
+        | StatementKind::While(_, body)
+        | StatementKind::For(_, _, _, _, body) => match &body.kind {
+            StatementKind::Empty => Some(statement),
+            _ => empty_at_end(body),
+        },
+        StatementKind::If(_, _, Some(branch)) => empty_at_end(branch),
+        StatementKind::Asserted(_, _, inner) => empty_at_end(inner),
+        _ => None,
+    }
+}
+
+impl<'a> Declarations<'a> {
+    /// Whether a name with its selectors is a call of a routine of the program.
+    fn is_call(&self, written: WrittenName<'a>) -> bool {
+        let Some(one) = self.find(written.name.name.as_str(), written.name.at) else {
+            return false;
+        };
+        let has_field = matches!(written.selectors.last(), Some(Selector::Field(_)));
+        one.is_routine() || has_field && !self.component_of(&one).is_empty()
+    }
+}
+
+impl<'a, 'b> Gathering<'a, 'b> {
+    /// Adds a hint on each `do` and `then` that a semicolon follows.
+    pub fn add_empty_bodies(&mut self, written: &Written<'a>) -> Result<(), AllocError> {
+        for sequence in &written.sequences {
+            self.add_of_sequence(*sequence)?;
+        }
+        Ok(())
+    }
+
+    fn add_of_sequence(&mut self, sequence: Sequence<'a>) -> Result<(), AllocError> {
+        let behind = sequence.statements.iter().skip(1);
+        for (one, next) in sequence.statements.iter().zip(behind) {
+            if let Some(found) = empty_at_end(one) {
+                self.add_empty_body(found, next)?;
+            }
+        }
+        Ok(())
+    }
+
+    fn add_empty_body(&mut self, found: &'a Statement, next: &Statement) -> Result<(), AllocError> {
+        let goes_on = !matches!(next.kind, StatementKind::Empty);
+        match &found.kind {
+            StatementKind::If(_, body, _) if goes_on => self.add(
+                body.at,
+                "this semicolon ends the if, which does nothing: what follows is no part of it",
+            ),
+            StatementKind::For(_, _, _, _, body) if goes_on => self.add(
+                body.at,
+                "this semicolon ends the for, which repeats nothing: what follows is no part of it",
+            ),
+            StatementKind::While(test, body) if self.calls_nothing(test)? => self.add(
+                body.at,
+                "this semicolon ends the while: what it tests never changes, and where that is true once, it goes round for ever",
+            ),
+            _ => Ok(()),
+        }
+    }
+
+    /// Whether no call stands in an expression, so that no other process goes on while it is tested again and again.
+    fn calls_nothing(&self, test: &'a Expression) -> Result<bool, AllocError> {
+        let written = Written::in_expression(self.alloc, test)?;
+        for one in &written.names {
+            if self.declarations.is_call(*one) {
+                return Ok(false);
+            }
+        }
+        Ok(true)
+    }
+}

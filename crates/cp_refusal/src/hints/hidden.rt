@@ -1,0 +1,111 @@
+//! Names of routines that hide variables.
+
+use crate::declared::{Declaration, Declared};
+use crate::hints::Gathering;
+use crate::hints::written::{Use, Written, routines_of};
+use cp_prose::Prose;
+use std::alloc::AllocError;
+
+/// The use of a declared name in a routine.
+#[derive(Clone, Copy, Drop)]
+struct RoutineUse {
+    /// The token at which the name is declared.
+    declared: usize,
+    used: Use,
+}
+
+/// Whether what a routine declares is never read, or read before it is set.
+fn is_lost(uses: &[RoutineUse], local: usize) -> bool {
+    let mut is_set = false;
+    for one in uses {
+        if one.declared != local {
+            continue;
+        }
+        if one.used != Use::Set {
+            return one.used == Use::Read && !is_set;
+        }
+        is_set = true;
+    }
+    is_set
+}
+
+/// Whether a routine uses what it declares, and another routine what that hides.
+fn is_used_twice(uses: &[RoutineUse], local: usize, hidden: usize) -> bool {
+    let mut is_local_used = false;
+    let mut is_hidden_used = false;
+    for one in uses {
+        is_local_used = is_local_used || one.declared == local;
+        is_hidden_used = is_hidden_used || one.declared == hidden;
+    }
+    is_local_used && is_hidden_used
+}
+
+impl<'a, 'b> Gathering<'a, 'b> {
+    /// The permanent variable with the name of what is declared in a routine.
+    fn hidden_by(&self, local: &Declaration<'a>) -> Option<Declaration<'a>> {
+        for one in &self.declarations.all {
+            if one.is_permanent() && one.owner == local.owner && one.name == local.name {
+                return Some(*one);
+            }
+        }
+        None
+    }
+
+    /// The uses of names in routines, in reading order.
+    fn routine_uses(&self) -> Result<Vec<RoutineUse>, AllocError> {
+        let mut uses = Vec::new(self.alloc);
+        for routine in routines_of(self.alloc, self.program)? {
+            let written = Written::in_statements(self.alloc, &routine.body.statements)?;
+            for one in &written.names {
+                if let Some(declared) = self
+                    .declarations
+                    .find(one.name.name.as_str(), one.name.at)
+                {
+                    uses.push(RoutineUse {
+                        declared: declared.at,
+                        used: one.used,
+                    })?;
+                }
+            }
+        }
+        Ok(uses)
+    }
+
+    /// Adds a hint on each name of a routine that hides a permanent variable, where one seems to be meant for the other.
+    pub fn add_hidden(&mut self) -> Result<(), AllocError> {
+        let declarations = self.declarations;
+        let uses = self.routine_uses()?;
+        for local in &declarations.all {
+            if local.routine.is_empty() {
+                continue;
+            }
+            if let Some(variable) = self.hidden_by(local) {
+                let is_variable = matches!(local.what, Declared::Variable(_));
+                if is_variable && is_lost(&uses, local.at)
+                    || is_used_twice(&uses, local.at, variable.at)
+                {
+                    self.add_hiding(local, variable)?;
+                }
+            }
+        }
+        Ok(())
+    }
+
+    fn add_hiding(
+        &mut self,
+        local: &Declaration<'a>,
+        variable: Declaration<'a>,
+    ) -> Result<(), AllocError> {
+        if self.is_full() {
+            return Ok(());
+        }
+        let line = self.line_of(variable.at);
+        let mut sentence = Prose::new(self.alloc);
+        sentence.put("this hides the permanent variable ");
+        sentence.put(local.name);
+        sentence.put_display(format_args!(" of line {line}: in "));
+        sentence.put(local.routine);
+        sentence.put(" the name is this one alone");
+        self.push(local.at, sentence.finish()?)
+    }
+}

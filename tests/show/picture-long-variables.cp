@@ -1,0 +1,27 @@
+"Names of forty characters"
+type
+the_monitor_that_keeps_one_value_for_all = monitor;
+  var the_value_that_is_kept_for_all_processes: integer; the_queue_of_those_who_come_before_there: queue;
+  procedure entry put_what_is_given_in_place_of_the_other1(the_value_that_is_put_by_whoever_calls_1: integer);
+  begin
+    the_value_that_is_kept_for_all_processes := the_value_that_is_put_by_whoever_calls_1;
+    continue(the_queue_of_those_who_come_before_there)
+  end;
+  procedure entry take_what_is_there_or_wait_till_it_comes(var the_value_that_is_given_to_whoever_calls: integer);
+  begin
+    if the_value_that_is_kept_for_all_processes = 0 then delay(the_queue_of_those_who_come_before_there);
+    the_value_that_is_given_to_whoever_calls := the_value_that_is_kept_for_all_processes
+  end;
+begin the_value_that_is_kept_for_all_processes := 0 end;
+the_process_that_puts_a_number_into_it_1 = process(the_monitor_into_which_its_number_is_put: the_monitor_that_keeps_one_value_for_all; the_number_that_it_puts_there_at_once_12: integer);
+begin the_monitor_into_which_its_number_is_put.put_what_is_given_in_place_of_the_other1(the_number_that_it_puts_there_at_once_12) end;
+var the_only_monitor_that_is_in_this_program: the_monitor_that_keeps_one_value_for_all;
+  the_first_of_two_processes_that_put_some, the_other_of_two_processes_that_put_some: the_process_that_puts_a_number_into_it_1;
+  the_value_that_came_out_of_it_at_the_end: integer;
+begin
+  init the_only_monitor_that_is_in_this_program,
+    the_first_of_two_processes_that_put_some(the_only_monitor_that_is_in_this_program, 32767),
+    the_other_of_two_processes_that_put_some(the_only_monitor_that_is_in_this_program, 32766);
+  the_only_monitor_that_is_in_this_program.take_what_is_there_or_wait_till_it_comes(the_value_that_came_out_of_it_at_the_end);
+  display(the_value_that_came_out_of_it_at_the_end)
+end.

@@ -1,0 +1,3 @@
+function f(a: integer): set of 1..5;
+begin end;
+begin end.

@@ -1,0 +1,3 @@
+procedure fill(var a: array [1..5] of integer);
+begin end;
+begin end.

@@ -1,0 +1,1 @@
+var x: integer; begin x += 2 end.
