@@ -16,7 +16,7 @@ use Rattle.cp_store.specs.declared.argument.Bound.{Bound}
 use Rattle.cp_store.specs.declared.error.ErrorName.{ErrorName}
 use Rattle.cp_store.specs.declared.error.ErrorName.TheVariants.{NotInit}
 use Rattle.cp_store.specs.declared.memory.Frame.{Frame}
-use Rattle.cp_machine.specs.Calls.{called_by, called_in}
+use Rattle.cp_machine.specs.Calls.{call_by, call_in}
 use Rattle.cp_machine.specs.Machine.{Thread, is_initialised, no_thread, phase_at, thread_at, thread_of, with_stack}
 use Rattle.cp_machine.specs.Memory.{arguments_of}
 use Rattle.cp_machine.specs.Stack.{rest_of}
@@ -66,11 +66,11 @@ module _ (r : Tables) (n : Machine) (p at : ℕ) (item : Item) (es : List Entry)
       rest : List Entry
       rest = rest_of item.next es
 
-      called : (bounds : List Bound) (b : Bool) → is_quiet (if b then called_in r n p (component_at r component).kind routine component arguments.items bounds result rest else fault n p item.line NotInit).event ≡ false
-      called bounds true = ap (λ (k : ComponentKind). is_quiet (called_in r n p k routine component arguments.items bounds result rest).event) is
+      called : (bounds : List Bound) (b : Bool) → is_quiet (if b then call_in r n p (component_at r component).kind routine component arguments.items bounds result rest else fault n p item.line NotInit).event ≡ false
+      called bounds true = ap (λ (k : ComponentKind). is_quiet (call_in r n p k routine component arguments.items bounds result rest).event) is
       called bounds false = refl
 
-      given : (x : Result (List Bound) ErrorName) → is_quiet (with_value x (fault n p item.line) (λ bounds. called_by r n p item.line true routine component arguments.items bounds result rest)).event ≡ false
+      given : (x : Result (List Bound) ErrorName) → is_quiet (with_value x (fault n p item.line) (λ bounds. call_by r n p item.line true routine component arguments.items bounds result rest)).event ≡ false
       given (Ok bounds) = called bounds (is_initialised (phase_at n component))
       given (Err e) = refl
   enters _ is = absurd is

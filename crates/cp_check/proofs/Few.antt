@@ -13,10 +13,10 @@ use Rattle.cp_check.specs.declared.operand.Named.TheVariants as name
 use Rattle.cp_check.specs.declared.operand.DesignatedName.{DesignatedName}
 use Rattle.cp_check.specs.declared.statement.Target.{Target}
 use Rattle.cp_check.specs.declared.statement.Target.TheVariants as target
-use Rattle.cp_check.specs.Calls.{unless, called, call_use, total_use}
-use Rattle.cp_check.specs.Cases.{chosen}
+use Rattle.cp_check.specs.Calls.{unless, check_routine_call, call_use, total_use}
+use Rattle.cp_check.specs.Cases.{check_case}
 use Rattle.cp_check.specs.Statements as spec
-use Rattle.cp_check.specs.Names.{begun}
+use Rattle.cp_check.specs.Names.{meaning_of_name}
 use Rattle.cp_check.specs.Statements.{together}
 use Rattle.cp_check.proofs.Words.{CheckFault, Use, Scopes, Judged, Context, Operand, both, both_uses, no_use, ◌>>=◌}
 
@@ -45,7 +45,7 @@ few_if false j k f g = g
 
 -- ---- assignments and calls
 
-assigned_few : (at : ℕ) (t : Target) (o : Operand) (u : Use) → u.calls ≤ 8193 → Few (spec.assigned at t o u)
+assigned_few : (at : ℕ) (t : Target) (o : Operand) (u : Use) → u.calls ≤ 8193 → Few (spec.check_assignment at t o u)
 assigned_few at (target.Assignable t) o u h = search (few_if, h)
 assigned_few at (target.Fixed (Some t)) o u h = search few_if
 assigned_few at (target.Fixed None) o u h = tt
@@ -67,40 +67,40 @@ continued_few s w at [] u = tt
 continued_few s w at (o ∷ []) u = few_unless _ _ (few_both u o.uses)
 continued_few s w at (o ∷ p ∷ os) u = tt
 
-performed_few : (s : Scopes) (w : Context) (at : ℕ) (p : Predeclared) (os : List Operand) (u : Use) → Few (spec.performed s w at p os (total_use u os))
+performed_few : (s : Scopes) (w : Context) (at : ℕ) (p : Predeclared) (os : List Operand) (u : Use) → Few (spec.check_standard_call s w at p os (total_use u os))
 performed_few s w at predeclared.Display os u = displayed_few at os u
 performed_few s w at predeclared.Delay os u = few_unless _ _ (few_both (total_use u os) spec.one_delay)
 performed_few s w at predeclared.Continue os u = continued_few s w at os u
 performed_few s w at _ os u = tt
 
-called_few : (s : Scopes) (w : Context) (at name_at : ℕ) (b : Bool) (n : ℕ) (os : List Operand) (u : Use) → Few (called s w at name_at b n os u)
-unfolding called
+called_few : (s : Scopes) (w : Context) (at name_at : ℕ) (b : Bool) (n : ℕ) (os : List Operand) (u : Use) → Few (check_routine_call s w at name_at b n os u)
+unfolding check_routine_call
 called_few s w at name_at b n os u = few_unless _ _ (few_both (total_use u os) (call_use b (body_at n s)))
 
 procedure_few : (s : Scopes) (w : Context) (at name_at : ℕ) (b : Bool) (n : ℕ) (os : List Operand) (u : Use) (o : Option ValueType) → Few (spec.procedure_of s w at name_at b n os u o)
 procedure_few s w at name_at b n os u (Some t) = tt
 procedure_few s w at name_at b n os u None = called_few s w at name_at b n os u
 
-procedure_called_few : (s : Scopes) (w : Context) (at name_at : ℕ) (b : Bool) (n : ℕ) (os : List Operand) (u : Use) → Few (spec.procedure_called s w at name_at b n os u)
-unfolding spec.procedure_called
+procedure_called_few : (s : Scopes) (w : Context) (at name_at : ℕ) (b : Bool) (n : ℕ) (os : List Operand) (u : Use) → Few (spec.check_procedure_call s w at name_at b n os u)
+unfolding spec.check_procedure_call
 procedure_called_few s w at name_at b n os u = procedure_few s w at name_at b n os u (heading_at n s).result
 
-invoked_few : (s : Scopes) (w : Context) (at : ℕ) (d : DesignatedName) (os : List Operand) (n : Named) → Few (spec.invoked_named s w at d os n)
+invoked_few : (s : Scopes) (w : Context) (at : ℕ) (d : DesignatedName) (os : List Operand) (n : Named) → Few (spec.check_call_of s w at d os n)
 invoked_few s w at d os (name.Routine n) = procedure_called_few s w at d.name_at true n os d.uses
 invoked_few s w at d os (name.Entry n) = procedure_called_few s w at d.name_at false n os d.uses
 invoked_few s w at d os (name.Predeclared p) = performed_few s w at p os d.uses
 invoked_few s w at d os _ = tt
 
 call_few : (s : Scopes) (w : Context) (at : ℕ) (d : Designator) (es : Expressions) → Few (spec.call s w at d es)
-unfolding spec.call spec.invoked
-call_few s w at d es = few_then _ (spec.invoked s w at) (λ p. invoked_few s w at p.0 p.1 p.0.named)
+unfolding spec.call spec.check_call
+call_few s w at d es = few_then _ (spec.check_call s w at) (λ p. invoked_few s w at p.0 p.1 p.0.named)
 
 -- ---- the other statements
 
-tested_few : (at : ℕ) (o : Operand) (a b : Use) → Few (spec.tested at o (both_uses a b))
+tested_few : (at : ℕ) (o : Operand) (a b : Use) → Few (spec.check_test at o (both_uses a b))
 tested_few at o a b = search (few_if, few_both)
 
-counted_few : (at n : ℕ) (t : Target) (a b : Operand) (u : Use) → u.calls ≤ 8193 → Few (spec.counted at n t a b u)
+counted_few : (at n : ℕ) (t : Target) (a b : Operand) (u : Use) → u.calls ≤ 8193 → Few (spec.check_for at n t a b u)
 counted_few at n target.Kind a b u h = tt
 counted_few at n (target.Assignable t) a b u h = search (few_if, h)
 counted_few at n (target.Fixed (Some t)) a b u h = search few_if
@@ -134,7 +134,7 @@ statement_few s w (if_then at e t) = few_then _ (spec.test_then at) (λ p. teste
 statement_few s w (if_else at e t u) = few_then _ (spec.test_then at) (λ p. tested_few at p.0 p.0.uses p.1)
 statement_few s w (while_do at e t) = few_then _ (spec.test_then at) (λ p. tested_few at p.0 p.0.uses p.1)
 statement_few s w (repeat_until at ss e) = few_then _ (spec.test_last at) (λ p. tested_few at p.1 p.0 p.1.uses)
-statement_few s w (for_do at i a d b t) = few_then (both (both (both (begun s i) (expression s w false a)) (expression s w false b)) (spec.statement s w t)) (spec.count_over s w at i.at) (λ p. counted_few at i.at (spec.target_of s w p.0.0.0.named) p.0.0.1 p.0.1 _ (few_both (both_uses p.0.0.1.uses p.0.1.uses) p.1))
+statement_few s w (for_do at i a d b t) = few_then (both (both (both (meaning_of_name s i) (expression s w false a)) (expression s w false b)) (spec.statement s w t)) (spec.count_over s w at i.at) (λ p. counted_few at i.at (spec.target_of s w p.0.0.0.named) p.0.0.1 p.0.1 _ (few_both (both_uses p.0.0.1.uses p.0.1.uses) p.1))
 statement_few s w (init at is) = few_stays (spec.starts s w (Ok no_use) is) (spec.initial at w) (starts_few s w is (Ok no_use) none_few) (λ u h. initial_few at w.routine u h)
-statement_few s w (case_of at e as' b) = few_then (both (expression s w false e) (spec.arms s w (Ok ([], no_use)) as')) (chosen at) (λ p. few_unless _ _ (few_both p.0.uses p.1.1))
+statement_few s w (case_of at e as' b) = few_then (both (expression s w false e) (spec.arms s w (Ok ([], no_use)) as')) (check_case at) (λ p. few_unless _ _ (few_both p.0.uses p.1.1))
 statement_few s w (asserted at k e t) = few_then (both (spec.assertion s w e) (spec.statement s w t)) together (λ p. few_both p.0 p.1)

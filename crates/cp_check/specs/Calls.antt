@@ -110,8 +110,8 @@ abbrev pub call_use : Bool → Use → Use
 call_use is_local u = record { calls = 0; need = u.need; delays = is_local && u.delays }
 
 -- the call at a token of the routine n, whose name stands at another; what it takes
-unfoldable pub called : Scopes → Context → ℕ → ℕ → Bool → ℕ → List Operand → Use → Judged Use
-called s w at name_at is_local n os u =
+unfoldable pub check_routine_call : Scopes → Context → ℕ → ℕ → Bool → ℕ → List Operand → Use → Judged Use
+check_routine_call s w at name_at is_local n os u =
     unless (call_faults s w at name_at is_local n os) (both_uses (total_use u os) (call_use is_local (body_at n s)))
 
 -- one function call
@@ -123,7 +123,7 @@ with_result at t u = Ok (value at t (both_uses u one_call))
 
 abbrev pub function_of : Scopes → Context → ℕ → ℕ → Bool → ℕ → List Operand → Use → Option ValueType → Judged Operand
 function_of s w at name_at is_local n os u None = broken at C5
-function_of s w at name_at is_local n os u (Some t) = called s w at name_at is_local n os u >>= with_result at t
+function_of s w at name_at is_local n os u (Some t) = check_routine_call s w at name_at is_local n os u >>= with_result at t
 
 unfoldable pub function_value : Scopes → Context → ℕ → ℕ → Bool → ℕ → List Operand → Use → Judged Operand
 function_value s w at name_at is_local n os u = function_of s w at name_at is_local n os u (heading_at n s).result
@@ -153,22 +153,22 @@ abbrev pub alone : Operand → List Operand → Judged Operand
 alone o [] = Ok o
 alone o (p ∷ ps) = broken o.at C5
 
-abbrev pub placed : ℕ → ValueType → OperandUse → Use → Operand
-placed at t p u = record { at = at; value_type = t; place = p; uses = u }
+abbrev pub operand_at : ℕ → ValueType → OperandUse → Use → Operand
+operand_at at t p u = record { at = at; value_type = t; place = p; uses = u }
 
-abbrev pub value_named : Scopes → Context → ℕ → DesignatedName → List Operand → Named → Judged Operand
-value_named s w at d os (Constant b) = alone (value at (values_of b) d.uses) os
-value_named s w at d os (Variable t) = alone (placed at t (place_of s t) d.uses) os
-value_named s w at d os (Parameter' t) = alone (placed at t Fixed d.uses) os
-value_named s w at d os (Predeclared p) = operations.applied at p os (total_use d.uses os)
-value_named s w at d os (Routine n) = function_value s w at d.name_at true n os d.uses
-value_named s w at d os (Entry n) = function_value s w at d.name_at false n os d.uses
-value_named s w at d os Kind = broken at C5
-value_named s w at d os Nothing = broken at C5
+abbrev pub value_by_name : Scopes → Context → ℕ → DesignatedName → List Operand → Named → Judged Operand
+value_by_name s w at d os (Constant b) = alone (value at (values_of b) d.uses) os
+value_by_name s w at d os (Variable t) = alone (operand_at at t (place_of s t) d.uses) os
+value_by_name s w at d os (Parameter' t) = alone (operand_at at t Fixed d.uses) os
+value_by_name s w at d os (Predeclared p) = operations.standard_value at p os (total_use d.uses os)
+value_by_name s w at d os (Routine n) = function_value s w at d.name_at true n os d.uses
+value_by_name s w at d os (Entry n) = function_value s w at d.name_at false n os d.uses
+value_by_name s w at d os Kind = broken at C5
+value_by_name s w at d os Nothing = broken at C5
 
 -- a name with its arguments as a value
 unfoldable pub value_of : Scopes → Context → ℕ → DesignatedName × List Operand → Judged Operand
-value_of s w at p = value_named s w at p.0 p.1 p.0.named
+value_of s w at p = value_by_name s w at p.0 p.1 p.0.named
 
 abbrev pub is_own_of : Option ℕ → ℕ → Bool
 is_own_of (Some own) n = nat_eq own n
@@ -187,5 +187,5 @@ is_other_function s w _ = false
 abbrev pub variable_of : Scopes → Context → ℕ → DesignatedName → Judged Operand
 variable_of s w at d =
     if is_other_function s w d.named
-    then Ok (placed at types.Queue Function d.uses)
+    then Ok (operand_at at types.Queue Function d.uses)
     else value_of s w at (d, [])

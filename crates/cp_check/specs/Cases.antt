@@ -33,8 +33,8 @@ labels s [] = Ok []
 labels s (c ∷ cs) = both (one_label s c) (labels s cs) >>= before
 
 -- the labels of arms and what the arms take, together with those before
-abbrev pub joined : (List Label × Use) × (List Label × Use) → Judged (List Label × Use)
-joined p = Ok (p.0.0 ++ p.1.0, both_uses p.0.1 p.1.1)
+abbrev pub join_arms : (List Label × Use) × (List Label × Use) → Judged (List Label × Use)
+join_arms p = Ok (p.0.0 ++ p.1.0, both_uses p.0.1 p.1.1)
 
 -- ---- the rules of a `case` itself
 
@@ -66,5 +66,5 @@ twice_faults ms (l ∷ ls) = again_faults l ms ++ twice_faults (ms ++ l ∷ []) 
 abbrev pub case_faults : ℕ → Operand → List Label → List CheckFault
 case_faults at o ls = label_faults at o.value_type ls ++ twice_faults [] ls
 
-abbrev pub chosen : ℕ → Operand × (List Label × Use) → Judged Use
-chosen at p = unless (case_faults at p.0 p.1.0) (both_uses p.0.uses p.1.1)
+abbrev pub check_case : ℕ → Operand × (List Label × Use) → Judged Use
+check_case at p = unless (case_faults at p.0 p.1.0) (both_uses p.0.uses p.1.1)

@@ -27,20 +27,20 @@ with_sign Plus v = v
 with_sign Minus v = int_wrapping_neg w64 v
 
 -- a sign stands before integers alone
-abbrev pub signed : ℕ → Option Sign → ConstantNumber → Judged ConstantNumber
-signed at None n = Ok n
-signed at (Some s) n = if same_base n.base Integer then Ok (record { base = n.base; value = with_sign s n.value }) else broken at C5
+abbrev pub number_with_sign : ℕ → Option Sign → ConstantNumber → Judged ConstantNumber
+number_with_sign at None n = Ok n
+number_with_sign at (Some s) n = if same_base n.base Integer then Ok (record { base = n.base; value = with_sign s n.value }) else broken at C5
 
 abbrev pub to_constant : ℕ → Meaning → Judged ConstantNumber
 to_constant at (meaning.Constant b v) = Ok (record { base = b; value = v })
 to_constant at _ = broken at C3
 
-unfoldable pub named : Scopes → Identifier → Judged ConstantNumber
-named s i = visible s i.at i.name >>= to_constant i.at
+unfoldable pub constant_named : Scopes → Identifier → Judged ConstantNumber
+constant_named s i = visible s i.at i.name >>= to_constant i.at
 
 abbrev pub constant_kind : Scopes → ℕ → ConstantKind → Judged ConstantNumber
-constant_kind s at (kinds.Number sign v) = signed at sign (record { base = Integer; value = pos v })
-constant_kind s at (kinds.Name sign i) = named s i >>= signed at sign
+constant_kind s at (kinds.Number sign v) = number_with_sign at sign (record { base = Integer; value = pos v })
+constant_kind s at (kinds.Name sign i) = constant_named s i >>= number_with_sign at sign
 constant_kind s at (kinds.Character c) = Ok (record { base = Char; value = pos c })
 
 unfoldable pub constant : Scopes → Constant → Judged ConstantNumber

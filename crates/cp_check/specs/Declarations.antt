@@ -16,9 +16,9 @@ use Rattle.cp_check.specs.Constants.{constant}
 use Rattle.cp_check.specs.Types.{Step, then_step, nothing, Typed, typed}
 
 -- a name whose declaration has a fault stands for nothing
-abbrev pub as_declared : Judged Meaning → Option Meaning
-as_declared (Ok m) = Some m
-as_declared (Err fs) = None
+abbrev pub meaning_or_none : Judged Meaning → Option Meaning
+meaning_or_none (Ok m) = Some m
+meaning_or_none (Err fs) = None
 
 -- ---- names
 
@@ -44,11 +44,11 @@ add_all s ns m = settle (add_names s ns m)
 unfoldable pub add_one : Scopes → Identifier → Option Meaning → Scopes
 add_one s n m = settle (add s n.name m)
 
-abbrev pub declared_one : Identifier → Judged Meaning → Scopes → Step
-declared_one n m s = record { faults = faults m; scopes = add_one s n (as_declared m) }
+abbrev pub declare_one : Identifier → Judged Meaning → Scopes → Step
+declare_one n m s = record { faults = faults m; scopes = add_one s n (meaning_or_none m) }
 
-abbrev pub declared_all : List Identifier → Judged Meaning → Scopes → Step
-declared_all ns m s = record { faults = faults m; scopes = add_all s ns (as_declared m) }
+abbrev pub declare_all : List Identifier → Judged Meaning → Scopes → Step
+declare_all ns m s = record { faults = faults m; scopes = add_all s ns (meaning_or_none m) }
 
 -- ---- constants
 
@@ -56,7 +56,7 @@ abbrev pub to_constant : ConstantNumber → Judged Meaning
 to_constant n = Ok (meaning.Constant n.base n.value)
 
 unfoldable pub constant_step : Scopes → ConstantDefinition → Step
-constant_step s d = then_step (reserve_name s d.name) (λ after. declared_one d.name (constant after d.value >>= to_constant) after)
+constant_step s d = then_step (reserve_name s d.name) (λ after. declare_one d.name (constant after d.value >>= to_constant) after)
 
 unfoldable pub constant_steps : Scopes → List ConstantDefinition → Step
 constant_steps s [] = nothing s
@@ -67,11 +67,11 @@ constant_steps s (d ∷ ds) = then_step (constant_step s d) (λ after. constant_
 abbrev pub to_kind : ValueType → Judged Meaning
 to_kind t = Ok (meaning.Kind t)
 
-abbrev pub kind_declared : Identifier → Typed → Step
-kind_declared n t = declared_one n (t.type >>= to_kind) t.scopes
+abbrev pub declare_kind : Identifier → Typed → Step
+declare_kind n t = declare_one n (t.type >>= to_kind) t.scopes
 
 unfoldable pub type_step : Scopes → TypeDefinition → Step
-type_step s d = then_step (reserve_name s d.name) (λ after. kind_declared d.name (typed after Definition d.value))
+type_step s d = then_step (reserve_name s d.name) (λ after. declare_kind d.name (typed after Definition d.value))
 
 unfoldable pub type_steps : Scopes → List TypeDefinition → Step
 type_steps s [] = nothing s
@@ -82,11 +82,11 @@ type_steps s (d ∷ ds) = then_step (type_step s d) (λ after. type_steps after 
 abbrev pub to_variable : ValueType → Judged Meaning
 to_variable t = Ok (meaning.Variable t)
 
-abbrev pub variables_declared : List Identifier → Typed → Step
-variables_declared ns t = declared_all ns (t.type >>= to_variable) t.scopes
+abbrev pub declare_variables : List Identifier → Typed → Step
+declare_variables ns t = declare_all ns (t.type >>= to_variable) t.scopes
 
 unfoldable pub variable_step : Spot → Scopes → VariableGroup → Step
-variable_step p s g = then_step (reserve_names s g.names) (λ after. variables_declared g.names (typed after p g.variable_type))
+variable_step p s g = then_step (reserve_names s g.names) (λ after. declare_variables g.names (typed after p g.variable_type))
 
 unfoldable pub variable_steps : Spot → Scopes → List VariableGroup → Step
 variable_steps p s [] = nothing s

@@ -22,11 +22,11 @@ declarations s p = then_step (program_part_steps s p.parts) (λ a. routine_steps
 abbrev pub program_context : Context
 program_context = record { owner = None; routine = None; is_quiet = false }
 
-abbrev pub opened_step : Program → Step → Opened
-opened_step p d = record { uses = after_faults d.faults (statements d.scopes program_context (Ok no_use) p.body.statements); scopes = d.scopes }
+abbrev pub body_after : Program → Step → Opened
+body_after p d = record { uses = after_faults d.faults (statements d.scopes program_context (Ok no_use) p.body.statements); scopes = d.scopes }
 
-unfoldable pub opened : Scopes → Program → Opened
-opened s p = opened_step p (declarations s p)
+unfoldable pub declarations_and_body : Scopes → Program → Opened
+declarations_and_body s p = body_after p (declarations s p)
 
 -- the program's own process is the sixteenth
 abbrev pub is_too_large : Census → Use → Bool
@@ -41,4 +41,4 @@ abbrev pub with_limits : ℕ → Opened → List CheckFault
 with_limits at o = limit_faults at o.scopes o.uses
 
 unfoldable pub faults_of : Tree → List CheckFault
-faults_of t = with_limits t.program.period (opened start t.program)
+faults_of t = with_limits t.program.period (declarations_and_body start t.program)

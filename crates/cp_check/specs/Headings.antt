@@ -16,7 +16,7 @@ use Rattle.cp_check.specs.declared.types.Holding.{Holding}
 use Rattle.cp_check.specs.declared.types.Holding.TheVariants as holds
 use Rattle.cp_check.specs.Types.{Step, then_step, nothing, type_named, holding}
 use Rattle.cp_check.specs.Calls.{fault, unless}
-use Rattle.cp_check.specs.Declarations.{reserve_names, declared_all}
+use Rattle.cp_check.specs.Declarations.{reserve_names, declare_all}
 
 abbrev pub after_faults : {A : Type 0} → List CheckFault → Judged A → Judged A
 after_faults [] j = j
@@ -25,25 +25,25 @@ after_faults (f ∷ fs) j = Err ((f ∷ fs) ++ faults j)
 -- ---- parameters
 
 -- the type of a parameter of a routine
-abbrev pub admitted : ℕ → Holding → ValueType → Judged ValueType
-admitted at holds.Plain t = Ok t
-admitted at holds.Queue t = broken at C15
-admitted at holds.Queues t = broken at C11
-admitted at (holds.Component Process) t = broken at C15
-admitted at (holds.Component k) t = broken at C13
-admitted at (holds.Components k) t = broken at C13
+abbrev pub check_parameter_type : ℕ → Holding → ValueType → Judged ValueType
+check_parameter_type at holds.Plain t = Ok t
+check_parameter_type at holds.Queue t = broken at C15
+check_parameter_type at holds.Queues t = broken at C11
+check_parameter_type at (holds.Component Process) t = broken at C15
+check_parameter_type at (holds.Component k) t = broken at C13
+check_parameter_type at (holds.Components k) t = broken at C13
 
-abbrev pub admitted_in : Scopes → ℕ → ValueType → Judged ValueType
-admitted_in s at t = admitted at (holding s t) t
+abbrev pub check_parameter_type_in : Scopes → ℕ → ValueType → Judged ValueType
+check_parameter_type_in s at t = check_parameter_type at (holding s t) t
 
 unfoldable pub parameter_type : Scopes → Group → Judged ValueType
-parameter_type s g = type_named s g.type_name.at g.type_name.name >>= admitted_in s g.type_name.at
+parameter_type s g = type_named s g.type_name.at g.type_name.name >>= check_parameter_type_in s g.type_name.at
 
 abbrev pub to_parameter : Bool → ValueType → Judged Meaning
 to_parameter is_var t = Ok (if is_var then meaning.Reference t else meaning.Parameter t)
 
 unfoldable pub group_step : Bool → Scopes → Group → Step
-group_step is_var s g = then_step (reserve_names s g.names) (λ after. declared_all g.names (parameter_type after g >>= to_parameter is_var) after)
+group_step is_var s g = then_step (reserve_names s g.names) (λ after. declare_all g.names (parameter_type after g >>= to_parameter is_var) after)
 
 -- of a function
 unfoldable pub group_steps : Scopes → List Group → Step
@@ -60,21 +60,21 @@ parameter_steps s (g ∷ gs) = then_step (parameter_step s g) (λ after. paramet
 
 -- ---- results
 
-abbrev pub returned : ℕ → Holding → ValueType → Judged ValueType
-returned at holds.Plain t = Ok t
-returned at holds.Queue t = broken at C11
-returned at holds.Queues t = broken at C11
-returned at (holds.Component k) t = broken at C13
-returned at (holds.Components k) t = broken at C13
+abbrev pub check_result_type : ℕ → Holding → ValueType → Judged ValueType
+check_result_type at holds.Plain t = Ok t
+check_result_type at holds.Queue t = broken at C11
+check_result_type at holds.Queues t = broken at C11
+check_result_type at (holds.Component k) t = broken at C13
+check_result_type at (holds.Components k) t = broken at C13
 
-abbrev pub returned_in : Scopes → ℕ → ValueType → Judged ValueType
-returned_in s at t = returned at (holding s t) t
+abbrev pub check_result_type_in : Scopes → ℕ → ValueType → Judged ValueType
+check_result_type_in s at t = check_result_type at (holding s t) t
 
 abbrev pub some_type : ValueType → Judged (Option ValueType)
 some_type t = Ok (Some t)
 
 unfoldable pub result_type : Scopes → Identifier → Judged (Option ValueType)
-result_type s i = type_named s i.at i.name >>= returned_in s i.at >>= some_type
+result_type s i = type_named s i.at i.name >>= check_result_type_in s i.at >>= some_type
 
 -- ---- headings
 
@@ -89,10 +89,10 @@ behind d f = record { result = after_faults d.faults (f d.scopes); scopes = d.sc
 abbrev pub no_result : Scopes → Judged (Option ValueType)
 no_result s = Ok None
 
-unfoldable pub written : Scopes → RoutineKind → Headed
-written s (procedure gs) = behind (parameter_steps s gs) no_result
-written s (function gs i) = behind (group_steps s gs) (λ after. result_type after i)
-written s invariants = behind (parameter_steps s []) no_result
+unfoldable pub parameters_and_result : Scopes → RoutineKind → Headed
+parameters_and_result s (procedure gs) = behind (parameter_steps s gs) no_result
+parameters_and_result s (function gs i) = behind (group_steps s gs) (λ after. result_type after i)
+parameters_and_result s invariants = behind (parameter_steps s []) no_result
 
 abbrev pub result_faults : ℕ → Option ValueType → List CheckFault
 result_faults at None = []
@@ -110,23 +110,23 @@ entry_faults at owner is_entry = if is_entry && not (may_enter owner) then fault
 abbrev pub heading_faults : Option SystemKind → Routine → Option ValueType → List CheckFault
 heading_faults owner r t = result_faults r.at t ++ entry_faults (r.name.at - 1) owner r.is_entry
 
-abbrev pub ruled : Option SystemKind → Routine → Option ValueType → Judged (Option ValueType)
-ruled owner r t = unless (heading_faults owner r t) t
+abbrev pub check_heading : Option SystemKind → Routine → Option ValueType → Judged (Option ValueType)
+check_heading owner r t = unless (heading_faults owner r t) t
 
 -- the heading of a routine in a system type or in the program, after the faults of its name
-abbrev pub ruled_behind : Option SystemKind → Routine → List CheckFault → Headed → Headed
-ruled_behind owner r fs h = record { result = after_faults fs h.result >>= ruled owner r; scopes = h.scopes }
+abbrev pub check_heading_behind : Option SystemKind → Routine → List CheckFault → Headed → Headed
+check_heading_behind owner r fs h = record { result = after_faults fs h.result >>= check_heading owner r; scopes = h.scopes }
 
 unfoldable pub heading : Option SystemKind → Routine → Step → Headed
-heading owner r d = ruled_behind owner r d.faults (written (enter false d.scopes) r.kind)
+heading owner r d = check_heading_behind owner r d.faults (parameters_and_result (enter false d.scopes) r.kind)
 
 abbrev pub as_heading : Routine → Option ValueType → Scopes → Heading
 as_heading r t s = record { is_entry = r.is_entry; parameters = parameters_in s.inner.names; result = t }
 
 -- from its heading on a routine is visible
-unfoldable pub announced : Routine → Option ValueType → Scopes → Scopes
-announced r t s = add_around (keep s r.name.at (heading_shape (as_heading r t s) r.body.at)) r.name.name (Some (meaning.Routine r.name.at))
+unfoldable pub announce : Routine → Option ValueType → Scopes → Scopes
+announce r t s = add_around (keep s r.name.at (heading_shape (as_heading r t s) r.body.at)) r.name.name (Some (meaning.Routine r.name.at))
 
-abbrev pub announced_of : Routine → Judged (Option ValueType) → Scopes → Scopes
-announced_of r (Ok t) s = announced r t s
-announced_of r (Err fs) s = add_around s r.name.name None
+abbrev pub announce_judged : Routine → Judged (Option ValueType) → Scopes → Scopes
+announce_judged r (Ok t) s = announce r t s
+announce_judged r (Err fs) s = add_around s r.name.name None

@@ -18,31 +18,31 @@ use Rattle.cp_check.specs.declared.operand.Named.TheVariants.{Nothing, Constant,
 use Rattle.cp_check.specs.declared.operand.DesignatedName.{DesignatedName}
 
 -- a name whose declaration has a fault breaks no rule
-abbrev pub found : ℕ → Option (Option Meaning) → Judged Meaning
-found at None = broken at C1
-found at (Some None) = silent
-found at (Some (Some m)) = Ok m
+abbrev pub check_visible : ℕ → Option (Option Meaning) → Judged Meaning
+check_visible at None = broken at C1
+check_visible at (Some None) = silent
+check_visible at (Some (Some m)) = Ok m
 
 unfoldable pub visible : Scopes → ℕ → List ℕ → Judged Meaning
-visible s at n = found at (look n s)
+visible s at n = check_visible at (look n s)
 
-abbrev pub named_of : Meaning → Named
-named_of (meaning.Constant b v) = Constant b
-named_of (meaning.Kind t) = Kind
-named_of (meaning.Variable t) = Variable t
-named_of (meaning.Parameter t) = Parameter t
-named_of (meaning.Reference t) = Variable t
-named_of (meaning.Routine n) = Routine n
-named_of (meaning.Predeclared p) = Predeclared p
+abbrev pub without_selectors : Meaning → Named
+without_selectors (meaning.Constant b v) = Constant b
+without_selectors (meaning.Kind t) = Kind
+without_selectors (meaning.Variable t) = Variable t
+without_selectors (meaning.Parameter t) = Parameter t
+without_selectors (meaning.Reference t) = Variable t
+without_selectors (meaning.Routine n) = Routine n
+without_selectors (meaning.Predeclared p) = Predeclared p
 
-abbrev pub designated : ℕ → Use → Named → DesignatedName
-designated at u n = record { named = n; name_at = at; uses = u }
+abbrev pub designation : ℕ → Use → Named → DesignatedName
+designation at u n = record { named = n; name_at = at; uses = u }
 
-abbrev pub unselected : ℕ → Meaning → Judged DesignatedName
-unselected at m = Ok (designated at no_use (named_of m))
+abbrev pub designation_of : ℕ → Meaning → Judged DesignatedName
+designation_of at m = Ok (designation at no_use (without_selectors m))
 
-unfoldable pub begun : Scopes → Identifier → Judged DesignatedName
-begun s i = visible s i.at i.name >>= unselected i.at
+unfoldable pub meaning_of_name : Scopes → Identifier → Judged DesignatedName
+meaning_of_name s i = visible s i.at i.name >>= designation_of i.at
 
 abbrev pub type_of : Named → Option ValueType
 type_of (Variable t) = Some t
@@ -58,14 +58,14 @@ part_of _ t = Nothing
 -- ---- fields and routines
 
 abbrev pub with_field : ℕ → DesignatedName → Option (Option Meaning) → Judged DesignatedName
-with_field at d (Some (Some (meaning.Variable t))) = Ok (designated at d.uses (part_of d.named t))
+with_field at d (Some (Some (meaning.Variable t))) = Ok (designation at d.uses (part_of d.named t))
 with_field at d _ = broken at C1
 
 abbrev pub field : Scopes → Identifier → DesignatedName → ℕ → Judged DesignatedName
 field s i d n = with_field i.at d (field_at n i.name s)
 
 abbrev pub with_entry : ℕ → DesignatedName → Option (Option Meaning) → Judged DesignatedName
-with_entry at d (Some (Some (meaning.Routine r))) = Ok (designated at d.uses (Entry r))
+with_entry at d (Some (Some (meaning.Routine r))) = Ok (designation at d.uses (Entry r))
 with_entry at d _ = broken at C8
 
 abbrev pub entry : Scopes → Identifier → DesignatedName → ℕ → Judged DesignatedName
@@ -73,15 +73,15 @@ entry s i d n = with_entry i.at d (member_at n i.name s)
 
 -- of parts that do not agree
 abbrev pub nothing : ℕ → Use → DesignatedName
-nothing at u = designated at u Nothing
+nothing at u = designation at u Nothing
 
-abbrev pub selected_of : Scopes → Identifier → DesignatedName → Option ValueType → Judged DesignatedName
-selected_of s i d (Some (Record n)) = field s i d n
-selected_of s i d (Some (Component k n)) = entry s i d n
-selected_of s i d _ = Ok (nothing i.at d.uses)
+abbrev pub member_by_type : Scopes → Identifier → DesignatedName → Option ValueType → Judged DesignatedName
+member_by_type s i d (Some (Record n)) = field s i d n
+member_by_type s i d (Some (Component k n)) = entry s i d n
+member_by_type s i d _ = Ok (nothing i.at d.uses)
 
-abbrev pub selected : Scopes → Identifier → DesignatedName → Judged DesignatedName
-selected s i d = selected_of s i d (type_of d.named)
+abbrev pub member_of : Scopes → Identifier → DesignatedName → Judged DesignatedName
+member_of s i d = member_by_type s i d (type_of d.named)
 
 -- ---- elements
 
@@ -92,17 +92,17 @@ element_of d o None = Nothing
 abbrev pub element : Scopes → DesignatedName → Operand → ℕ → Named
 element s d o n = element_of d o (array_at n s)
 
-abbrev pub indexed_of : Scopes → DesignatedName → Operand → Option ValueType → Named
-indexed_of s d o (Some (Array n)) = element s d o n
-indexed_of s d o _ = Nothing
+abbrev pub element_name_of : Scopes → DesignatedName → Operand → Option ValueType → Named
+element_name_of s d o (Some (Array n)) = element s d o n
+element_name_of s d o _ = Nothing
 
-abbrev pub indexed : Scopes → DesignatedName → Operand → DesignatedName
-indexed s d o = designated d.name_at (both_uses d.uses o.uses) (indexed_of s d o (type_of d.named))
+abbrev pub element_name : Scopes → DesignatedName → Operand → DesignatedName
+element_name s d o = designation d.name_at (both_uses d.uses o.uses) (element_name_of s d o (type_of d.named))
 
-abbrev pub known_named : ℕ → DesignatedName → Named → Judged DesignatedName
-known_named at d Nothing = broken at C5
-known_named at d _ = Ok d
+abbrev pub check_selectors_of : ℕ → DesignatedName → Named → Judged DesignatedName
+check_selectors_of at d Nothing = broken at C5
+check_selectors_of at d _ = Ok d
 
 -- the selectors fit what they select from
-abbrev pub known : ℕ → DesignatedName → Judged DesignatedName
-known at d = known_named at d d.named
+abbrev pub check_selectors : ℕ → DesignatedName → Judged DesignatedName
+check_selectors at d = check_selectors_of at d d.named

@@ -47,24 +47,24 @@ truth_or_set at l r =
     then Some (value at (values_of Boolean) (both_uses l.uses r.uses))
     else set at l r
 
-abbrev pub added : ℕ → Addition → Option Operand → Operand → Option Operand
-added at a None r = None
-added at Plus (Some l) r = number at l r
-added at Minus (Some l) r = option_or (number at l r) (set at l r)
-added at Or (Some l) r = truth_or_set at l r
+abbrev pub sum_of : ℕ → Addition → Option Operand → Operand → Option Operand
+sum_of at a None r = None
+sum_of at Plus (Some l) r = number at l r
+sum_of at Minus (Some l) r = option_or (number at l r) (set at l r)
+sum_of at Or (Some l) r = truth_or_set at l r
 
-abbrev pub multiplied : ℕ → Multiplication → Option Operand → Operand → Option Operand
-multiplied at m None r = None
-multiplied at And (Some l) r = truth_or_set at l r
-multiplied at _ (Some l) r = number at l r
+abbrev pub product_of : ℕ → Multiplication → Option Operand → Operand → Option Operand
+product_of at m None r = None
+product_of at And (Some l) r = truth_or_set at l r
+product_of at _ (Some l) r = number at l r
 
-abbrev pub signed : ℕ → Option Sign → Operand → Option Operand
-signed at None o = Some o
-signed at (Some s) o = if is_of Integer o.value_type then Some (value at (values_of Integer) o.uses) else None
+abbrev pub with_sign : ℕ → Option Sign → Operand → Option Operand
+with_sign at None o = Some o
+with_sign at (Some s) o = if is_of Integer o.value_type then Some (value at (values_of Integer) o.uses) else None
 
-abbrev pub agreed : ℕ → Option Operand → Judged Operand
-agreed at (Some o) = Ok o
-agreed at None = broken at C5
+abbrev pub check_agreement : ℕ → Option Operand → Judged Operand
+check_agreement at (Some o) = Ok o
+check_agreement at None = broken at C5
 
 -- ---- relations and negations
 
@@ -88,33 +88,33 @@ relates Equal l r = are_equal l r
 relates NotEqual l r = are_equal l r
 relates _ l r = are_ordered l r
 
-abbrev pub related : ℕ → Relation → Operand × Operand → Judged Operand
-related at r p =
+abbrev pub relation_value : ℕ → Relation → Operand × Operand → Judged Operand
+relation_value at r p =
     if relates r p.0.value_type p.1.value_type
     then Ok (value at (values_of Boolean) (both_uses p.0.uses p.1.uses))
     else broken at C5
 
-abbrev pub negated : ℕ → Operand → Judged Operand
-negated at o = if is_of Boolean o.value_type then Ok (value at (values_of Boolean) o.uses) else broken at C5
+abbrev pub negation_of : ℕ → Operand → Judged Operand
+negation_of at o = if is_of Boolean o.value_type then Ok (value at (values_of Boolean) o.uses) else broken at C5
 
 -- ---- predeclared functions
 
-abbrev pub stepped : ℕ → ValueType → Use → Judged Operand
-stepped at (Ordinal r) u = Ok (value at (values_of r.base) u)
-stepped at _ u = broken at C5
+abbrev pub neighbour_value : ℕ → ValueType → Use → Judged Operand
+neighbour_value at (Ordinal r) u = Ok (value at (values_of r.base) u)
+neighbour_value at _ u = broken at C5
 
-abbrev pub numbered : ℕ → ValueType → Use → Judged Operand
-numbered at (Ordinal r) u = Ok (value at (values_of Integer) u)
-numbered at _ u = broken at C5
+abbrev pub ordinal_number : ℕ → ValueType → Use → Judged Operand
+ordinal_number at (Ordinal r) u = Ok (value at (values_of Integer) u)
+ordinal_number at _ u = broken at C5
 
-abbrev pub applied_to : ℕ → Predeclared → Operand → Use → Judged Operand
-applied_to at Succ o u = stepped at o.value_type u
-applied_to at Pred o u = stepped at o.value_type u
-applied_to at Ord o u = numbered at o.value_type u
-applied_to at Chr o u = if is_of Integer o.value_type then Ok (value at (values_of Char) u) else broken at C5
-applied_to at Abs o u = if is_of Integer o.value_type then Ok (value at (values_of Integer) u) else broken at C5
-applied_to at Empty o u = if is_queue o then Ok (value at (values_of Boolean) u) else broken at C5
-applied_to at _ o u = broken at C5
+abbrev pub standard_value_of : ℕ → Predeclared → Operand → Use → Judged Operand
+standard_value_of at Succ o u = neighbour_value at o.value_type u
+standard_value_of at Pred o u = neighbour_value at o.value_type u
+standard_value_of at Ord o u = ordinal_number at o.value_type u
+standard_value_of at Chr o u = if is_of Integer o.value_type then Ok (value at (values_of Char) u) else broken at C5
+standard_value_of at Abs o u = if is_of Integer o.value_type then Ok (value at (values_of Integer) u) else broken at C5
+standard_value_of at Empty o u = if is_queue o then Ok (value at (values_of Boolean) u) else broken at C5
+standard_value_of at _ o u = broken at C5
 
 abbrev pub is_function : Predeclared → Bool
 is_function Delay = false
@@ -122,9 +122,9 @@ is_function Continue = false
 is_function Display = false
 is_function _ = true
 
-abbrev pub applied_all : ℕ → Predeclared → List Operand → Use → Judged Operand
-applied_all at p (o ∷ []) u = applied_to at p o u
-applied_all at p _ u = broken at C7
+abbrev pub standard_value_of_all : ℕ → Predeclared → List Operand → Use → Judged Operand
+standard_value_of_all at p (o ∷ []) u = standard_value_of at p o u
+standard_value_of_all at p _ u = broken at C7
 
-abbrev pub applied : ℕ → Predeclared → List Operand → Use → Judged Operand
-applied at p os u = if is_function p then applied_all at p os u else broken at C5
+abbrev pub standard_value : ℕ → Predeclared → List Operand → Use → Judged Operand
+standard_value at p os u = if is_function p then standard_value_of_all at p os u else broken at C5

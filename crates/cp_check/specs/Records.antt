@@ -10,7 +10,7 @@ use Rattle.cp_scope.specs.Judged.{Judged}
 
 -- ---- names of fields
 
--- What names leave that are being declared: the faults in them, and the fields with them.
+-- What names leave that are being sound_fields: the faults in them, and the fields with them.
 pub record Reserved : Type 0 where
   pub faults : List CheckFault
   pub fields : Scope
@@ -24,7 +24,7 @@ reserve_field f n =
     then record { faults = check_fault.Rule n.at C2 ∷ []; fields = f }
     else record { faults = []; fields = with_pending f n.name }
 
--- the names are being declared
+-- the names are being sound_fields
 unfoldable pub reserve_fields : Scope → List Identifier → Reserved
 reserve_fields f [] = record { faults = []; fields = f }
 reserve_fields f (n ∷ ns) = then_reserve (reserve_field f n) (λ after. reserve_fields after ns)
@@ -33,7 +33,7 @@ unfoldable pub with_fields : Scope → List Identifier → Option Meaning → Sc
 with_fields f [] m = f
 with_fields f (n ∷ ns) m = with_fields (with_name f n.name m) ns m
 
--- the names are declared
+-- the names are sound_fields
 unfoldable pub add_fields : Scope → List Identifier → Option Meaning → Scope
 add_fields f ns m = without_pending (with_fields f ns m)
 
@@ -45,17 +45,17 @@ pub record Fields : Type 0 where
   pub fields : Scope
   pub scopes : Scopes
 
-abbrev pub declared : Scope → Scopes → Fields
-declared f s = record { faults = []; fields = f; scopes = s }
+abbrev pub sound_fields : Scope → Scopes → Fields
+sound_fields f s = record { faults = []; fields = f; scopes = s }
 
 -- the second fields begin where the first end
 abbrev pub then_fields : Fields → (Scope → Scopes → Fields) → Fields
 then_fields a f = record { faults = a.faults ++ (f a.fields a.scopes).faults; fields = (f a.fields a.scopes).fields; scopes = (f a.fields a.scopes).scopes }
 
-abbrev pub sound_of : List CheckFault → Scope → Judged Scope
-sound_of [] f = Ok f
-sound_of (e ∷ es) f = Err (e ∷ es)
+abbrev pub check_fields_of : List CheckFault → Scope → Judged Scope
+check_fields_of [] f = Ok f
+check_fields_of (e ∷ es) f = Err (e ∷ es)
 
 -- the fields, where none has a fault
-abbrev pub sound : Fields → Judged Scope
-sound f = sound_of f.faults f.fields
+abbrev pub check_fields : Fields → Judged Scope
+check_fields f = check_fields_of f.faults f.fields

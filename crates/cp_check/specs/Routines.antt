@@ -12,7 +12,7 @@ use Rattle.cp_check.specs.declared.types.Spot.TheVariants.{Other}
 use Rattle.cp_check.specs.Types.{Step, then_step, nothing}
 use Rattle.cp_check.specs.Statements.{statements}
 use Rattle.cp_check.specs.Declarations.{reserve_name, part_steps}
-use Rattle.cp_check.specs.Headings.{after_faults, Headed, heading, announced_of}
+use Rattle.cp_check.specs.Headings.{after_faults, Headed, heading, announce_judged}
 
 -- what is judged in a scope, and what is visible there
 pub record Opened : Type 0 where
@@ -35,29 +35,29 @@ abbrev pub routine_context : Option SystemKind → Routine → Context
 routine_context owner r = record { owner = owner; routine = Some r.name.at; is_quiet = false }
 
 -- the local declarations and the body
-abbrev pub opened_step : Option SystemKind → Routine → Step → Opened
-opened_step owner r d = record { uses = after_faults d.faults (statements d.scopes (routine_context owner r) (Ok no_use) r.body.statements); scopes = d.scopes }
+abbrev pub body_after : Option SystemKind → Routine → Step → Opened
+body_after owner r d = record { uses = after_faults d.faults (statements d.scopes (routine_context owner r) (Ok no_use) r.body.statements); scopes = d.scopes }
 
-unfoldable pub opened : Option SystemKind → Routine → Scopes → Opened
-opened owner r s = opened_step owner r (part_steps Other s r.parts)
+unfoldable pub enter_routine : Option SystemKind → Routine → Scopes → Opened
+enter_routine owner r s = body_after owner r (part_steps Other s r.parts)
 
 -- out of a routine
-unfoldable pub closed : Routine → Option ValueType → Use → Scopes → Scopes
-closed r t u s = settle (keep (leave s) r.body.at (body_shape (routine_use (census s.inner.names s.shapes).cells t u)))
+unfoldable pub close_routine : Routine → Option ValueType → Use → Scopes → Scopes
+close_routine r t u s = settle (keep (leave s) r.body.at (body_shape (routine_use (census s.inner.names s.shapes).cells t u)))
 
-abbrev pub closed_of : Routine → Judged (Option ValueType) → Judged Use → Scopes → Scopes
-closed_of r (Ok t) (Ok u) s = closed r t u s
-closed_of r (Ok t) (Err fs) s = settle (withdraw (leave s) r.name.name)
-closed_of r (Err fs) j s = settle (leave s)
+abbrev pub close_routine_of : Routine → Judged (Option ValueType) → Judged Use → Scopes → Scopes
+close_routine_of r (Ok t) (Ok u) s = close_routine r t u s
+close_routine_of r (Ok t) (Err fs) s = settle (withdraw (leave s) r.name.name)
+close_routine_of r (Err fs) j s = settle (leave s)
 
 abbrev pub body_step : Routine → Judged (Option ValueType) → Opened → Step
-body_step r t o = record { faults = faults t ++ faults o.uses; scopes = closed_of r t o.uses o.scopes }
+body_step r t o = record { faults = faults t ++ faults o.uses; scopes = close_routine_of r t o.uses o.scopes }
 
-abbrev pub headed_step : Option SystemKind → Routine → Headed → Step
-headed_step owner r h = body_step r h.result (opened owner r (announced_of r h.result h.scopes))
+abbrev pub routine_after_heading : Option SystemKind → Routine → Headed → Step
+routine_after_heading owner r h = body_step r h.result (enter_routine owner r (announce_judged r h.result h.scopes))
 
 unfoldable pub routine_step : Option SystemKind → Scopes → Routine → Step
-routine_step owner s r = headed_step owner r (heading owner r (reserve_name s r.name))
+routine_step owner s r = routine_after_heading owner r (heading owner r (reserve_name s r.name))
 
 -- the routines of a system type or of the program
 unfoldable pub routine_steps : Option SystemKind → Scopes → List Routine → Step

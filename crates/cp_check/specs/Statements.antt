@@ -27,9 +27,9 @@ use Rattle.cp_check.specs.declared.statement.Target.TheVariants as target
 use Rattle.cp_tree.specs.View.{expression_at}
 use Rattle.cp_check.specs.Operands.{quiet, is_queue, is_assignable}
 use Rattle.cp_check.specs.Operations.{is_function}
-use Rattle.cp_check.specs.Names.{begun}
-use Rattle.cp_check.specs.Calls.{called, fit_faults, fault, unless, is_own, place_of, total_use}
-use Rattle.cp_check.specs.Cases.{labels, joined, chosen}
+use Rattle.cp_check.specs.Names.{meaning_of_name}
+use Rattle.cp_check.specs.Calls.{check_routine_call, fit_faults, fault, unless, is_own, place_of, total_use}
+use Rattle.cp_check.specs.Cases.{labels, join_arms, check_case}
 use Rattle.cp_check.specs.Expressions.{expression, designator, arguments}
 
 -- ---- targets
@@ -52,26 +52,26 @@ target_of s w (Predeclared' p) = if is_function p then target.Fixed None else ta
 target_of s w Kind = target.Kind
 target_of s w Nothing = target.Kind
 
-abbrev pub aimed : ℕ → Target → Judged Target
-aimed at target.Kind = broken at C5
-aimed at t = Ok t
+abbrev pub check_target : ℕ → Target → Judged Target
+check_target at target.Kind = broken at C5
+check_target at t = Ok t
 
 -- ---- assignments
 
-abbrev pub assigned : ℕ → Target → Operand → Use → Judged Use
-assigned at (target.Assignable t) o u = if agree t o.value_type then Ok u else broken at C5
-assigned at (target.Fixed (Some t)) o u = if agree t o.value_type then broken at C6 else broken at C5
-assigned at (target.Fixed None) o u = broken at C6
-assigned at target.Kind o u = broken at C5
+abbrev pub check_assignment : ℕ → Target → Operand → Use → Judged Use
+check_assignment at (target.Assignable t) o u = if agree t o.value_type then Ok u else broken at C5
+check_assignment at (target.Fixed (Some t)) o u = if agree t o.value_type then broken at C6 else broken at C5
+check_assignment at (target.Fixed None) o u = broken at C6
+check_assignment at target.Kind o u = broken at C5
 
 abbrev pub name_at : Designator → ℕ
 name_at (name_with n ss) = n.at
 
 abbrev pub with_target : Scopes → Context → ℕ → DesignatedName → Judged (Target × Use)
-with_target s w at d = aimed at (target_of s w d.named) >>= (λ t. Ok (t, d.uses))
+with_target s w at d = check_target at (target_of s w d.named) >>= (λ t. Ok (t, d.uses))
 
 abbrev pub finish_assignment : ℕ → (Target × Use) × Operand → Judged Use
-finish_assignment at p = assigned at p.0.0 p.1 (both_uses p.0.1 p.1.uses)
+finish_assignment at p = check_assignment at p.0.0 p.1 (both_uses p.0.1 p.1.uses)
 
 unfoldable pub assignment : Scopes → Context → ℕ → Designator → Expression → Judged Use
 assignment s w at d e = both (designator s w d >>= with_target s w (name_at d)) (expression s w false e) >>= finish_assignment at
@@ -104,27 +104,27 @@ display_faults at _ = fault at C7
 abbrev pub one_delay : Use
 one_delay = record { calls = 0; need = 0; delays = true }
 
-abbrev pub performed : Scopes → Context → ℕ → Predeclared → List Operand → Use → Judged Use
-performed s w at predeclared.Display os u = unless (display_faults at os) u
-performed s w at predeclared.Delay os u = unless (waiting_faults s w at predeclared.Delay os) (both_uses u one_delay)
-performed s w at predeclared.Continue os u = unless (waiting_faults s w at predeclared.Continue os) u
-performed s w at _ os u = broken at C5
+abbrev pub check_standard_call : Scopes → Context → ℕ → Predeclared → List Operand → Use → Judged Use
+check_standard_call s w at predeclared.Display os u = unless (display_faults at os) u
+check_standard_call s w at predeclared.Delay os u = unless (waiting_faults s w at predeclared.Delay os) (both_uses u one_delay)
+check_standard_call s w at predeclared.Continue os u = unless (waiting_faults s w at predeclared.Continue os) u
+check_standard_call s w at _ os u = broken at C5
 
 abbrev pub procedure_of : Scopes → Context → ℕ → ℕ → Bool → ℕ → List Operand → Use → Option ValueType → Judged Use
 procedure_of s w at name_at is_local n os u (Some t) = broken at C5
-procedure_of s w at name_at is_local n os u None = called s w at name_at is_local n os u
+procedure_of s w at name_at is_local n os u None = check_routine_call s w at name_at is_local n os u
 
-unfoldable pub procedure_called : Scopes → Context → ℕ → ℕ → Bool → ℕ → List Operand → Use → Judged Use
-procedure_called s w at name_at is_local n os u = procedure_of s w at name_at is_local n os u (heading_at n s).result
+unfoldable pub check_procedure_call : Scopes → Context → ℕ → ℕ → Bool → ℕ → List Operand → Use → Judged Use
+check_procedure_call s w at name_at is_local n os u = procedure_of s w at name_at is_local n os u (heading_at n s).result
 
-abbrev pub invoked_named : Scopes → Context → ℕ → DesignatedName → List Operand → Named → Judged Use
-invoked_named s w at d os (Predeclared' p) = performed s w at p os (total_use d.uses os)
-invoked_named s w at d os (Routine n) = procedure_called s w at d.name_at true n os d.uses
-invoked_named s w at d os (Entry n) = procedure_called s w at d.name_at false n os d.uses
-invoked_named s w at d os _ = broken at C5
+abbrev pub check_call_of : Scopes → Context → ℕ → DesignatedName → List Operand → Named → Judged Use
+check_call_of s w at d os (Predeclared' p) = check_standard_call s w at p os (total_use d.uses os)
+check_call_of s w at d os (Routine n) = check_procedure_call s w at d.name_at true n os d.uses
+check_call_of s w at d os (Entry n) = check_procedure_call s w at d.name_at false n os d.uses
+check_call_of s w at d os _ = broken at C5
 
-unfoldable pub invoked : Scopes → Context → ℕ → DesignatedName × List Operand → Judged Use
-invoked s w at p = invoked_named s w at p.0 p.1 p.0.named
+unfoldable pub check_call : Scopes → Context → ℕ → DesignatedName × List Operand → Judged Use
+check_call s w at p = check_call_of s w at p.0 p.1 p.0.named
 
 abbrev pub as_many : List parameter.Parameter → ℕ → Option ValueType → List parameter.Parameter
 as_many ps k (Some t) = []
@@ -133,7 +133,7 @@ as_many ps k None = if nat_eq (length ps) k then ps else []
 abbrev pub procedure_parameters : Scopes → ℕ → ℕ → List parameter.Parameter
 procedure_parameters s n k = as_many (heading_at n s).parameters k (heading_at n s).result
 
--- the parameters of what is called, where as many arguments stand
+-- the parameters of what is check_routine_call, where as many arguments stand
 abbrev pub parameters_of : Scopes → Named → ℕ → List parameter.Parameter
 parameters_of s (Routine n) k = procedure_parameters s n k
 parameters_of s (Entry n) k = procedure_parameters s n k
@@ -143,35 +143,35 @@ abbrev pub number_of : Expressions → ℕ
 number_of no_expressions = 0
 number_of (more_expressions e es) = 1 + number_of es
 
-abbrev pub parameters_named : Scopes → ℕ → Judged DesignatedName → List parameter.Parameter
-parameters_named s k (Ok d) = parameters_of s d.named k
-parameters_named s k (Err fs) = []
+abbrev pub parameters_of_judged : Scopes → ℕ → Judged DesignatedName → List parameter.Parameter
+parameters_of_judged s k (Ok d) = parameters_of s d.named k
+parameters_of_judged s k (Err fs) = []
 
 unfoldable pub call : Scopes → Context → ℕ → Designator → Expressions → Judged Use
-call s w at d es = both (designator s w d) (arguments s w (parameters_named s (number_of es) (designator s w d)) 0 es) >>= invoked s w at
+call s w at d es = both (designator s w d) (arguments s w (parameters_of_judged s (number_of es) (designator s w d)) 0 es) >>= check_call s w at
 
 -- ---- tests and bounds
 
-abbrev pub tested : ℕ → Operand → Use → Judged Use
-tested at o u = if is_of Boolean o.value_type then Ok u else broken at C5
+abbrev pub check_test : ℕ → Operand → Use → Judged Use
+check_test at o u = if is_of Boolean o.value_type then Ok u else broken at C5
 
 abbrev pub counts : ValueType → Operand → Operand → Bool
 counts t a b = is_ordinal t && agree t a.value_type && agree t b.value_type
 
-abbrev pub counted : ℕ → ℕ → Target → Operand → Operand → Use → Judged Use
-counted at n target.Kind a b u = broken at C5
-counted at n (target.Assignable t) a b u = if counts t a b then Ok u else broken at C5
-counted at n (target.Fixed (Some t)) a b u = if counts t a b then broken n C6 else broken at C5
-counted at n (target.Fixed None) a b u = if counts a.value_type a b then broken n C6 else broken at C5
+abbrev pub check_for : ℕ → ℕ → Target → Operand → Operand → Use → Judged Use
+check_for at n target.Kind a b u = broken at C5
+check_for at n (target.Assignable t) a b u = if counts t a b then Ok u else broken at C5
+check_for at n (target.Fixed (Some t)) a b u = if counts t a b then broken n C6 else broken at C5
+check_for at n (target.Fixed None) a b u = if counts a.value_type a b then broken n C6 else broken at C5
 
 abbrev pub test_then : ℕ → Operand × Use → Judged Use
-test_then at p = tested at p.0 (both_uses p.0.uses p.1)
+test_then at p = check_test at p.0 (both_uses p.0.uses p.1)
 
 abbrev pub test_last : ℕ → Use × Operand → Judged Use
-test_last at p = tested at p.1 (both_uses p.0 p.1.uses)
+test_last at p = check_test at p.1 (both_uses p.0 p.1.uses)
 
 abbrev pub count_over : Scopes → Context → ℕ → ℕ → ((DesignatedName × Operand) × Operand) × Use → Judged Use
-count_over s w at n p = counted at n (target_of s w p.0.0.0.named) p.0.0.1 p.0.1 (both_uses (both_uses p.0.0.1.uses p.0.1.uses) p.1)
+count_over s w at n p = check_for at n (target_of s w p.0.0.0.named) p.0.0.1 p.0.1 (both_uses (both_uses p.0.0.1.uses p.0.1.uses) p.1)
 
 abbrev pub together : Use × Use → Judged Use
 together p = Ok (both_uses p.0 p.1)
@@ -180,7 +180,7 @@ together p = Ok (both_uses p.0 p.1)
 
 -- what is said is a truth value: else C5 at its first token
 unfoldable pub assertion : Scopes → Context → Expression → Judged Use
-assertion s w e = expression s (quiet w) false e >>= λ o. tested (expression_at e) o o.uses
+assertion s w e = expression s (quiet w) false e >>= λ o. check_test (expression_at e) o o.uses
 
 unfoldable pub assertions : Scopes → Context → Judged Use → List Expression → Judged Use
 assertions s w j [] = j
@@ -195,15 +195,15 @@ start_need k need = need
 abbrev pub start_use : ℕ → Use
 start_use need = record { calls = 0; need = need; delays = false }
 
-abbrev pub started_named : Scopes → ℕ → DesignatedName → List Operand → Named → Judged Use
-started_named s at d os (Variable (types.Component k n)) = unless (fit_faults at (heading_at n s).parameters os) (both_uses (total_use d.uses os) (start_use (start_need k (as_need (shape_in n s.shapes)))))
-started_named s at d os _ = broken at C17
+abbrev pub check_start_of : Scopes → ℕ → DesignatedName → List Operand → Named → Judged Use
+check_start_of s at d os (Variable (types.Component k n)) = unless (fit_faults at (heading_at n s).parameters os) (both_uses (total_use d.uses os) (start_use (start_need k (as_need (shape_in n s.shapes)))))
+check_start_of s at d os _ = broken at C17
 
-unfoldable pub started : Scopes → ℕ → DesignatedName × List Operand → Judged Use
-started s at p = started_named s at p.0 p.1 p.0.named
+unfoldable pub check_start : Scopes → ℕ → DesignatedName × List Operand → Judged Use
+check_start s at p = check_start_of s at p.0 p.1 p.0.named
 
 unfoldable pub start : Scopes → Context → Start → Judged Use
-start s w i = both (designator s w i.target) (arguments s w [] 0 i.arguments) >>= started s (name_at i.target)
+start s w i = both (designator s w i.target) (arguments s w [] 0 i.arguments) >>= check_start s (name_at i.target)
 
 unfoldable pub starts : Scopes → Context → Judged Use → List Start → Judged Use
 starts s w j [] = j
@@ -229,15 +229,15 @@ unfoldable mutual
   statement s w (if_else at e t u) = both (expression s w false e) (both (statement s w t) (statement s w u) >>= together) >>= test_then at
   statement s w (while_do at e t) = both (expression s w false e) (statement s w t) >>= test_then at
   statement s w (repeat_until at ss e) = both (statements s w (Ok no_use) ss) (expression s w false e) >>= test_last at
-  statement s w (for_do at i a d b t) = both (both (both (begun s i) (expression s w false a)) (expression s w false b)) (statement s w t) >>= count_over s w at i.at
+  statement s w (for_do at i a d b t) = both (both (both (meaning_of_name s i) (expression s w false a)) (expression s w false b)) (statement s w t) >>= count_over s w at i.at
   statement s w (init at is) = starts s w (Ok no_use) is >>= initial at w
-  statement s w (case_of at e as' b) = both (expression s w false e) (arms s w (Ok ([], no_use)) as') >>= chosen at
+  statement s w (case_of at e as' b) = both (expression s w false e) (arms s w (Ok ([], no_use)) as') >>= check_case at
   statement s w (asserted at k e t) = both (assertion s w e) (statement s w t) >>= together
 
   -- the labels of the arms, and what the arms take
   pub arms : Scopes → Context → Judged (List Label × Use) → Arms → Judged (List Label × Use)
   arms s w j no_arms = j
-  arms s w j (more_arms a as') = arms s w (both j (labelled s w a) >>= joined) as'
+  arms s w j (more_arms a as') = arms s w (both j (labelled s w a) >>= join_arms) as'
 
   pub labelled : Scopes → Context → Arm → Judged (List Label × Use)
   labelled s w (arm cs t) = both (labels s cs) (statement s w t)

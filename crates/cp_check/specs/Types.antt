@@ -25,7 +25,7 @@ use Rattle.cp_check.specs.declared.types.Holding.{Holding}
 use Rattle.cp_check.specs.declared.types.Holding.TheVariants as holds
 use Rattle.cp_check.specs.Names.{visible}
 use Rattle.cp_check.specs.Constants.{constant}
-use Rattle.cp_check.specs.Records.{Reserved, reserve_fields, add_fields, Fields, declared, then_fields, sound}
+use Rattle.cp_check.specs.Records.{Reserved, reserve_fields, add_fields, Fields, sound_fields, then_fields, check_fields}
 
 -- ---- steps
 
@@ -90,17 +90,17 @@ may_components (spot.Permanent owner) k = may_own owner k
 may_components spot.Definition k = true
 may_components _ k = false
 
-abbrev pub held_at : ℕ → Spot → Holding → ValueType → Judged ValueType
-held_at at p holds.Plain t = Ok t
-held_at at p holds.Queue t = if may_queue p then Ok t else broken at C11
-held_at at p holds.Queues t = if may_queues p then Ok t else broken at C11
-held_at at p (holds.Component k) t = if may_component p k then Ok t else broken at C13
-held_at at p (holds.Components k) t = if may_components p k then Ok t else broken at C13
+abbrev pub check_spot_of : ℕ → Spot → Holding → ValueType → Judged ValueType
+check_spot_of at p holds.Plain t = Ok t
+check_spot_of at p holds.Queue t = if may_queue p then Ok t else broken at C11
+check_spot_of at p holds.Queues t = if may_queues p then Ok t else broken at C11
+check_spot_of at p (holds.Component k) t = if may_component p k then Ok t else broken at C13
+check_spot_of at p (holds.Components k) t = if may_components p k then Ok t else broken at C13
 
 -- what is no base of a set is looked at later
-abbrev pub spotted : ℕ → Spot → Holding → ValueType → Judged ValueType
-spotted at spot.Base h t = Ok t
-spotted at p h t = held_at at p h t
+abbrev pub check_spot : ℕ → Spot → Holding → ValueType → Judged ValueType
+check_spot at spot.Base h t = Ok t
+check_spot at p h t = check_spot_of at p h t
 
 -- ---- names of types
 
@@ -112,15 +112,15 @@ unfoldable pub type_named : Scopes → ℕ → List ℕ → Judged ValueType
 type_named s at n = visible s at n >>= to_type at
 
 abbrev pub at_spot : Scopes → Spot → ℕ → ValueType → Judged ValueType
-at_spot s p at t = spotted at p (holding s t) t
+at_spot s p at t = check_spot at p (holding s t) t
 
-unfoldable pub type_spotted : Scopes → Spot → ℕ → List ℕ → Judged ValueType
-type_spotted s p at n = type_named s at n >>= at_spot s p at
+unfoldable pub type_at_spot : Scopes → Spot → ℕ → List ℕ → Judged ValueType
+type_at_spot s p at n = type_named s at n >>= at_spot s p at
 
 -- ---- subranges and enumerations
 
-abbrev pub ranged : ℕ → ConstantNumber × ConstantNumber → Judged ValueType
-ranged at p =
+abbrev pub subrange_type : ℕ → ConstantNumber × ConstantNumber → Judged ValueType
+subrange_type at p =
     if same_base p.0.base p.1.base
     then (if int_lt p.1.value p.0.value then broken at C18 else Ok (Ordinal (record { base = p.0.base; low = p.0.value; high = p.1.value })))
     else broken at C5
@@ -139,31 +139,31 @@ abbrev pub unless_type : List CheckFault → ValueType → Judged ValueType
 unless_type [] t = Ok t
 unless_type (f ∷ fs) t = Err (f ∷ fs)
 
-abbrev pub enumerated : Base → Step → Typed
-enumerated b d = record { type = unless_type d.faults (Ordinal (whole b)); scopes = d.scopes }
+abbrev pub enumeration_type : Base → Step → Typed
+enumeration_type b d = record { type = unless_type d.faults (Ordinal (whole b)); scopes = d.scopes }
 
 abbrev pub base_of : ℕ → List Identifier → Base
 base_of at is = Enumeration at (pos (length is) -ℤ pos 1)
 
-unfoldable pub simple_typed : Scopes → Spot → Simple → Typed
-simple_typed s p (type_name at n) = record { type = type_spotted s p at n; scopes = s }
-simple_typed s p (enumeration at is) = enumerated (base_of at is) (members s (base_of at is) 0 is)
-simple_typed s p (subrange at a b) = record { type = both (constant s a) (constant s b) >>= ranged at; scopes = s }
+unfoldable pub simple_type : Scopes → Spot → Simple → Typed
+simple_type s p (type_name at n) = record { type = type_at_spot s p at n; scopes = s }
+simple_type s p (enumeration at is) = enumeration_type (base_of at is) (members s (base_of at is) 0 is)
+simple_type s p (subrange at a b) = record { type = both (constant s a) (constant s b) >>= subrange_type at; scopes = s }
 
 -- ---- arrays and sets
 
-abbrev pub limited : ℕ → ℕ → Judged (Unit {0})
-limited at n = if nat_lt 8192 n then broken at C20 else Ok tt
+abbrev pub check_cells : ℕ → ℕ → Judged (Unit {0})
+check_cells at n = if nat_lt 8192 n then broken at C20 else Ok tt
 
 abbrev pub array_of_range : Scopes → Spot → ℕ → ValueType → ValueType → Judged ArrayShape
 array_of_range s p at (Ordinal r) e =
-    spotted at p (holding_array e) (Array at) >>= (λ t.
-    limited at (times (count_of r) (cells_of e s.shapes)) >>= (λ u.
+    check_spot at p (holding_array e) (Array at) >>= (λ t.
+    check_cells at (times (count_of r) (cells_of e s.shapes)) >>= (λ u.
     Ok (record { index = r; element = e; cells = times (count_of r) (cells_of e s.shapes) })))
 array_of_range s p at _ e = broken at C5
 
-unfoldable pub arrayed : Scopes → Spot → ℕ → ValueType × ValueType → Judged ArrayShape
-arrayed s p at q = array_of_range s p at q.0 q.1
+unfoldable pub shape_of_array : Scopes → Spot → ℕ → ValueType × ValueType → Judged ArrayShape
+shape_of_array s p at q = array_of_range s p at q.0 q.1
 
 abbrev pub keep_array : Scopes → ℕ → Judged ArrayShape → Scopes
 keep_array s at (Ok a) = keep s at (array_shape a)
@@ -172,8 +172,8 @@ keep_array s at (Err fs) = s
 abbrev pub to_array : ℕ → ArrayShape → Judged ValueType
 to_array at a = Ok (Array at)
 
-abbrev pub array_typed : Spot → ℕ → Judged ValueType → Typed → Typed
-array_typed p at i e = record { type = both i e.type >>= arrayed e.scopes p at >>= to_array at; scopes = keep_array e.scopes at (both i e.type >>= arrayed e.scopes p at) }
+abbrev pub array_type : Spot → ℕ → Judged ValueType → Typed → Typed
+array_type p at i e = record { type = both i e.type >>= shape_of_array e.scopes p at >>= to_array at; scopes = keep_array e.scopes at (both i e.type >>= shape_of_array e.scopes p at) }
 
 abbrev pub set_of : ℕ → ℕ → ValueType → Judged ValueType
 set_of at base_at (Ordinal r) = if int_lt r.low (pos 0) || int_lt (pos 127) r.high then broken at C20 else Ok (Set (Some r))
@@ -184,8 +184,8 @@ simple_at (type_name at n) = at
 simple_at (enumeration at is) = at
 simple_at (subrange at a b) = at
 
-abbrev pub set_typed : ℕ → ℕ → Typed → Typed
-set_typed at base_at b = record { type = b.type >>= set_of at base_at; scopes = b.scopes }
+abbrev pub set_type_of : ℕ → ℕ → Typed → Typed
+set_type_of at base_at b = record { type = b.type >>= set_of at base_at; scopes = b.scopes }
 
 -- ---- records
 
@@ -193,19 +193,19 @@ abbrev pub as_field : Judged ValueType → Option Meaning
 as_field (Ok t) = Some (meaning.Variable t)
 as_field (Err fs) = None
 
-abbrev pub fields_declared : List Identifier → Reserved → Typed → Fields
-fields_declared is r t = record { faults = r.faults ++ faults t.type; fields = add_fields r.fields is (as_field t.type); scopes = t.scopes }
+abbrev pub field_group : List Identifier → Reserved → Typed → Fields
+field_group is r t = record { faults = r.faults ++ faults t.type; fields = add_fields r.fields is (as_field t.type); scopes = t.scopes }
 
 -- a record takes what its fields take
 abbrev pub cells_in : Scope → Scopes → ℕ
 cells_in f s = (census f.names s.shapes).cells
 
-abbrev pub shaped : Scopes → ℕ → Scope → Judged Shape
-shaped s at f = limited at (cells_in f s) >>= (λ u. Ok (record_shape f (cells_in f s)))
+abbrev pub shape_within_limits : Scopes → ℕ → Scope → Judged Shape
+shape_within_limits s at f = check_cells at (cells_in f s) >>= (λ u. Ok (record_shape f (cells_in f s)))
 
 -- what is written at the word `record`
-abbrev pub recorded : ℕ → Fields → Judged Shape
-recorded at f = sound f >>= shaped f.scopes at
+abbrev pub sound_shape : ℕ → Fields → Judged Shape
+sound_shape at f = check_fields f >>= shape_within_limits f.scopes at
 
 abbrev pub keep_record : Scopes → ℕ → Judged Shape → Scopes
 keep_record s at (Ok d) = keep s at d
@@ -214,22 +214,22 @@ keep_record s at (Err fs) = s
 abbrev pub to_record : ℕ → Shape → Judged ValueType
 to_record at d = Ok (Record at)
 
-abbrev pub record_typed : ℕ → Fields → Typed
-record_typed at f = record { type = recorded at f >>= to_record at; scopes = keep_record f.scopes at (recorded at f) }
+abbrev pub record_type : ℕ → Fields → Typed
+record_type at f = record { type = sound_shape at f >>= to_record at; scopes = keep_record f.scopes at (sound_shape at f) }
 
 -- ---- types
 
 unfoldable mutual
   pub typed : Scopes → Spot → TypeTerm → Typed
-  typed s p (simple at t) = simple_typed s p t
-  typed s p (array_of at i e) = array_typed p at (simple_typed s spot.Other i).type (typed (simple_typed s spot.Other i).scopes spot.Element e)
-  typed s p (set_type at b) = set_typed at (simple_at b) (simple_typed s spot.Base b)
-  typed s p (record_of at gs b) = record_typed at (groups_typed new_scope s gs)
+  typed s p (simple at t) = simple_type s p t
+  typed s p (array_of at i e) = array_type p at (simple_type s spot.Other i).type (typed (simple_type s spot.Other i).scopes spot.Element e)
+  typed s p (set_type at b) = set_type_of at (simple_at b) (simple_type s spot.Base b)
+  typed s p (record_of at gs b) = record_type at (groups_typed new_scope s gs)
 
-  -- fields that are declared after others
+  -- fields that are sound_fields after others
   pub groups_typed : Scope → Scopes → FieldGroups → Fields
-  groups_typed f s no_fields = declared f s
+  groups_typed f s no_fields = sound_fields f s
   groups_typed f s (more_fields g gs) = then_fields (group_typed f s g) (λ before after. groups_typed before after gs)
 
   pub group_typed : Scope → Scopes → FieldGroup → Fields
-  group_typed f s (fields is t) = fields_declared is (reserve_fields f is) (typed s spot.Other t)
+  group_typed f s (fields is t) = field_group is (reserve_fields f is) (typed s spot.Other t)

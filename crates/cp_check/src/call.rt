@@ -150,7 +150,7 @@ fn check_delay(at: usize, context: Context, is_local: bool, body: Use) -> Result
 }
 
 /// The rules of a call itself; what it takes. A local call has its name at its first token, so that faults come by their rules there.
-#[tactic(auto, unfolding(crate::specs::Calls::called), using(crate::proofs::Judging::first_append))]
+#[tactic(auto, unfolding(crate::specs::Calls::check_routine_call), using(crate::proofs::Judging::first_append))]
 pub fn check_routine_call(
     table: &ScopeTable,
     context: Context,
@@ -161,7 +161,7 @@ pub fn check_routine_call(
     operands: &[Operand],
     uses: Use,
 ) -> Result<Use, CheckFault>
-    ensures { Judges (λ u. u) (spec.called (scopes_of table.now) context at name_at is_local routine operands.now uses) result }
+    ensures { Judges (λ u. u) (spec.check_routine_call (scopes_of table.now) context at name_at is_local routine operands.now uses) result }
 {
     let shapes = table.shapes();
     let parameters = shapes.parameters(routine);

@@ -101,7 +101,7 @@ pub fn check_case(
     labels: &[Label],
     uses: Use,
 ) -> Result<Use, CheckFault>
-    ensures { Judges (λ u. u) (spec.chosen at (selector, (labels.now, uses))) result }
+    ensures { Judges (λ u. u) (spec.check_case at (selector, (labels.now, uses))) result }
 {
     check_labels(at, selector.value_type, labels)?;
     check_once(alloc, labels)?;

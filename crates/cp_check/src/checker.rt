@@ -45,14 +45,14 @@ fn declarations(alloc: Global, table: &mut ScopeTable, node: &Program) -> Result
 }
 
 /// The program's declarations and its initial statement.
-#[tactic(auto, unfolding(crate::specs::Faults::opened), using(crate::proofs::Judging::first_append))]
+#[tactic(auto, unfolding(crate::specs::Faults::declarations_and_body), using(crate::proofs::Judging::first_append))]
 fn declarations_and_body(
     alloc: Global,
     table: &mut ScopeTable,
     node: &Program,
 ) -> Result<Use, CheckFault>
-    ensures judged { Judges (λ u. u) (spec.opened (scopes_of table.old) (program_view node.now)).uses result }
-    ensures scopes { OnOk result (scopes_of table.new ≡ (spec.opened (scopes_of table.old) (program_view node.now)).scopes) }
+    ensures judged { Judges (λ u. u) (spec.declarations_and_body (scopes_of table.old) (program_view node.now)).uses result }
+    ensures scopes { OnOk result (scopes_of table.new ≡ (spec.declarations_and_body (scopes_of table.old) (program_view node.now)).scopes) }
 {
     declarations(alloc, table, node)?;
     let context = Context {
@@ -85,7 +85,7 @@ fn is_too_large(census: Census, uses: Use) -> bool
 
 /// The rules of a program, and its limits.
 fn within_limits(alloc: Global, table: &mut ScopeTable, node: &Program) -> Result<(), CheckFault>
-    ensures { Finds (spec.with_limits (program_view node.now).period (spec.opened (scopes_of table.old) (program_view node.now))) result }
+    ensures { Finds (spec.with_limits (program_view node.now).period (spec.declarations_and_body (scopes_of table.old) (program_view node.now))) result }
 {
     let uses = declarations_and_body(alloc, table, node)?;
     if is_too_large(table.census(), uses) {

@@ -31,7 +31,7 @@ fn number_with_sign(
     sign: Option<Sign>,
     number: ConstantNumber,
 ) -> Result<ConstantNumber, CheckFault>
-    ensures { Judges (λ n. n) (spec.signed at sign number) result }
+    ensures { Judges (λ n. n) (spec.number_with_sign at sign number) result }
 {
     match sign {
         None => Ok(number),
@@ -52,9 +52,9 @@ fn number_with_sign(
 }
 
 /// A name in a constant's place.
-#[tactic(auto, unfolding(crate::specs::Constants::named))]
+#[tactic(auto, unfolding(crate::specs::Constants::constant_named))]
 fn constant_named(table: &ScopeTable, name: &Identifier) -> Result<ConstantNumber, CheckFault>
-    ensures { Judges (λ n. n) (spec.named (scopes_of table.now) name.now) result }
+    ensures { Judges (λ n. n) (spec.constant_named (scopes_of table.now) name.now) result }
 {
     match meaning_of(table, name.at, &name.name)? {
         Meaning::Constant(base, value) => Ok(ConstantNumber { base, value }),

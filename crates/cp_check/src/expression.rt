@@ -4,7 +4,7 @@ ghost use Rattle.std.specs.Prelude.{◌≡◌, ◌&&◌, [], Ok, Some};
 ghost use Rattle.cp_scope.specs.Judged.{Judges};
 ghost use Rattle.cp_scope.specs.View.{scopes_of};
 ghost use Rattle.cp_tree.specs.View.{expression_view, expressions_view, expressions_of, sum_view, term_view, terms_view, terms_of, factor_view, factors_view, factors_of, designator_view, selector_view, selectors_view, selectors_of};
-ghost use Rattle.cp_check.specs.Names.{begun};
+ghost use Rattle.cp_check.specs.Names.{meaning_of_name};
 ghost use Rattle.cp_check.specs.Expressions as spec;
 
 use crate::call::{total_use, value_of, variable_of};
@@ -72,7 +72,7 @@ fn is_term_alone(is_var: bool, sign: Option<Sign>, nodes: &[(Addition, Term)]) -
 
 /// An expression in parentheses.
 fn value_in_parentheses(at: usize, operand: Operand) -> Operand
-    ensures { result ≡ spec.grouped at operand }
+    ensures { result ≡ spec.value_in_parentheses at operand }
 {
     value(at, operand.value_type, operand.uses)
 }
@@ -92,7 +92,7 @@ fn are_elements(base: Base, operands: &[Operand]) -> bool
 
 /// A set constructor.
 fn set_value(at: usize, operands: &[Operand]) -> Result<Operand, CheckFault>
-    ensures { Judges (λ o. o) (spec.constructed at operands.now) result }
+    ensures { Judges (λ o. o) (spec.set_value at operands.now) result }
 {
     match operands {
         [] => Ok(value(at, ValueType::Set(None), Use::nothing())),
@@ -167,7 +167,7 @@ fn name_with_selectors(
     name: &Identifier,
     nodes: &[Selector],
 ) -> Result<DesignatedName, CheckFault>
-    ensures { Judges (λ d. d) (spec.selectors (scopes_of table.now) context (begun (scopes_of table.now) name.now) (selectors_of (selectors_view nodes.now))) result }
+    ensures { Judges (λ d. d) (spec.selectors (scopes_of table.now) context (meaning_of_name (scopes_of table.now) name.now) (selectors_of (selectors_view nodes.now))) result }
 {
     match name_meaning(table, name) {
         Ok(start) => selectors(alloc, table, context, start, nodes),

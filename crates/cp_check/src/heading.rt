@@ -22,7 +22,7 @@ fn check_parameter_type(
     held: Holding,
     value_type: ValueType,
 ) -> Result<ValueType, CheckFault>
-    ensures { Judges (λ t. t) (spec.admitted at held value_type) result }
+    ensures { Judges (λ t. t) (spec.check_parameter_type at held value_type) result }
 {
     match held {
         Holding::Plain => Ok(value_type),
@@ -97,7 +97,7 @@ fn check_result_type(
     held: Holding,
     value_type: ValueType,
 ) -> Result<ValueType, CheckFault>
-    ensures { Judges (λ t. t) (spec.returned at held value_type) result }
+    ensures { Judges (λ t. t) (spec.check_result_type at held value_type) result }
 {
     match held {
         Holding::Plain => Ok(value_type),
@@ -118,14 +118,14 @@ fn result_type(table: &ScopeTable, name: &Identifier) -> Result<Option<ValueType
 }
 
 /// The parameters, and the type of a function's result.
-#[tactic(auto, unfolding(crate::specs::Headings::written, crate::specs::Headings::parameter_steps), using(crate::proofs::Judging::first_append))]
+#[tactic(auto, unfolding(crate::specs::Headings::parameters_and_result, crate::specs::Headings::parameter_steps), using(crate::proofs::Judging::first_append))]
 fn parameters_and_result(
     alloc: Global,
     table: &mut ScopeTable,
     node: &RoutineKind,
 ) -> Result<Option<ValueType>, CheckFault>
-    ensures judged { Judges (λ t. t) (spec.written (scopes_of table.old) (routine_kind_view node.now)).result result }
-    ensures scopes { OnOk result (scopes_of table.new ≡ (spec.written (scopes_of table.old) (routine_kind_view node.now)).scopes) }
+    ensures judged { Judges (λ t. t) (spec.parameters_and_result (scopes_of table.old) (routine_kind_view node.now)).result result }
+    ensures scopes { OnOk result (scopes_of table.new ≡ (spec.parameters_and_result (scopes_of table.old) (routine_kind_view node.now)).scopes) }
 {
     match node {
         RoutineKind::Procedure(nodes) => {
@@ -185,7 +185,7 @@ fn check_heading(
     node: &Routine,
     value_type: Option<ValueType>,
 ) -> Result<Option<ValueType>, CheckFault>
-    ensures { Judges (λ t. t) (spec.ruled owner (routine_view node.now) value_type) result }
+    ensures { Judges (λ t. t) (spec.check_heading owner (routine_view node.now) value_type) result }
 {
     check_ordinal_result(node.at, value_type)?;
     check_entry_place(node.name.at.saturating_sub(1), owner, node.is_entry)?;
@@ -210,14 +210,14 @@ pub fn heading(
 }
 
 /// From its heading on a routine is visible.
-#[tactic(auto, unfolding(crate::specs::Headings::announced))]
+#[tactic(auto, unfolding(crate::specs::Headings::announce))]
 pub fn announce(
     alloc: Global,
     table: &mut ScopeTable,
     node: &Routine,
     value_type: Option<ValueType>,
 ) -> Result<(), CheckFault>
-    ensures ok { OnOk result (scopes_of table.new ≡ spec.announced (routine_view node.now) value_type (scopes_of table.old)) }
+    ensures ok { OnOk result (scopes_of table.new ≡ spec.announce (routine_view node.now) value_type (scopes_of table.old)) }
     ensures memory { IfErr result (λ e. e ≡ check_fault.Memory) }
 {
     let heading = Heading {

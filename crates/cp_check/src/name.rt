@@ -23,7 +23,7 @@ pub fn meaning_of(table: &ScopeTable, at: usize, name: &Name) -> Result<Meaning,
 
 /// What a meaning is without selectors.
 fn without_selectors(meaning: Meaning) -> Named
-    ensures { result ≡ spec.named_of meaning }
+    ensures { result ≡ spec.without_selectors meaning }
 {
     match meaning {
         Meaning::Constant(base, _) => Named::Constant(base),
@@ -37,9 +37,9 @@ fn without_selectors(meaning: Meaning) -> Named
 }
 
 /// A name without selectors.
-#[tactic(auto, unfolding(crate::specs::Names::begun))]
+#[tactic(auto, unfolding(crate::specs::Names::meaning_of_name))]
 pub fn name_meaning(table: &ScopeTable, name: &Identifier) -> Result<DesignatedName, CheckFault>
-    ensures { Judges (λ d. d) (spec.begun (scopes_of table.now) name.now) result }
+    ensures { Judges (λ d. d) (spec.meaning_of_name (scopes_of table.now) name.now) result }
 {
     let meaning = meaning_of(table, name.at, &name.name)?;
     Ok(DesignatedName {
@@ -127,7 +127,7 @@ pub fn member_of(
     name: &Identifier,
     whole: DesignatedName,
 ) -> Result<DesignatedName, CheckFault>
-    ensures { Judges (λ d. d) (spec.selected (scopes_of table.now) name.now whole) result }
+    ensures { Judges (λ d. d) (spec.member_of (scopes_of table.now) name.now whole) result }
 {
     match whole.named.value_type() {
         Some(ValueType::Record(written)) => field(table, name, whole, written),
@@ -154,7 +154,7 @@ fn element(table: &ScopeTable, whole: DesignatedName, index: Operand, array: usi
 
 /// What an index selects.
 pub fn element_of(table: &ScopeTable, whole: DesignatedName, index: Operand) -> DesignatedName
-    ensures { result ≡ spec.indexed (scopes_of table.now) whole index }
+    ensures { result ≡ spec.element_name (scopes_of table.now) whole index }
 {
     let named = match whole.named.value_type() {
         Some(ValueType::Array(array)) => element(table, whole, index, array),
@@ -169,7 +169,7 @@ pub fn element_of(table: &ScopeTable, whole: DesignatedName, index: Operand) -> 
 
 /// The selectors fit what they select from.
 pub fn check_selectors(at: usize, designated: DesignatedName) -> Result<DesignatedName, CheckFault>
-    ensures { Judges (λ d. d) (spec.known at designated) result }
+    ensures { Judges (λ d. d) (spec.check_selectors at designated) result }
 {
     match designated.named {
         Named::Nothing => broken_rule(at, Rule::C5),

@@ -63,7 +63,7 @@ pub fn sum_of(
     left: Option<Operand>,
     right: Operand,
 ) -> Option<Operand>
-    ensures { result ≡ spec.added at operation left right }
+    ensures { result ≡ spec.sum_of at operation left right }
 {
     let left = left?;
     match operation {
@@ -80,7 +80,7 @@ pub fn product_of(
     left: Option<Operand>,
     right: Operand,
 ) -> Option<Operand>
-    ensures { result ≡ spec.multiplied at operation left right }
+    ensures { result ≡ spec.product_of at operation left right }
 {
     let left = left?;
     match operation {
@@ -91,7 +91,7 @@ pub fn product_of(
 
 /// The first term of a sum with its sign.
 pub fn with_sign(at: usize, sign: Option<Sign>, operand: Operand) -> Option<Operand>
-    ensures { result ≡ spec.signed at sign operand }
+    ensures { result ≡ spec.with_sign at sign operand }
 {
     match sign {
         None => Some(operand),
@@ -107,7 +107,7 @@ pub fn with_sign(at: usize, sign: Option<Sign>, operand: Operand) -> Option<Oper
 
 /// The operands of a node agree.
 pub fn check_agreement(at: usize, operand: Option<Operand>) -> Result<Operand, CheckFault>
-    ensures { Judges (λ o. o) (spec.agreed at operand) result }
+    ensures { Judges (λ o. o) (spec.check_agreement at operand) result }
 {
     match operand {
         Some(operand) => Ok(operand),
@@ -144,7 +144,7 @@ pub fn relation_value(
     left: Operand,
     right: Operand,
 ) -> Result<Operand, CheckFault>
-    ensures { Judges (λ o. o) (spec.related at relation (left, right)) result }
+    ensures { Judges (λ o. o) (spec.relation_value at relation (left, right)) result }
 {
     if relates(relation, left.value_type, right.value_type) {
         Ok(base_value(at, Base::Boolean, left.uses.and(right.uses)))
@@ -155,7 +155,7 @@ pub fn relation_value(
 
 /// The contrary of a truth value.
 pub fn negation_of(at: usize, operand: Operand) -> Result<Operand, CheckFault>
-    ensures { Judges (λ o. o) (spec.negated at operand) result }
+    ensures { Judges (λ o. o) (spec.negation_of at operand) result }
 {
     if operand.value_type.is_of(Base::Boolean) {
         Ok(base_value(at, Base::Boolean, operand.uses))
@@ -171,7 +171,7 @@ fn standard_value_of(
     operand: Operand,
     uses: Use,
 ) -> Result<Operand, CheckFault>
-    ensures { Judges (λ o. o) (spec.applied_to at function operand uses) result }
+    ensures { Judges (λ o. o) (spec.standard_value_of at function operand uses) result }
 {
     match function {
         Predeclared::Succ | Predeclared::Pred => match operand.value_type {
@@ -224,7 +224,7 @@ pub fn standard_value(
     operands: &[Operand],
     uses: Use,
 ) -> Result<Operand, CheckFault>
-    ensures { Judges (λ o. o) (spec.applied at function operands.now uses) result }
+    ensures { Judges (λ o. o) (spec.standard_value at function operands.now uses) result }
 {
     if !is_function(function) {
         return broken_rule(at, Rule::C5);

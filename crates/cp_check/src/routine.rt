@@ -39,15 +39,15 @@ fn routine_use(cells: u32, value_type: Option<ValueType>, uses: Use) -> Use
 }
 
 /// The local declarations and the body.
-#[tactic(auto, unfolding(crate::specs::Routines::opened), using(crate::proofs::Judging::first_append))]
+#[tactic(auto, unfolding(crate::specs::Routines::enter_routine), using(crate::proofs::Judging::first_append))]
 fn enter_routine(
     alloc: Global,
     table: &mut ScopeTable,
     owner: Option<SystemKind>,
     node: &Routine,
 ) -> Result<Use, CheckFault>
-    ensures judged { Judges (λ u. u) (spec.opened owner (routine_view node.now) (scopes_of table.old)).uses result }
-    ensures scopes { OnOk result (scopes_of table.new ≡ (spec.opened owner (routine_view node.now) (scopes_of table.old)).scopes) }
+    ensures judged { Judges (λ u. u) (spec.enter_routine owner (routine_view node.now) (scopes_of table.old)).uses result }
+    ensures scopes { OnOk result (scopes_of table.new ≡ (spec.enter_routine owner (routine_view node.now) (scopes_of table.old)).scopes) }
 {
     parts(alloc, table, Spot::Other, &node.parts)?;
     let context = Context {
@@ -59,7 +59,7 @@ fn enter_routine(
 }
 
 /// A routine is closed.
-#[tactic(auto, unfolding(crate::specs::Routines::closed))]
+#[tactic(auto, unfolding(crate::specs::Routines::close_routine))]
 fn close_routine(
     alloc: Global,
     table: &mut ScopeTable,
@@ -67,7 +67,7 @@ fn close_routine(
     value_type: Option<ValueType>,
     uses: Use,
 ) -> Result<(), CheckFault>
-    ensures ok { OnOk result (scopes_of table.new ≡ spec.closed (routine_view node.now) value_type uses (scopes_of table.old)) }
+    ensures ok { OnOk result (scopes_of table.new ≡ spec.close_routine (routine_view node.now) value_type uses (scopes_of table.old)) }
     ensures memory { IfErr result (λ e. e ≡ check_fault.Memory) }
 {
     let uses = routine_use(table.census().cells, value_type, uses);

@@ -78,7 +78,7 @@ pub fn target_of(table: &ScopeTable, context: Context, named: Named) -> Target
 
 /// No procedure and no type stands on the left.
 fn check_target(at: usize, target: Target) -> Result<Target, CheckFault>
-    ensures { Judges (λ t. t) (spec.aimed at target) result }
+    ensures { Judges (λ t. t) (spec.check_target at target) result }
 {
     match target {
         Target::Kind => broken_rule(at, Rule::C5),
@@ -88,7 +88,7 @@ fn check_target(at: usize, target: Target) -> Result<Target, CheckFault>
 
 /// The rules of an assignment itself.
 fn check_assignment(at: usize, target: Target, value: Operand, uses: Use) -> Result<Use, CheckFault>
-    ensures { Judges (λ u. u) (spec.assigned at target value uses) result }
+    ensures { Judges (λ u. u) (spec.check_assignment at target value uses) result }
 {
     match target {
         Target::Assignable(value_type) => {
@@ -212,7 +212,7 @@ fn check_standard_call(
     operands: &[Operand],
     uses: Use,
 ) -> Result<Use, CheckFault>
-    ensures { Judges (λ u. u) (spec.performed (scopes_of table.now) context at routine operands.now uses) result }
+    ensures { Judges (λ u. u) (spec.check_standard_call (scopes_of table.now) context at routine operands.now uses) result }
 {
     match routine {
         Predeclared::Display => {
@@ -236,7 +236,7 @@ fn check_standard_call(
 }
 
 /// A call of a routine as a statement.
-#[tactic(auto, unfolding(crate::specs::Statements::procedure_called))]
+#[tactic(auto, unfolding(crate::specs::Statements::check_procedure_call))]
 fn check_procedure_call(
     table: &ScopeTable,
     context: Context,
@@ -247,7 +247,7 @@ fn check_procedure_call(
     operands: &[Operand],
     uses: Use,
 ) -> Result<Use, CheckFault>
-    ensures { Judges (λ u. u) (spec.procedure_called (scopes_of table.now) context at name_at is_local routine operands.now uses) result }
+    ensures { Judges (λ u. u) (spec.check_procedure_call (scopes_of table.now) context at name_at is_local routine operands.now uses) result }
 {
     match table.shapes().result(routine) {
         Some(_) => broken_rule(at, Rule::C5),
@@ -258,7 +258,7 @@ fn check_procedure_call(
 }
 
 /// The rules of a call statement itself.
-#[tactic(auto, unfolding(crate::specs::Statements::invoked))]
+#[tactic(auto, unfolding(crate::specs::Statements::check_call))]
 fn check_call(
     table: &ScopeTable,
     context: Context,
@@ -266,7 +266,7 @@ fn check_call(
     name: DesignatedName,
     operands: &[Operand],
 ) -> Result<Use, CheckFault>
-    ensures { Judges (λ u. u) (spec.invoked (scopes_of table.now) context at (name, operands.now)) result }
+    ensures { Judges (λ u. u) (spec.check_call (scopes_of table.now) context at (name, operands.now)) result }
 {
     let uses = name.uses;
     match name.named {
@@ -345,7 +345,7 @@ fn call(
 
 /// A test is a truth value; what its statement takes.
 fn check_test(at: usize, test: Operand, uses: Use) -> Result<Use, CheckFault>
-    ensures { Judges (λ u. u) (spec.tested at test uses) result }
+    ensures { Judges (λ u. u) (spec.check_test at test uses) result }
 {
     if test.value_type.is_of(Base::Boolean) {
         Ok(uses)
@@ -401,7 +401,7 @@ fn check_for(
     to: Operand,
     uses: Use,
 ) -> Result<Use, CheckFault>
-    ensures { Judges (λ u. u) (spec.counted at name_at target from to uses) result }
+    ensures { Judges (λ u. u) (spec.check_for at name_at target from to uses) result }
 {
     match target {
         Target::Kind => broken_rule(at, Rule::C5),
@@ -430,14 +430,14 @@ fn check_for(
 }
 
 /// A start of a component variable.
-#[tactic(auto, unfolding(crate::specs::Statements::started), using(crate::proofs::Judging::first_append))]
+#[tactic(auto, unfolding(crate::specs::Statements::check_start), using(crate::proofs::Judging::first_append))]
 fn check_start(
     table: &ScopeTable,
     at: usize,
     name: DesignatedName,
     operands: &[Operand],
 ) -> Result<Use, CheckFault>
-    ensures { Judges (λ u. u) (spec.started (scopes_of table.now) at (name, operands.now)) result }
+    ensures { Judges (λ u. u) (spec.check_start (scopes_of table.now) at (name, operands.now)) result }
 {
     match name.named {
         Named::Variable(ValueType::Component(kind, system)) => {

@@ -29,7 +29,7 @@ fn check_parameter_type(
     held: Holding,
     value_type: ValueType,
 ) -> Result<ValueType, CheckFault>
-    ensures { Judges (λ t. t) (spec.admitted at owner held value_type) result }
+    ensures { Judges (λ t. t) (spec.check_parameter_type at owner held value_type) result }
 {
     match held {
         Holding::Plain => Ok(value_type),
@@ -104,10 +104,10 @@ fn inside(alloc: Global, table: &mut ScopeTable, node: &System) -> Result<(), Ch
 }
 
 /// A system type in a scope of its own.
-#[tactic(auto, unfolding(crate::specs::Systems::opened), using(crate::proofs::Judging::first_append))]
+#[tactic(auto, unfolding(crate::specs::Systems::enter_system), using(crate::proofs::Judging::first_append))]
 fn enter_system(alloc: Global, table: &mut ScopeTable, node: &System) -> Result<Use, CheckFault>
-    ensures judged { Judges (λ u. u) (spec.opened (scopes_of table.old) (system_view node.now)).uses result }
-    ensures scopes { OnOk result (scopes_of table.new ≡ (spec.opened (scopes_of table.old) (system_view node.now)).scopes) }
+    ensures judged { Judges (λ u. u) (spec.enter_system (scopes_of table.old) (system_view node.now)).uses result }
+    ensures scopes { OnOk result (scopes_of table.new ≡ (spec.enter_system (scopes_of table.old) (system_view node.now)).scopes) }
 {
     inside(alloc, table, node)?;
     let context = Context {
@@ -119,14 +119,14 @@ fn enter_system(alloc: Global, table: &mut ScopeTable, node: &System) -> Result<
 }
 
 /// A system type is closed.
-#[tactic(auto, unfolding(crate::specs::Systems::closed))]
+#[tactic(auto, unfolding(crate::specs::Systems::close_system))]
 fn close_system(
     alloc: Global,
     table: &mut ScopeTable,
     at: usize,
     uses: Use,
 ) -> Result<(), CheckFault>
-    ensures ok { OnOk result (scopes_of table.new ≡ spec.closed (scopes_of table.old) at uses) }
+    ensures ok { OnOk result (scopes_of table.new ≡ spec.close_system (scopes_of table.old) at uses) }
     ensures memory { IfErr result (λ e. e ≡ check_fault.Memory) }
 {
     let heading = Heading {
@@ -143,10 +143,10 @@ fn close_system(
 }
 
 /// A system type; the variables around it are not visible in it.
-#[tactic(auto, unfolding(crate::specs::Systems::system_typed))]
+#[tactic(auto, unfolding(crate::specs::Systems::system_type))]
 fn system(alloc: Global, table: &mut ScopeTable, node: &System) -> Result<ValueType, CheckFault>
-    ensures judged { Judges (λ t. t) (spec.system_typed (scopes_of table.old) (system_view node.now)).type result }
-    ensures scopes { OnOk result (scopes_of table.new ≡ (spec.system_typed (scopes_of table.old) (system_view node.now)).scopes) }
+    ensures judged { Judges (λ t. t) (spec.system_type (scopes_of table.old) (system_view node.now)).type result }
+    ensures scopes { OnOk result (scopes_of table.new ≡ (spec.system_type (scopes_of table.old) (system_view node.now)).scopes) }
 {
     table.enter(alloc, true)?;
     let uses = enter_system(alloc, table, node)?;
@@ -154,14 +154,14 @@ fn system(alloc: Global, table: &mut ScopeTable, node: &System) -> Result<ValueT
     Ok(ValueType::Component(node.kind, node.at))
 }
 
-#[tactic(auto, unfolding(crate::specs::Systems::defined))]
+#[tactic(auto, unfolding(crate::specs::Systems::type_of_definition))]
 fn type_of_definition(
     alloc: Global,
     table: &mut ScopeTable,
     node: &Definition,
 ) -> Result<ValueType, CheckFault>
-    ensures judged { Judges (λ t. t) (spec.defined (scopes_of table.old) (definition_view node.now)).type result }
-    ensures scopes { OnOk result (scopes_of table.new ≡ (spec.defined (scopes_of table.old) (definition_view node.now)).scopes) }
+    ensures judged { Judges (λ t. t) (spec.type_of_definition (scopes_of table.old) (definition_view node.now)).type result }
+    ensures scopes { OnOk result (scopes_of table.new ≡ (spec.type_of_definition (scopes_of table.old) (definition_view node.now)).scopes) }
 {
     match node {
         Definition::Type(written) => type_of(alloc, table, Spot::Definition, written),

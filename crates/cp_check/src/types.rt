@@ -129,7 +129,7 @@ fn check_spot(
     held: Holding,
     value_type: ValueType,
 ) -> Result<ValueType, CheckFault>
-    ensures { Judges (λ t. t) (spec.spotted at spot held value_type) result }
+    ensures { Judges (λ t. t) (spec.check_spot at spot held value_type) result }
 {
     match spot {
         Spot::Base => return Ok(value_type),
@@ -180,14 +180,14 @@ pub fn type_named(table: &ScopeTable, at: usize, name: &Name) -> Result<ValueTyp
 }
 
 /// The type of a name where it stands at a spot.
-#[tactic(auto, unfolding(crate::specs::Types::type_spotted))]
+#[tactic(auto, unfolding(crate::specs::Types::type_at_spot))]
 pub fn type_at_spot(
     table: &ScopeTable,
     spot: Spot,
     at: usize,
     name: &Name,
 ) -> Result<ValueType, CheckFault>
-    ensures { Judges (λ t. t) (spec.type_spotted (scopes_of table.now) spot at name.now) result }
+    ensures { Judges (λ t. t) (spec.type_at_spot (scopes_of table.now) spot at name.now) result }
 {
     let value_type = type_named(table, at, name)?;
     check_spot(at, spot, held_by(table, value_type), value_type)
@@ -199,7 +199,7 @@ fn subrange_type(
     low: ConstantNumber,
     high: ConstantNumber,
 ) -> Result<ValueType, CheckFault>
-    ensures { Judges (λ t. t) (spec.ranged at (low, high)) result }
+    ensures { Judges (λ t. t) (spec.subrange_type at (low, high)) result }
 {
     if !low.base.is_same(high.base) {
         broken_rule(at, Rule::C5)
@@ -256,15 +256,15 @@ fn members(
 }
 
 /// A type that is written on its own.
-#[tactic(auto, unfolding(crate::specs::Types::simple_typed), using(crate::proofs::Judging::first_append))]
+#[tactic(auto, unfolding(crate::specs::Types::simple_type), using(crate::proofs::Judging::first_append))]
 fn simple(
     alloc: Global,
     table: &mut ScopeTable,
     spot: Spot,
     node: &Simple,
 ) -> Result<ValueType, CheckFault>
-    ensures judged { Judges (λ t. t) (spec.simple_typed (scopes_of table.old) spot (simple_view node.now)).type result }
-    ensures scopes { OnOk result (scopes_of table.new ≡ (spec.simple_typed (scopes_of table.old) spot (simple_view node.now)).scopes) }
+    ensures judged { Judges (λ t. t) (spec.simple_type (scopes_of table.old) spot (simple_view node.now)).type result }
+    ensures scopes { OnOk result (scopes_of table.new ≡ (spec.simple_type (scopes_of table.old) spot (simple_view node.now)).scopes) }
 {
     let at = node.at;
     match &node.kind {
@@ -298,7 +298,7 @@ pub const MOST_CELLS: u32 = 8192;
 
 /// A type is not too large.
 fn check_cells(at: usize, cells: u32) -> Result<(), CheckFault>
-    ensures { Judges (λ u. u) (spec.limited at cells) result }
+    ensures { Judges (λ u. u) (spec.check_cells at cells) result }
 {
     if cells > MOST_CELLS {
         broken_rule(at, Rule::C20)
@@ -308,7 +308,7 @@ fn check_cells(at: usize, cells: u32) -> Result<(), CheckFault>
 }
 
 /// The rules of an array type itself.
-#[tactic(auto, unfolding(crate::specs::Types::arrayed), using(crate::proofs::Judging::refuses_bind))]
+#[tactic(auto, unfolding(crate::specs::Types::shape_of_array), using(crate::proofs::Judging::refuses_bind))]
 fn array_type(
     table: &ScopeTable,
     spot: Spot,
@@ -316,7 +316,7 @@ fn array_type(
     index: ValueType,
     element: ValueType,
 ) -> Result<ArrayShape, CheckFault>
-    ensures { Judges (λ a. a) (spec.arrayed (scopes_of table.now) spot at (index, element)) result }
+    ensures { Judges (λ a. a) (spec.shape_of_array (scopes_of table.now) spot at (index, element)) result }
 {
     match index {
         ValueType::Ordinal(range) => {
@@ -395,7 +395,7 @@ fn record(
     at: usize,
     nodes: &[FieldGroup],
 ) -> Result<TokenShape, CheckFault>
-    ensures judged { Judges shape_view (spec.recorded at (spec.groups_typed new_scope (scopes_of table.old) (field_groups_of (field_groups_view nodes.now)))) result }
+    ensures judged { Judges shape_view (spec.sound_shape at (spec.groups_typed new_scope (scopes_of table.old) (field_groups_of (field_groups_view nodes.now)))) result }
     ensures scopes { OnOk result (scopes_of table.new ≡ (spec.groups_typed new_scope (scopes_of table.old) (field_groups_of (field_groups_view nodes.now))).scopes) }
 {
     let mut fields = Scope::new(alloc);

@@ -15,12 +15,12 @@ use Rattle.cp_store.specs.declared.error.ErrorName.{ErrorName}
 use Rattle.cp_store.specs.declared.memory.Address.{Address}
 use Rattle.cp_store.specs.declared.memory.Address.TheVariants.{Permanent, Local}
 use Rattle.cp_store.specs.declared.memory.Frame.{Frame}
-use Rattle.cp_store.specs.Arguments.{bound_at, bounds_after, bounds_at}
+use Rattle.cp_store.specs.Arguments.{evaluate_argument, bounds_after, bounds_at}
 use Rattle.cp_store.specs.Components.{component_at}
 use Rattle.cp_store.specs.Memory.{Memory, onward}
 use Rattle.cp_store.specs.Places.{address_at, element_offset, set_at, value_at}
 use Rattle.cp_store.specs.Sets as sets
-use Rattle.cp_store.specs.Values.{ranged, then_with}
+use Rattle.cp_store.specs.Values.{check_range, then_with}
 use Rattle.cp_store.proofs.Opened.{bounds_are, fine, given_all, given_by}
 use Rattle.cp_store.proofs.Reaches.{and_left, and_right, behind_is, some_has}
 use Rattle.cp_effect_laws.specs.Touches.{HasFrom}
@@ -52,9 +52,9 @@ module _ (own : ℕ → Bool) (x : Memory) (others : List ℤ) (same : (k : ℕ)
       ap (λ o. then_with o (λ k. then_with (element_offset low high stride k) (λ further. Ok (onward (onward f.component first) further)))) (value_same own x others same r f named index.value i)
   found_same (Parameter slot) i h = ap Ok (alike (onward f.own slot) h)
 
-  one_same : (callee : RoutineView) (extent slot : ℕ) (v : ArgumentValue) → argument_inside r callee extent slot v ≡ true → OwnValue own f v → bound_at y bound f v ≡ bound_at x bindings f v
-  one_same callee extent slot (value.Scalar e low high) i h = ap (λ o. then_with o (λ z. then_with (ranged low high z) (λ w. Ok (Scalar w)))) (value_same own x others same r f named e (and_left (expression_inside r e) (is_within slot 1 extent) i))
-  one_same callee extent slot (value.Set e low high) i h = ap (λ o. then_with o (λ s. then_with (sets.ranged low high s) (λ w. Ok (Set w)))) (set_same own x others same r f named e (and_left (set_inside r e) (is_within slot SET_CELLS extent) i))
+  one_same : (callee : RoutineView) (extent slot : ℕ) (v : ArgumentValue) → argument_inside r callee extent slot v ≡ true → OwnValue own f v → evaluate_argument y bound f v ≡ evaluate_argument x bindings f v
+  one_same callee extent slot (value.Scalar e low high) i h = ap (λ o. then_with o (λ z. then_with (check_range low high z) (λ w. Ok (Scalar w)))) (value_same own x others same r f named e (and_left (expression_inside r e) (is_within slot 1 extent) i))
+  one_same callee extent slot (value.Set e low high) i h = ap (λ o. then_with o (λ s. then_with (sets.check_members low high s) (λ w. Ok (Set w)))) (set_same own x others same r f named e (and_left (set_inside r e) (is_within slot SET_CELLS extent) i))
   one_same callee extent slot (value.Copy source size) i h = ap (λ o. then_with o (λ at. Ok (Copy at size))) (place_same own x others same r f named source size (and_left (has size (place_room r source)) (is_within slot size extent) i))
   one_same callee extent slot (value.Reference place) i h = ap (λ o. then_with o (λ at. Ok (Reference at))) (place_same own x others same r f named place _ i)
   one_same callee extent slot (value.Component c) i h = ap (λ o. then_with o (λ n. Ok (Component n))) (found_same c i h)
@@ -63,7 +63,7 @@ module _ (own : ℕ → Bool) (x : Memory) (others : List ℤ) (same : (k : ℕ)
   after_same callee extent [] bs i h = refl
   after_same callee extent (a ∷ xs) bs i h =
       ap (λ o. then_with o (λ b. bounds_after y bound f (bs ++ b ∷ []) xs)) (one_same callee extent a.slot a.value (and_left (argument_inside r callee extent a.slot a.value) (arguments_inside r callee extent xs) i) h.0)
-      ∙ go (bound_at x bindings f a.value) (λ b. after_same callee extent xs (bs ++ b ∷ []) (and_right (argument_inside r callee extent a.slot a.value) (arguments_inside r callee extent xs) i) h.1)
+      ∙ go (evaluate_argument x bindings f a.value) (λ b. after_same callee extent xs (bs ++ b ∷ []) (and_right (argument_inside r callee extent a.slot a.value) (arguments_inside r callee extent xs) i) h.1)
     where
       go : (o : Result Bound ErrorName) → ((b : Bound) → bounds_after y bound f (bs ++ b ∷ []) xs ≡ bounds_after x bindings f (bs ++ b ∷ []) xs)
           → then_with o (λ b. bounds_after y bound f (bs ++ b ∷ []) xs) ≡ then_with o (λ b. bounds_after x bindings f (bs ++ b ∷ []) xs)
@@ -97,13 +97,13 @@ AllFit Fit (a ∷ xs) = Fit a × AllFit Fit xs
 module _ (own : ℕ → Bool) (x : Memory) (bindings : List ℕ) (r callee : RoutineView) (f : Frame) (named : Named own x r f) (extent : ℕ) where
   -- the parameter has own cells from its slot on
   one_bound : (at : Address) (slot : ℕ) (v : ArgumentValue) (b : Bound) → ((k : ℕ) → slot + k ≤ extent → Spot own at k) → (is_component v ≡ true → Spot own at 1)
-      → argument_inside r callee extent slot v ≡ true → bound_at x bindings f v ≡ Ok b → HasBoundAt own at b
+      → argument_inside r callee extent slot v ≡ true → evaluate_argument x bindings f v ≡ Ok b → HasBoundAt own at b
   one_bound at slot (value.Scalar e low high) b room names i is =
-      given (HasBoundAt own at) b (value_at x f e) (λ z. then_with (ranged low high z) (λ w. Ok (Scalar w)))
-      (λ z z_is. given (HasBoundAt own at) b (ranged low high z) (λ w. Ok (Scalar w)) (λ w w_is same. same_bound (HasBoundAt own at) (Scalar w) b same (room 1 (fits_in slot 1 extent (and_right (expression_inside r e) (is_within slot 1 extent) i))))) is
+      given (HasBoundAt own at) b (value_at x f e) (λ z. then_with (check_range low high z) (λ w. Ok (Scalar w)))
+      (λ z z_is. given (HasBoundAt own at) b (check_range low high z) (λ w. Ok (Scalar w)) (λ w w_is same. same_bound (HasBoundAt own at) (Scalar w) b same (room 1 (fits_in slot 1 extent (and_right (expression_inside r e) (is_within slot 1 extent) i))))) is
   one_bound at slot (value.Set e low high) b room names i is =
-      given (HasBoundAt own at) b (set_at x f e) (λ s. then_with (sets.ranged low high s) (λ w. Ok (Set w)))
-      (λ s s_is. given (HasBoundAt own at) b (sets.ranged low high s) (λ w. Ok (Set w)) (λ w w_is same. same_bound (HasBoundAt own at) (Set w) b same (room SET_CELLS (fits_in slot SET_CELLS extent (and_right (set_inside r e) (is_within slot SET_CELLS extent) i))))) is
+      given (HasBoundAt own at) b (set_at x f e) (λ s. then_with (sets.check_members low high s) (λ w. Ok (Set w)))
+      (λ s s_is. given (HasBoundAt own at) b (sets.check_members low high s) (λ w. Ok (Set w)) (λ w w_is same. same_bound (HasBoundAt own at) (Set w) b same (room SET_CELLS (fits_in slot SET_CELLS extent (and_right (set_inside r e) (is_within slot SET_CELLS extent) i))))) is
   one_bound at slot (value.Copy source size) b room names i is =
       given (HasBoundAt own at) b (address_at x f source) (λ from. Ok (Copy from size))
       (λ from found same. same_bound (HasBoundAt own at) (Copy from size) b same (
@@ -118,14 +118,14 @@ module _ (own : ℕ → Bool) (x : Memory) (bindings : List ℕ) (r callee : Rou
   -- each with the others
   each_bound : (All : List Argument → List Bound → Type 0) → ((bs : List Bound) → All [] bs)
       → (One : Argument → Bound → Type 0) → ((a : Argument) (xs : List Argument) (b : Bound) (bs : List Bound) → One a b → All xs bs → All (a ∷ xs) (b ∷ bs))
-      → (Fit : Argument → Type 0) → ((a : Argument) (b : Bound) → Fit a → argument_inside r callee extent a.slot a.value ≡ true → bound_at x bindings f a.value ≡ Ok b → One a b)
+      → (Fit : Argument → Type 0) → ((a : Argument) (b : Bound) → Fit a → argument_inside r callee extent a.slot a.value ≡ true → evaluate_argument x bindings f a.value ≡ Ok b → One a b)
       → (xs : List Argument) (bs : List Bound) → AllFit Fit xs → arguments_inside r callee extent xs ≡ true → given_by x bindings f xs ≡ fine bs → All xs bs
   each_bound All none One both Fit one [] bs fit i is = none bs
   each_bound All none One both Fit one (a ∷ xs) bs fit i is =
-      go (λ rest. each_bound All none One both Fit one xs rest fit.1 (and_right (argument_inside r callee extent a.slot a.value) (arguments_inside r callee extent xs) i)) (bound_at x bindings f a.value) refl (given_by x bindings f xs) refl is
+      go (λ rest. each_bound All none One both Fit one xs rest fit.1 (and_right (argument_inside r callee extent a.slot a.value) (arguments_inside r callee extent xs) i)) (evaluate_argument x bindings f a.value) refl (given_by x bindings f xs) refl is
     where
       go : ((rest : List Bound) → given_by x bindings f xs ≡ fine rest → All xs rest)
-          → (o : Result Bound ErrorName) → bound_at x bindings f a.value ≡ o → (t : Result (List Bound) ErrorName) → given_by x bindings f xs ≡ t
+          → (o : Result Bound ErrorName) → evaluate_argument x bindings f a.value ≡ o → (t : Result (List Bound) ErrorName) → given_by x bindings f xs ≡ t
           → then_with o (λ b. then_with t (λ rest. fine (b ∷ rest))) ≡ fine bs → All (a ∷ xs) bs
       go others (Ok b) found (Ok rest) rest_is same =
           subst (All (a ∷ xs)) (bounds_are same) (both a xs b rest (one a b fit.0 (and_left (argument_inside r callee extent a.slot a.value) (arguments_inside r callee extent xs) i) found) (others rest rest_is))

@@ -24,8 +24,8 @@ use Rattle.cp_machine.specs.declared.process.Entry.{Entry}
 use Rattle.cp_machine.specs.declared.process.Entry.TheVariants.{Return, InitEnd}
 use Rattle.cp_machine.specs.declared.process.Status.TheVariants.{Ready}
 use Rattle.cp_machine.specs.declared.state.Phase.TheVariants.{Initialising, Initialised}
-use Rattle.cp_machine.specs.Calls.{call, called, called_by, called_in, continue, continue_at, continue_by, continued_from, continued_in, delay, delay_at, delayed_in, init_ended, left, opened, returned, start, start_inside as inside_started, start_process, started}
-use Rattle.cp_machine.specs.Kernel.{continued, delayed, entered, let_in, signalled}
+use Rattle.cp_machine.specs.Calls.{call, open_call, call_by, call_in, continue, continue_at, continue_by, continue_from, continue_in, delay, delay_at, delay_in, end_init, leave_frame, open_frame, return_to, start, start_inside as inside_started, start_process, start_by}
+use Rattle.cp_machine.specs.Kernel.{resume, delay_caller, enter_caller, let_in, signal}
 use Rattle.cp_machine.specs.Machine.{Machine, Thread, is_delayed_at, is_initialised, is_uninitialised, is_unstarted, monitor_at, phase_at, thread_at, with_phase, with_stack, with_status}
 use Rattle.cp_machine.specs.Memory.{address_of, arguments_of, component_of, frame_bound, memory_at, parameters_bound}
 use Rattle.cp_machine.specs.Stack.{from_end, rest_of}
@@ -61,27 +61,27 @@ module _ (f : Footprint) (r : Tables) (m n : Machine) (p : ℕ) (status : f.stat
   -- ---- calls
 
   pub called_laid : (routine component : ℕ) (arguments : List Argument) (bounds : List Bound) (result monitor : Option ℕ) (rest : List Entry) → ((g : Frame) → AllInFrame f.cells g arguments bounds)
-      → called r (over_n m) p routine component arguments bounds result monitor rest ≡ over_n (called r m p routine component arguments bounds result monitor rest)
+      → open_call r (over_n m) p routine component arguments bounds result monitor rest ≡ over_n (open_call r m p routine component arguments bounds result monitor rest)
   called_laid routine component arguments bounds result monitor rest all =
       let end = Return frame result monitor in
-      ap (λ (t : Thread). frame_bound (opened r (over_n m) p routine component (Return t.frame result monitor) rest) p arguments bounds) (thread_laid f n p status body m)
+      ap (λ (t : Thread). frame_bound (open_frame r (over_n m) p routine component (Return t.frame result monitor) rest) p arguments bounds) (thread_laid f n p status body m)
       ∙ ap (λ x. frame_bound x p arguments bounds) (opened_laid f n p status body r m routine component end rest)
-      ∙ frame_laid f n p status body (opened r m p routine component end rest) arguments bounds (all (thread_at (opened r m p routine component end rest).threads p).frame)
+      ∙ frame_laid f n p status body (open_frame r m p routine component end rest) arguments bounds (all (thread_at (open_frame r m p routine component end rest).threads p).frame)
 
   called_in_laid : (k : ComponentKind) (routine component : ℕ) (arguments : List Argument) (bounds : List Bound) (result : Option ℕ) (rest : List Entry) → HasKind f k → ((g : Frame) → AllInFrame f.cells g arguments bounds)
-      → AsBefore (called_in r (over_n m) p k routine component arguments bounds result rest) (called_in r m p k routine component arguments bounds result rest)
+      → AsBefore (call_in r (over_n m) p k routine component arguments bounds result rest) (call_in r m p k routine component arguments bounds result rest)
   called_in_laid (kind.Monitor monitor) routine component arguments bounds result rest own all =
       evented f m n p status body _ (Kernel Enter)
-      (ap (λ x. entered x p monitor) (called_laid routine component arguments bounds result (Some monitor) rest all)
-      ∙ entered_laid f n monitor own p status (called r m p routine component arguments bounds result (Some monitor) rest))
+      (ap (λ x. enter_caller x p monitor) (called_laid routine component arguments bounds result (Some monitor) rest all)
+      ∙ entered_laid f n monitor own p status (open_call r m p routine component arguments bounds result (Some monitor) rest))
   called_in_laid kind.Class routine component arguments bounds result rest own all = done f m n p status body _ (called_laid routine component arguments bounds result None rest all)
   called_in_laid (kind.Process number) routine component arguments bounds result rest own all = done f m n p status body _ (stacked f m n p status body rest)
 
   called_by_laid : (line : ℕ) (is_entry : Bool) (routine component : ℕ) (arguments : List Argument) (bounds : List Bound) (result : Option ℕ) (rest : List Entry) → HasComponent f r component → ((g : Frame) → AllInFrame f.cells g arguments bounds)
-      → AsBefore (called_by r (over_n m) p line is_entry routine component arguments bounds result rest) (called_by r m p line is_entry routine component arguments bounds result rest)
+      → AsBefore (call_by r (over_n m) p line is_entry routine component arguments bounds result rest) (call_by r m p line is_entry routine component arguments bounds result rest)
   called_by_laid line false routine component arguments bounds result rest own all = done f m n p status body _ (called_laid routine component arguments bounds result None rest all)
   called_by_laid line true routine component arguments bounds result rest own all =
-      ap (λ k. if is_initialised k then called_in r (over_n m) p (component_at r component).kind routine component arguments bounds result rest else fault (over_n m) p line NotInit) (phase_read f n m component own.status)
+      ap (λ k. if is_initialised k then call_in r (over_n m) p (component_at r component).kind routine component arguments bounds result rest else fault (over_n m) p line NotInit) (phase_read f n m component own.status)
       ∙ either f m n p status body (is_initialised (phase_at m component)) _ _ _ _ (called_in_laid (component_at r component).kind routine component arguments bounds result rest own.kind all) refl
 
   -- ---- starts
@@ -104,18 +104,18 @@ module _ (f : Footprint) (r : Tables) (m n : Machine) (p : ℕ) (status : f.stat
   start_inside_laid line routine component arguments bounds rest own all =
       let base = (component_at r component).base in
       let end = InitEnd frame component in
-      let entered_in = opened r m p routine component end rest in
-      ap (λ k. if is_uninitialised k then local (with_phase (parameters_bound (opened r (over_n m) p routine component (InitEnd (thread_at (over_n m).threads p).frame component) rest) p base arguments bounds) component Initialising) else fault (over_n m) p line InitTwice)
+      let entered_in = open_frame r m p routine component end rest in
+      ap (λ k. if is_uninitialised k then local (with_phase (parameters_bound (open_frame r (over_n m) p routine component (InitEnd (thread_at (over_n m).threads p).frame component) rest) p base arguments bounds) component Initialising) else fault (over_n m) p line InitTwice)
       (phase_read f n m component own)
       ∙ either f m n p status body (is_uninitialised (phase_at m component)) _ _ _ _
       (done f m n p status body _
-      (ap (λ (t : Thread). with_phase (parameters_bound (opened r (over_n m) p routine component (InitEnd t.frame component) rest) p base arguments bounds) component Initialising) (thread_laid f n p status body m)
+      (ap (λ (t : Thread). with_phase (parameters_bound (open_frame r (over_n m) p routine component (InitEnd t.frame component) rest) p base arguments bounds) component Initialising) (thread_laid f n p status body m)
       ∙ ap (λ x. with_phase (parameters_bound x p base arguments bounds) component Initialising) (opened_laid f n p status body r m routine component end rest)
       ∙ ap (λ x. with_phase x component Initialising) (parameters_laid f n p status body entered_in base arguments bounds all)
       ∙ phase_laid f n (parameters_bound entered_in p base arguments bounds) component Initialising own)) refl
 
   started_laid : (line : ℕ) (k : ComponentKind) (routine component : ℕ) (arguments : List Argument) (bounds : List Bound) (rest : List Entry) → HasKind f k → f.components component ≡ true → AllInComponent f.cells (component_at r component).base arguments bounds
-      → AsBefore (started r (over_n m) p line k routine component arguments bounds rest) (started r m p line k routine component arguments bounds rest)
+      → AsBefore (start_by r (over_n m) p line k routine component arguments bounds rest) (start_by r m p line k routine component arguments bounds rest)
   started_laid line (kind.Process q) routine component arguments bounds rest own phase all = start_process_laid line q component arguments bounds rest own all
   started_laid line (kind.Monitor monitor) routine component arguments bounds rest own phase all = start_inside_laid line routine component arguments bounds rest phase all
   started_laid line kind.Class routine component arguments bounds rest own phase all = start_inside_laid line routine component arguments bounds rest phase all
@@ -164,52 +164,52 @@ module _ (f : Footprint) (r : Tables) (m n : Machine) (p : ℕ) (status : f.stat
   module _ (lines : (k : ℕ) → f.monitors k ≡ true → AllOwn f.statuses (monitor_at m k).line)
       (mine : (cell : ℕ) → f.cells cell ≡ true → (q : ℕ) → is_delayed_at cell (thread_at m.threads q).status ≡ true → f.statuses q ≡ true)
       (theirs : (cell : ℕ) → f.cells cell ≡ true → (q : ℕ) → is_delayed_at cell (thread_at n.threads q).status ≡ true → f.statuses q ≡ true) where
-    pub returned_laid : (caller : Frame) (result monitor : Option ℕ) (es : List Entry) → IfSome monitor (λ k. f.monitors k ≡ true) → AsBefore (returned r (over_n m) p caller result monitor es) (returned r m p caller result monitor es)
+    pub returned_laid : (caller : Frame) (result monitor : Option ℕ) (es : List Entry) → IfSome monitor (λ k. f.monitors k ≡ true) → AsBefore (return_to r (over_n m) p caller result monitor es) (return_to r m p caller result monitor es)
     returned_laid caller result None es own = done f m n p status body _ (left_laid f n p status body r m caller result es)
     returned_laid caller result (Some k) es own =
         evented f m n p status body _ (Kernel Leave)
         (ap (λ x. let_in x k) (left_laid f n p status body r m caller result es)
-        ∙ let_in_laid f n k own (left r m p caller result es) (lines k own))
+        ∙ let_in_laid f n k own (leave_frame r m p caller result es) (lines k own))
 
-    pub init_ended_laid : (caller : Frame) (component : ℕ) (es : List Entry) → f.components component ≡ true → AsBefore (init_ended r (over_n m) p caller component es) (init_ended r m p caller component es)
+    pub init_ended_laid : (caller : Frame) (component : ℕ) (es : List Entry) → f.components component ≡ true → AsBefore (end_init r (over_n m) p caller component es) (end_init r m p caller component es)
     init_ended_laid caller component es own =
         done f m n p status body _
         (ap (λ x. with_phase x component Initialised) (left_laid f n p status body r m caller None es)
-        ∙ phase_laid f n (left r m p caller None es) component Initialised own)
+        ∙ phase_laid f n (leave_frame r m p caller None es) component Initialised own)
 
     -- the stack alone is another one
     waits_still : (stack : List Entry) (cell : ℕ) → f.cells cell ≡ true → (q : ℕ) → is_delayed_at cell (thread_at (with_stack m p stack).threads q).status ≡ true → f.statuses q ≡ true
     waits_still stack cell own q h = mine cell own q (sym (ap (is_delayed_at cell) (status_stays m.threads p q (record (thread_at m.threads p) { stack = stack }) refl)) ∙ h)
 
-    delayed_in_laid : (line cell : ℕ) (k : ComponentKind) (rest : List Entry) → HasKind f k → f.cells cell ≡ true → AsBefore (delayed_in (over_n m) p line cell k rest) (delayed_in m p line cell k rest)
+    delayed_in_laid : (line cell : ℕ) (k : ComponentKind) (rest : List Entry) → HasKind f k → f.cells cell ≡ true → AsBefore (delay_in (over_n m) p line cell k rest) (delay_in m p line cell k rest)
     delayed_in_laid line cell (kind.Monitor k) rest own cell_own =
-        ap (λ z. if is_true z then fault (over_n m) p line QueueInUse else (let s : Stepped = record { machine = delayed (with_stack (over_n m) p rest) p k cell; event = Kernel Delay } in s)) (cell_read f n m cell cell_own)
+        ap (λ z. if is_true z then fault (over_n m) p line QueueInUse else (let s : Stepped = record { machine = delay_caller (with_stack (over_n m) p rest) p k cell; event = Kernel Delay } in s)) (cell_read f n m cell cell_own)
         ∙ either f m n p status body (is_true (slice_index_or m.permanents cell (pos 0))) _ _ _ _ refl
         (evented f m n p status body _ (Kernel Delay)
-        (ap (λ x. delayed x p k cell) (stacked f m n p status body rest) ∙ delayed_laid f n k own p status (with_stack m p rest) cell cell_own (lines k own)))
+        (ap (λ x. delay_caller x p k cell) (stacked f m n p status body rest) ∙ delayed_laid f n k own p status (with_stack m p rest) cell cell_own (lines k own)))
     delayed_in_laid line cell kind.Class rest own cell_own = done f m n p status body _ (stacked f m n p status body rest)
     delayed_in_laid line cell (kind.Process number) rest own cell_own = done f m n p status body _ (stacked f m n p status body rest)
 
     delay_at_laid : (line : ℕ) (rest : List Entry) (a : Address) → HasKind f (component_at r frame.component).kind → Spot f.cells a 1 → AsBefore (delay_at r (over_n m) p line rest a) (delay_at r m p line rest a)
     delay_at_laid line rest (address.Permanent cell) own spot =
-        ap (λ (t : Thread). delayed_in (over_n m) p line cell (component_at r t.frame.component).kind rest) (thread_laid f n p status body m)
+        ap (λ (t : Thread). delay_in (over_n m) p line cell (component_at r t.frame.component).kind rest) (thread_laid f n p status body m)
         ∙ delayed_in_laid line cell (component_at r frame.component).kind rest own (spot.own_cells cell (omega (arith)) (omega (arith)))
     delay_at_laid line rest (address.Local cell) own spot = done f m n p status body _ (stacked f m n p status body rest)
 
-    continued_from_laid : (stack : List Entry) (cell : ℕ) (es : List Entry) → f.cells cell ≡ true → HasEnd f es → AsBefore (continued_from r (over_n (with_stack m p stack)) p cell es) (continued_from r (with_stack m p stack) p cell es)
+    continued_from_laid : (stack : List Entry) (cell : ℕ) (es : List Entry) → f.cells cell ≡ true → HasEnd f es → AsBefore (continue_from r (over_n (with_stack m p stack)) p cell es) (continue_from r (with_stack m p stack) p cell es)
     continued_from_laid stack cell (Return caller result (Some k) ∷ es) cell_own own =
-        let after = left r (with_stack m p stack) p caller result es in
+        let after = leave_frame r (with_stack m p stack) p caller result es in
         evented f m n p status body _ (Kernel Continue)
-        (ap (λ x. continued x k cell) (left_laid f n p status body r (with_stack m p stack) caller result es)
+        (ap (λ x. resume x k cell) (left_laid f n p status body r (with_stack m p stack) caller result es)
         ∙ continued_laid f n k own after cell cell_own
         (λ q h. waits_still stack cell cell_own q (sym (ap (is_delayed_at cell) (status_stays (with_stack m p stack).threads p q _ refl)) ∙ h))
         (theirs cell cell_own) (lines k own))
     continued_from_laid stack cell _ cell_own own = refl
 
-    continued_in_laid : (cell : ℕ) (k : ComponentKind) (rest : List Entry) → HasKind f k → f.cells cell ≡ true → AsBefore (continued_in (over_n m) p cell k rest) (continued_in m p cell k rest)
+    continued_in_laid : (cell : ℕ) (k : ComponentKind) (rest : List Entry) → HasKind f k → f.cells cell ≡ true → AsBefore (continue_in (over_n m) p cell k rest) (continue_in m p cell k rest)
     continued_in_laid cell (kind.Monitor k) rest own cell_own =
         evented f m n p status body _ (Kernel Continue)
-        (ap (λ x. signalled x p k cell) (stacked f m n p status body rest)
+        (ap (λ x. signal x p k cell) (stacked f m n p status body rest)
         ∙ signalled_laid f n k own (with_stack m p rest) cell cell_own (waits_still rest cell cell_own) (theirs cell cell_own) p status)
     continued_in_laid cell kind.Class rest own cell_own = done f m n p status body _ (stacked f m n p status body rest)
     continued_in_laid cell (kind.Process number) rest own cell_own = done f m n p status body _ (stacked f m n p status body rest)
@@ -217,12 +217,12 @@ module _ (f : Footprint) (r : Tables) (m n : Machine) (p : ℕ) (status : f.stat
     continue_by_laid : (g : Signals) (cell : ℕ) (next : Option ℕ) (es : List Entry) → HasKind f (component_at r frame.component).kind → HasEnd f (from_end es) → f.cells cell ≡ true
         → AsBefore (continue_by g r (over_n m) p cell next es) (continue_by g r m p cell next es)
     continue_by_laid signals.Return cell next es own end cell_own =
-        ap (λ x. continued_from r x p cell (from_end es)) (stacked f m n p status body (from_end es)) ∙ continued_from_laid (from_end es) cell (from_end es) cell_own end
+        ap (λ x. continue_from r x p cell (from_end es)) (stacked f m n p status body (from_end es)) ∙ continued_from_laid (from_end es) cell (from_end es) cell_own end
     continue_by_laid signals.Continue cell next es own end cell_own =
-        ap (λ (t : Thread). continued_in (over_n m) p cell (component_at r t.frame.component).kind (rest_of next es)) (thread_laid f n p status body m)
+        ap (λ (t : Thread). continue_in (over_n m) p cell (component_at r t.frame.component).kind (rest_of next es)) (thread_laid f n p status body m)
         ∙ continued_in_laid cell (component_at r frame.component).kind (rest_of next es) own cell_own
     continue_by_laid signals.Wait cell next es own end cell_own =
-        ap (λ (t : Thread). continued_in (over_n m) p cell (component_at r t.frame.component).kind (rest_of next es)) (thread_laid f n p status body m)
+        ap (λ (t : Thread). continue_in (over_n m) p cell (component_at r t.frame.component).kind (rest_of next es)) (thread_laid f n p status body m)
         ∙ continued_in_laid cell (component_at r frame.component).kind (rest_of next es) own cell_own
 
     continue_at_laid : (next : Option ℕ) (es : List Entry) (a : Address) → HasKind f (component_at r frame.component).kind → HasEnd f (from_end es) → Spot f.cells a 1 → AsBefore (continue_at r (over_n m) p next es a) (continue_at r m p next es a)

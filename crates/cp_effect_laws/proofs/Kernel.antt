@@ -10,7 +10,7 @@ use Rattle.cp_machine.specs.declared.discipline.Signals.{Signals}
 use Rattle.cp_machine.specs.declared.discipline.Signals.TheVariants as signals
 use Rattle.cp_machine.specs.declared.process.Status.{Status}
 use Rattle.cp_machine.specs.declared.process.Status.TheVariants.{Ready, AtGate, Delayed}
-use Rattle.cp_machine.specs.Kernel.{changed_places, continued, delayed, entered, entered_by, first_in, freed, goes_in, joined, let_in, let_in_by, one_in, resumed, signalled, signalled_by, waits_in}
+use Rattle.cp_machine.specs.Kernel.{change_places, resume, delay_caller, enter_caller, enter_by, first_in, free, goes_in, join_line, let_in, let_in_by, one_in, go_on_inside, signal, signal_by, waits_in}
 use Rattle.cp_machine.specs.Machine.{Machine, Thread, is_delayed_at, monitor_at, no_thread, thread_at, with_monitor, with_pending, with_permanents, with_status}
 use Rattle.cp_effect_laws.specs.Footprint.{Footprint, laid_over, threads_by}
 use Rattle.cp_effect_laws.proofs.Machines.{cell_laid, monitor_laid, monitor_read, status_laid}
@@ -55,7 +55,7 @@ module _ (f : Footprint) (n : Machine) (k : ℕ) (here : f.monitors k ≡ true) 
   abbrev laid : Machine → Machine
   laid m = laid_over f m n
 
-  freed_laid : (m : Machine) (line : List ℕ) → freed (laid m) k line ≡ laid (freed m k line)
+  freed_laid : (m : Machine) (line : List ℕ) → free (laid m) k line ≡ laid (free m k line)
   freed_laid m line = monitor_laid f n m k (record { holder = None; line = line }) here
 
   pub goes_in_laid : (m : Machine) (q : ℕ) (line : List ℕ) → f.statuses q ≡ true → goes_in (laid m) k q line ≡ laid (goes_in m k q line)
@@ -81,7 +81,7 @@ module _ (f : Footprint) (n : Machine) (k : ℕ) (here : f.monitors k ≡ true) 
 
   -- the caller's status is own
   module _ (p : ℕ) (status : f.statuses p ≡ true) where
-    entered_by_laid : (m : Machine) (holder : Option ℕ) → entered_by holder (laid m) p k ≡ laid (entered_by holder m p k)
+    entered_by_laid : (m : Machine) (holder : Option ℕ) → enter_by holder (laid m) p k ≡ laid (enter_by holder m p k)
     entered_by_laid m None =
         ap (λ x. with_monitor (laid m) k (record { holder = Some p; line = x.line })) (monitor_read f n m k here)
         ∙ monitor_laid f n m k (record { holder = Some p; line = (monitor_at m k).line }) here
@@ -90,10 +90,10 @@ module _ (f : Footprint) (n : Machine) (k : ℕ) (here : f.monitors k ≡ true) 
         ∙ ap (λ x. with_monitor x k (record { holder = Some q; line = (monitor_at m k).line ++ p ∷ [] })) (status_laid f n m p (AtGate k) status)
         ∙ monitor_laid f n (with_status m p (AtGate k)) k (record { holder = Some q; line = (monitor_at m k).line ++ p ∷ [] }) here
 
-    pub entered_laid : (m : Machine) → entered (laid m) p k ≡ laid (entered m p k)
-    entered_laid m = ap (λ x. entered_by x.holder (laid m) p k) (monitor_read f n m k here) ∙ entered_by_laid m (monitor_at m k).holder
+    pub entered_laid : (m : Machine) → enter_caller (laid m) p k ≡ laid (enter_caller m p k)
+    entered_laid m = ap (λ x. enter_by x.holder (laid m) p k) (monitor_read f n m k here) ∙ entered_by_laid m (monitor_at m k).holder
 
-    pub delayed_laid : (m : Machine) (cell : ℕ) → f.cells cell ≡ true → AllOwn f.statuses (monitor_at m k).line → delayed (laid m) p k cell ≡ laid (delayed m p k cell)
+    pub delayed_laid : (m : Machine) (cell : ℕ) → f.cells cell ≡ true → AllOwn f.statuses (monitor_at m k).line → delay_caller (laid m) p k cell ≡ laid (delay_caller m p k cell)
     delayed_laid m cell own line =
         let marked = with_permanents m (slice_set m.permanents cell (pos 1)) in
         ap (λ x. let_in (with_status x p (Delayed cell)) k) (cell_laid f n m cell (pos 1) own)
@@ -113,37 +113,37 @@ module _ (f : Footprint) (n : Machine) (k : ℕ) (here : f.monitors k ≡ true) 
     abbrev emptied : Machine
     emptied = with_permanents m (slice_set m.permanents cell (pos 0))
 
-    resumed_laid : (w : Option ℕ) → waits_in m cell ≡ w → AllOwn f.statuses (monitor_at m k).line → resumed w (laid emptied) k ≡ laid (resumed w emptied k)
+    resumed_laid : (w : Option ℕ) → waits_in m cell ≡ w → AllOwn f.statuses (monitor_at m k).line → go_on_inside w (laid emptied) k ≡ laid (go_on_inside w emptied k)
     resumed_laid None is line = let_in_laid emptied line
     resumed_laid (Some q) is line = ap (λ x. goes_in (laid emptied) k q x.line) (monitor_read f n emptied k here) ∙ goes_in_laid emptied q (monitor_at m k).line (waiter_own q is)
 
-    pub continued_laid : AllOwn f.statuses (monitor_at m k).line → continued (laid m) k cell ≡ laid (continued m k cell)
+    pub continued_laid : AllOwn f.statuses (monitor_at m k).line → resume (laid m) k cell ≡ laid (resume m k cell)
     continued_laid line =
-        ap (λ w. resumed w (with_permanents (laid m) (slice_set (laid m).permanents cell (pos 0))) k) waits_laid
-        ∙ ap (λ x. resumed (waits_in m cell) x k) (cell_laid f n m cell (pos 0) own)
+        ap (λ w. go_on_inside w (with_permanents (laid m) (slice_set (laid m).permanents cell (pos 0))) k) waits_laid
+        ∙ ap (λ x. go_on_inside (waits_in m cell) x k) (cell_laid f n m cell (pos 0) own)
         ∙ resumed_laid (waits_in m cell) refl line
 
     module _ (p : ℕ) (status : f.statuses p ≡ true) where
-      joined_laid : (q : ℕ) → f.statuses q ≡ true → joined (laid emptied) k q ≡ laid (joined emptied k q)
+      joined_laid : (q : ℕ) → f.statuses q ≡ true → join_line (laid emptied) k q ≡ laid (join_line emptied k q)
       joined_laid q own_status =
           ap (λ x. with_monitor (with_status (laid emptied) q (AtGate k)) k (record { holder = x.holder; line = x.line ++ q ∷ [] })) (monitor_read f n emptied k here)
           ∙ ap (λ x. with_monitor x k (record { holder = (monitor_at m k).holder; line = (monitor_at m k).line ++ q ∷ [] })) (status_laid f n emptied q (AtGate k) own_status)
           ∙ monitor_laid f n (with_status emptied q (AtGate k)) k (record { holder = (monitor_at m k).holder; line = (monitor_at m k).line ++ q ∷ [] }) here
 
-      changed_laid : (q : ℕ) → f.statuses q ≡ true → changed_places (laid emptied) k p q ≡ laid (changed_places emptied k p q)
+      changed_laid : (q : ℕ) → f.statuses q ≡ true → change_places (laid emptied) k p q ≡ laid (change_places emptied k p q)
       changed_laid q own_status =
           ap (λ x. goes_in (with_status (laid emptied) p (AtGate k)) k q (p ∷ x.line)) (monitor_read f n emptied k here)
           ∙ ap (λ x. goes_in x k q (p ∷ (monitor_at m k).line)) (status_laid f n emptied p (AtGate k) status)
           ∙ goes_in_laid (with_status emptied p (AtGate k)) q (p ∷ (monitor_at m k).line) own_status
 
-      signalled_by_laid : (g : Signals) (w : Option ℕ) → waits_in m cell ≡ w → signalled_by g w (laid emptied) p k ≡ laid (signalled_by g w emptied p k)
+      signalled_by_laid : (g : Signals) (w : Option ℕ) → waits_in m cell ≡ w → signal_by g w (laid emptied) p k ≡ laid (signal_by g w emptied p k)
       signalled_by_laid g None is = refl
       signalled_by_laid signals.Wait (Some q) is = changed_laid q (waiter_own q is)
       signalled_by_laid signals.Return (Some q) is = joined_laid q (waiter_own q is)
       signalled_by_laid signals.Continue (Some q) is = joined_laid q (waiter_own q is)
 
-      pub signalled_laid : signalled (laid m) p k cell ≡ laid (signalled m p k cell)
+      pub signalled_laid : signal (laid m) p k cell ≡ laid (signal m p k cell)
       signalled_laid =
-          ap (λ w. signalled_by m.discipline.signals w (with_permanents (laid m) (slice_set (laid m).permanents cell (pos 0))) p k) waits_laid
-          ∙ ap (λ x. signalled_by m.discipline.signals (waits_in m cell) x p k) (cell_laid f n m cell (pos 0) own)
+          ap (λ w. signal_by m.discipline.signals w (with_permanents (laid m) (slice_set (laid m).permanents cell (pos 0))) p k) waits_laid
+          ∙ ap (λ x. signal_by m.discipline.signals (waits_in m cell) x p k) (cell_laid f n m cell (pos 0) own)
           ∙ signalled_by_laid m.discipline.signals (waits_in m cell) refl

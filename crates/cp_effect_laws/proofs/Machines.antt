@@ -7,15 +7,15 @@ use Rattle.cp_store.specs.declared.argument.Bound.{Bound}
 use Rattle.cp_store.specs.declared.memory.Address.{Address}
 use Rattle.cp_store.specs.declared.memory.Frame.{Frame}
 use Rattle.cp_store.specs.declared.set.SetValue.{SetValue}
-use Rattle.cp_store.specs.Arguments.{bindings_after, bound_in_component, bound_in_frame}
+use Rattle.cp_store.specs.Arguments.{bindings_after, bind_component, bind_frame}
 use Rattle.cp_store.specs.Memory.{Memory, put_copy, put_number}
 use Rattle.cp_machine.specs.declared.process.Entry.{Entry}
 use Rattle.cp_machine.specs.declared.process.Status.{Status}
 use Rattle.cp_machine.specs.declared.state.Phase.{Phase}
 use Rattle.cp_machine.specs.declared.state.Phase.TheVariants.{Uninitialised}
-use Rattle.cp_machine.specs.Calls.{frame_behind, given_up, left, opened}
+use Rattle.cp_machine.specs.Calls.{frame_behind, give_up_frame, leave_frame, open_frame}
 use Rattle.cp_machine.specs.Machine.{Machine, Thread, Monitor, thread_at, monitor_at, no_monitor, phase_at, with_bindings, with_thread, with_stack, with_status, with_monitor, with_phase, with_permanents}
-use Rattle.cp_machine.specs.Memory.{set_written, memory_at, with_memory, number_put, set_put, cells_put, frame_bound, frame_opened, parameters_bound}
+use Rattle.cp_machine.specs.Memory.{set_written, memory_at, with_memory, number_put, set_put, cells_put, frame_bound, add_frame, parameters_bound}
 use Rattle.cp_machine.specs.Stack.{rest_of}
 use Rattle.cp_effect_laws.specs.Footprint.{Footprint, laid_over, thread_by, threads_by}
 use Rattle.cp_effect_laws.proofs.Overlays.{own_read, own_set}
@@ -124,16 +124,16 @@ module _ (f : Footprint) (n : Machine) where
     cells_laid m to from size h k = becomes_laid m (λ x g. put_copy x to from size) (copy_over f.cells n.permanents (memory_at m p) to from size h k)
 
     pub frame_laid : (m : Machine) (xs : List Argument) (bs : List Bound) → AllInFrame f.cells (thread_at m.threads p).frame xs bs → frame_bound (laid m) p xs bs ≡ laid (frame_bound m p xs bs)
-    frame_laid m xs bs h = becomes_laid m (λ x g. bound_in_frame x g xs bs) (frame_over f.cells n.permanents (memory_at m p) (thread_at m.threads p).frame xs bs h)
+    frame_laid m xs bs h = becomes_laid m (λ x g. bind_frame x g xs bs) (frame_over f.cells n.permanents (memory_at m p) (thread_at m.threads p).frame xs bs h)
 
     pub parameters_laid : (m : Machine) (base : ℕ) (xs : List Argument) (bs : List Bound) → AllInComponent f.cells base xs bs → parameters_bound (laid m) p base xs bs ≡ laid (parameters_bound m p base xs bs)
     parameters_laid m base xs bs h =
-        ap (λ k. with_bindings k (bindings_after (laid m).bindings base xs bs)) (becomes_laid m (λ x g. bound_in_component x base xs bs) (component_over f.cells n.permanents (memory_at m p) base xs bs h))
-        ∙ ap (λ l. with_bindings (laid (with_memory m p (bound_in_component (memory_at m p) base xs bs))) l) (bindings_over f.cells m.bindings n.bindings base xs bs h)
+        ap (λ k. with_bindings k (bindings_after (laid m).bindings base xs bs)) (becomes_laid m (λ x g. bind_component x base xs bs) (component_over f.cells n.permanents (memory_at m p) base xs bs h))
+        ∙ ap (λ l. with_bindings (laid (with_memory m p (bind_component (memory_at m p) base xs bs))) l) (bindings_over f.cells m.bindings n.bindings base xs bs h)
 
-    pub opened_laid : (r : Tables) (m : Machine) (routine component : ℕ) (end : Entry) (rest : List Entry) → opened r (laid m) p routine component end rest ≡ laid (opened r m p routine component end rest)
+    pub opened_laid : (r : Tables) (m : Machine) (routine component : ℕ) (end : Entry) (rest : List Entry) → open_frame r (laid m) p routine component end rest ≡ laid (open_frame r m p routine component end rest)
     opened_laid r m routine component end rest =
-        changed_laid m (λ t. frame_opened (record t { frame = frame_behind r t routine component; stack = rest_of (routine_at r routine).body (end ∷ rest) }) (routine_at r routine))
+        changed_laid m (λ t. add_frame (record t { frame = frame_behind r t routine component; stack = rest_of (routine_at r routine).body (end ∷ rest) }) (routine_at r routine))
 
-    pub left_laid : (r : Tables) (m : Machine) (caller : Frame) (result : Option ℕ) (es : List Entry) → left r (laid m) p caller result es ≡ laid (left r m p caller result es)
-    left_laid r m caller result es = changed_laid m (λ t. given_up r t caller result es)
+    pub left_laid : (r : Tables) (m : Machine) (caller : Frame) (result : Option ℕ) (es : List Entry) → leave_frame r (laid m) p caller result es ≡ laid (leave_frame r m p caller result es)
+    left_laid r m caller result es = changed_laid m (λ t. give_up_frame r t caller result es)

@@ -16,11 +16,11 @@ use Rattle.cp_store.specs.declared.error.ErrorName.{ErrorName}
 use Rattle.cp_store.specs.declared.memory.Address.{Address}
 use Rattle.cp_store.specs.declared.memory.Address.TheVariants.{Permanent, Local}
 use Rattle.cp_store.specs.declared.memory.Frame.{Frame}
-use Rattle.cp_store.specs.Memory.{Memory, cell_at, moved}
+use Rattle.cp_store.specs.Memory.{Memory, cell_at, address_onward}
 use Rattle.cp_store.specs.Places as places
-use Rattle.cp_store.specs.Places.{ToValue, ToSet, ToElement, ToAddress, origin_address, loaded, value_at, set_at, address_at, element_at, through}
+use Rattle.cp_store.specs.Places.{ToValue, ToSet, ToElement, ToAddress, origin_address, load_value, value_at, set_at, address_at, element_at, through}
 use Rattle.cp_store.specs.Sets as sets
-use Rattle.cp_store.specs.Values.{then_with, ranged, truth, is_true, negated, absolute, successor, predecessor, calculated, combined, compared}
+use Rattle.cp_store.specs.Values.{then_with, check_range, truth, is_true, negate, absolute, successor, predecessor, calculate, apply_logic, compare}
 use Rattle.cp_store.proofs.Reaches.{and_left, and_right}
 use Rattle.cp_effect_laws.proofs.Lying.{Lies, Named, lies_fewer, lies_further, place_lies}
 
@@ -38,20 +38,20 @@ module _ (own : ℕ → Bool) (x : Memory) (others : List ℤ) (same : (k : ℕ)
 
     pair_same : (at : Address) → Lies own x at 2 → sets.pair_at y at ≡ sets.pair_at x at
     pair_same at h =
-        ap (λ a. a + sets.word_at y (moved at 1) * 2 ^ 16) (word_same at (lies_fewer own x at 2 1 (omega (arith)) h))
-        ∙ ap (λ a. sets.word_at x at + a * 2 ^ 16) (word_same (moved at 1) (lies_further own x at 1 1 few h))
+        ap (λ a. a + sets.word_at y (address_onward at 1) * 2 ^ 16) (word_same at (lies_fewer own x at 2 1 (omega (arith)) h))
+        ∙ ap (λ a. sets.word_at x at + a * 2 ^ 16) (word_same (address_onward at 1) (lies_further own x at 1 1 few h))
 
     quad_same : (at : Address) → Lies own x at 4 → sets.quad_at y at ≡ sets.quad_at x at
     quad_same at h =
-        ap (λ a. a + sets.pair_at y (moved at 2) * 2 ^ 32) (pair_same at (lies_fewer own x at 4 2 (omega (arith)) h))
-        ∙ ap (λ a. sets.pair_at x at + a * 2 ^ 32) (pair_same (moved at 2) (lies_further own x at 2 2 few h))
+        ap (λ a. a + sets.pair_at y (address_onward at 2) * 2 ^ 32) (pair_same at (lies_fewer own x at 4 2 (omega (arith)) h))
+        ∙ ap (λ a. sets.pair_at x at + a * 2 ^ 32) (pair_same (address_onward at 2) (lies_further own x at 2 2 few h))
 
-    members_same : (at : Address) → Lies own x at 8 → sets.quad_at y at + sets.quad_at y (moved at 4) * 2 ^ 64 ≡ sets.quad_at x at + sets.quad_at x (moved at 4) * 2 ^ 64
+    members_same : (at : Address) → Lies own x at 8 → sets.quad_at y at + sets.quad_at y (address_onward at 4) * 2 ^ 64 ≡ sets.quad_at x at + sets.quad_at x (address_onward at 4) * 2 ^ 64
     members_same at h =
-        ap (λ a. a + sets.quad_at y (moved at 4) * 2 ^ 64) (quad_same at (lies_fewer own x at 8 4 (omega (arith)) h))
-        ∙ ap (λ a. sets.quad_at x at + a * 2 ^ 64) (quad_same (moved at 4) (lies_further own x at 4 4 few h))
+        ap (λ a. a + sets.quad_at y (address_onward at 4) * 2 ^ 64) (quad_same at (lies_fewer own x at 8 4 (omega (arith)) h))
+        ∙ ap (λ a. sets.quad_at x at + a * 2 ^ 64) (quad_same (address_onward at 4) (lies_further own x at 4 4 few h))
 
-    pub stored_same : (at : Address) → Lies own x at 8 → sets.stored_at y at ≡ sets.stored_at x at
+    pub stored_same : (at : Address) → Lies own x at 8 → sets.load_set y at ≡ sets.load_set x at
     stored_same at h = ap (λ k. record { members = k }) (members_same at h)
 
   module _ (r : RoutineView) (f : Frame) (named : Named own x r f) where
@@ -162,33 +162,33 @@ module _ (own : ℕ → Bool) (x : Memory) (others : List ℤ) (same : (k : ℕ)
     both_same : {A B C : Type 0} (go : A → B → Result C ErrorName) (a b : Result A ErrorName) (c d : Result B ErrorName) → a ≡ b → c ≡ d → then_with a (λ v. then_with c (λ w. go v w)) ≡ then_with b (λ v. then_with d (λ w. go v w))
     both_same go a b c d e k = ap (λ o. then_with o (λ v. then_with c (λ w. go v w))) e ∙ ap (λ o. then_with b (λ v. then_with o (λ w. go v w))) k
 
-    loaded_same : (p : Place) → IsPlace p → has 1 (place_room r p) ≡ true → loaded y (address_at y f p) ≡ loaded x (address_at x f p)
-    loaded_same p place room = ap (loaded y) (place 1 room) ∙ go (address_at x f p) refl
+    loaded_same : (p : Place) → IsPlace p → has 1 (place_room r p) ≡ true → load_value y (address_at y f p) ≡ load_value x (address_at x f p)
+    loaded_same p place room = ap (load_value y) (place 1 room) ∙ go (address_at x f p) refl
       where
-        go : (o : Result Address ErrorName) → address_at x f p ≡ o → loaded y o ≡ loaded x o
+        go : (o : Result Address ErrorName) → address_at x f p ≡ o → load_value y o ≡ load_value x o
         go (Ok a) found = ap Ok (cell_same a (place_lies own x r f named p a 1 room found))
         go (Err e) found = refl
 
-    stored_place : (p : Place) → IsPlace p → has SET_CELLS (place_room r p) ≡ true → then_with (address_at y f p) (λ at. Ok (sets.stored_at y at)) ≡ then_with (address_at x f p) (λ at. Ok (sets.stored_at x at))
-    stored_place p place room = ap (λ o. then_with o (λ at. Ok (sets.stored_at y at))) (place SET_CELLS room) ∙ go (address_at x f p) refl
+    stored_place : (p : Place) → IsPlace p → has SET_CELLS (place_room r p) ≡ true → then_with (address_at y f p) (λ at. Ok (sets.load_set y at)) ≡ then_with (address_at x f p) (λ at. Ok (sets.load_set x at))
+    stored_place p place room = ap (λ o. then_with o (λ at. Ok (sets.load_set y at))) (place SET_CELLS room) ∙ go (address_at x f p) refl
       where
-        go : (o : Result Address ErrorName) → address_at x f p ≡ o → then_with o (λ at. Ok (sets.stored_at y at)) ≡ then_with o (λ at. Ok (sets.stored_at x at))
+        go : (o : Result Address ErrorName) → address_at x f p ≡ o → then_with o (λ at. Ok (sets.load_set y at)) ≡ then_with o (λ at. Ok (sets.load_set x at))
         go (Ok a) found = ap Ok (stored_same named.covers.permanents_few a (place_lies own x r f named p a SET_CELLS room found))
         go (Err e) found = refl
 
     value_layer : (z : OrdinalExpression-F Values Sets Elements Variables) → IsValue (roll-OrdinalExpression (bare_expression z))
     value_layer (OrdinalExpression-F.Number n) = value_by (OrdinalExpression-F.Number n) (λ i. refl)
     value_layer (OrdinalExpression-F.«OrdinalExpression::Load» p) = value_by (bare_expression (OrdinalExpression-F.«OrdinalExpression::Load» p)) (λ i. loaded_same p.0 p.1 i)
-    value_layer (OrdinalExpression-F.Negate e) = value_by (bare_expression (OrdinalExpression-F.Negate e)) (λ i. ap (λ o. then_with o negated) (e.value.1 i))
+    value_layer (OrdinalExpression-F.Negate e) = value_by (bare_expression (OrdinalExpression-F.Negate e)) (λ i. ap (λ o. then_with o negate) (e.value.1 i))
     value_layer (OrdinalExpression-F.Absolute e) = value_by (bare_expression (OrdinalExpression-F.Absolute e)) (λ i. ap (λ o. then_with o absolute) (e.value.1 i))
     value_layer (OrdinalExpression-F.Not e) = value_by (bare_expression (OrdinalExpression-F.Not e)) (λ i. ap (λ o. then_with o (λ v. Ok (truth (not (is_true v))))) (e.value.1 i))
     value_layer (OrdinalExpression-F.Successor e last) = value_by (bare_expression (OrdinalExpression-F.Successor e last)) (λ i. ap (λ o. then_with o (successor last)) (e.value.1 i))
     value_layer (OrdinalExpression-F.Predecessor e first) = value_by (bare_expression (OrdinalExpression-F.Predecessor e first)) (λ i. ap (λ o. then_with o (predecessor first)) (e.value.1 i))
-    value_layer (OrdinalExpression-F.Character e) = value_by (bare_expression (OrdinalExpression-F.Character e)) (λ i. ap (λ o. then_with o (ranged (pos 0) (pos 127))) (e.value.1 i))
-    value_layer (OrdinalExpression-F.Arithmetic o a b) = value_by (bare_expression (OrdinalExpression-F.Arithmetic o a b)) (λ i. both_same (calculated o) _ _ _ _ (a.value.1 (and_left _ _ i)) (b.value.1 (and_right _ _ i)))
-    value_layer (OrdinalExpression-F.Logic o a b) = value_by (bare_expression (OrdinalExpression-F.Logic o a b)) (λ i. both_same (λ v w. Ok (combined o v w)) _ _ _ _ (a.value.1 (and_left _ _ i)) (b.value.1 (and_right _ _ i)))
-    value_layer (OrdinalExpression-F.Compare o a b) = value_by (bare_expression (OrdinalExpression-F.Compare o a b)) (λ i. both_same (λ v w. Ok (compared o v w)) _ _ _ _ (a.value.1 (and_left _ _ i)) (b.value.1 (and_right _ _ i)))
-    value_layer (OrdinalExpression-F.SameSet wanted a b) = value_by (bare_expression (OrdinalExpression-F.SameSet wanted a b)) (λ i. both_same (λ s t. Ok (sets.compared wanted s t)) _ _ _ _ (a.value.1 (and_left _ _ i)) (b.value.1 (and_right _ _ i)))
+    value_layer (OrdinalExpression-F.Character e) = value_by (bare_expression (OrdinalExpression-F.Character e)) (λ i. ap (λ o. then_with o (check_range (pos 0) (pos 127))) (e.value.1 i))
+    value_layer (OrdinalExpression-F.Arithmetic o a b) = value_by (bare_expression (OrdinalExpression-F.Arithmetic o a b)) (λ i. both_same (calculate o) _ _ _ _ (a.value.1 (and_left _ _ i)) (b.value.1 (and_right _ _ i)))
+    value_layer (OrdinalExpression-F.Logic o a b) = value_by (bare_expression (OrdinalExpression-F.Logic o a b)) (λ i. both_same (λ v w. Ok (apply_logic o v w)) _ _ _ _ (a.value.1 (and_left _ _ i)) (b.value.1 (and_right _ _ i)))
+    value_layer (OrdinalExpression-F.Compare o a b) = value_by (bare_expression (OrdinalExpression-F.Compare o a b)) (λ i. both_same (λ v w. Ok (compare o v w)) _ _ _ _ (a.value.1 (and_left _ _ i)) (b.value.1 (and_right _ _ i)))
+    value_layer (OrdinalExpression-F.SameSet wanted a b) = value_by (bare_expression (OrdinalExpression-F.SameSet wanted a b)) (λ i. both_same (λ s t. Ok (sets.compare_sets wanted s t)) _ _ _ _ (a.value.1 (and_left _ _ i)) (b.value.1 (and_right _ _ i)))
     value_layer (OrdinalExpression-F.Member e a) = value_by (bare_expression (OrdinalExpression-F.Member e a)) (λ i. both_same (λ v s. Ok (truth (sets.is_member s v))) _ _ _ _ (e.value.1 (and_left _ _ i)) (a.value.1 (and_right _ _ i)))
     value_layer (OrdinalExpression-F.IsEmpty p) = value_by (bare_expression (OrdinalExpression-F.IsEmpty p)) (λ i. ap (λ o. then_with o (λ v. Ok (truth (not (is_true v))))) (loaded_same p.0 p.1 i))
 
@@ -196,14 +196,14 @@ module _ (own : ℕ → Bool) (x : Memory) (others : List ℤ) (same : (k : ℕ)
     set_layer (SetExpression-F.«SetExpression::Load» p) = set_by (bare_set (SetExpression-F.«SetExpression::Load» p)) (λ i. stored_place p.0 p.1 i)
     set_layer SetExpression-F.Empty = set_by SetExpression-F.Empty (λ i. refl)
     set_layer (SetExpression-F.With a e) = set_by (bare_set (SetExpression-F.With a e)) (λ i. both_same (λ s v. sets.with_element s v) _ _ _ _ (a.value.1 (and_left _ _ i)) (e.value.1 (and_right _ _ i)))
-    set_layer (SetExpression-F.Combine o a b) = set_by (bare_set (SetExpression-F.Combine o a b)) (λ i. both_same (λ s t. Ok (sets.combined o s t)) _ _ _ _ (a.value.1 (and_left _ _ i)) (b.value.1 (and_right _ _ i)))
+    set_layer (SetExpression-F.Combine o a b) = set_by (bare_set (SetExpression-F.Combine o a b)) (λ i. both_same (λ s t. Ok (sets.combine_sets o s t)) _ _ _ _ (a.value.1 (and_left _ _ i)) (b.value.1 (and_right _ _ i)))
 
     if_some : (b : Bool) (o : Option ℕ) (inner : ℕ) → (if b then o else None) ≡ Some inner → b ≡ true
     if_some true o inner h = refl
     if_some false o inner h = absurd (cc)
 
     index_layer : (z : Index-F Values Sets Elements Variables) → IsIndex (roll-Index (bare_index z))
-    index_layer z = index_by (bare_index z) (λ left inner at i. ap (λ o. then_with o (λ v. then_with (places.element_offset z.low z.high z.size v) (λ far. Ok (moved at far)))) (z.at.1 (if_some _ _ inner i)))
+    index_layer z = index_by (bare_index z) (λ left inner at i. ap (λ o. then_with o (λ v. then_with (places.element_offset z.low z.high z.size v) (λ far. Ok (address_onward at far)))) (z.at.1 (if_some _ _ inner i)))
 
     -- one index after the other
     indexed_layer : (is : List Elements) (left cells : ℕ) (at : Address) → has cells (room_through (map index_room (map (λ i. i.0) is)) r left) ≡ true → through (map element_at (map (λ i. i.0) is)) y f at ≡ through (map element_at (map (λ i. i.0) is)) x f at
@@ -223,11 +223,11 @@ module _ (own : ℕ → Bool) (x : Memory) (others : List ℤ) (same : (k : ℕ)
     place_layer z = place_by (bare_place z) (λ cells i. from (room_from r z.origin) refl cells i)
       where
         from : (o : Option ℕ) → room_from r z.origin ≡ o → (cells : ℕ) → has cells (then_some o (λ whole. then_some (behind z.offset whole) (λ left. room_through (map index_room (map (λ i. i.0) z.indices.items)) r left))) ≡ true →
-            through (map element_at (map (λ i. i.0) z.indices.items)) y f (moved (origin_address x.references f z.origin) z.offset) ≡ through (map element_at (map (λ i. i.0) z.indices.items)) x f (moved (origin_address x.references f z.origin) z.offset)
+            through (map element_at (map (λ i. i.0) z.indices.items)) y f (address_onward (origin_address x.references f z.origin) z.offset) ≡ through (map element_at (map (λ i. i.0) z.indices.items)) x f (address_onward (origin_address x.references f z.origin) z.offset)
         from (Some whole) starts cells i = on (behind z.offset whole) i
           where
             on : (o : Option ℕ) → has cells (then_some o (λ left. room_through (map index_room (map (λ i. i.0) z.indices.items)) r left)) ≡ true →
-                through (map element_at (map (λ i. i.0) z.indices.items)) y f (moved (origin_address x.references f z.origin) z.offset) ≡ through (map element_at (map (λ i. i.0) z.indices.items)) x f (moved (origin_address x.references f z.origin) z.offset)
+                through (map element_at (map (λ i. i.0) z.indices.items)) y f (address_onward (origin_address x.references f z.origin) z.offset) ≡ through (map element_at (map (λ i. i.0) z.indices.items)) x f (address_onward (origin_address x.references f z.origin) z.offset)
             on (Some left) i = indexed_layer z.indices.items left cells _ i
             on None i = absurd (cc)
         from None starts cells i = absurd (cc)

@@ -18,7 +18,7 @@ use Rattle.cp_store.specs.declared.error.ErrorName.{ErrorName}
 use Rattle.cp_store.specs.declared.memory.Address.{Address}
 use Rattle.cp_store.specs.Places.{address_at, origin_address, set_at, value_at}
 use Rattle.cp_store.specs.Sets as sets
-use Rattle.cp_store.specs.Values.{is_true, ranged}
+use Rattle.cp_store.specs.Values.{is_true, check_range}
 use Rattle.cp_store.proofs.Reaches.{and_left, some_has}
 use Rattle.cp_machine.specs.declared.event.Event.{Event}
 use Rattle.cp_machine.specs.declared.process.Entry.{Entry}
@@ -28,7 +28,7 @@ use Rattle.cp_machine.specs.declared.state.TheConstants.{MOST_SHOWN}
 use Rattle.cp_machine.specs.Machine.{Machine, thread_at, with_output, with_stack}
 use Rattle.cp_machine.specs.Memory.{address_of, cells_put, memory_at, number_put, origin_of, set_of, set_put, value_of}
 use Rattle.cp_machine.specs.Stack.{rest_of}
-use Rattle.cp_machine.specs.Statements.{Stepped, arm_for, assert_that, assign, assign_set, branch, case_of, copy, display, fault, for_do, for_from, gone_on, is_beyond, local, next_turn, next_value, show, shown_as, succeeded, until, while_do, with_value}
+use Rattle.cp_machine.specs.Statements.{Stepped, arm_for, assert_that, assign, assign_set, branch, case_of, copy, display, fault, for_do, for_from, gone_on, is_beyond, local, next_turn, next_value, show, shown_as, successor_step, until, while_do, with_value}
 use Rattle.cp_effect_laws.specs.Footprint.{Footprint, laid_over, overlaid, step_over}
 use Rattle.cp_effect_laws.proofs.Lying.{Named, begun_lies, lies_fewer, place_lies}
 use Rattle.cp_effect_laws.proofs.Machines.{cells_laid, memory_of_thread, number_laid, set_laid, stack_laid, thread_laid}
@@ -109,7 +109,7 @@ module _ (f : Footprint) (m n : Machine) (p : ℕ) (status : f.statuses p ≡ tr
     assign_laid line target value low high rest i j =
         valued line (value_of m p value) (value_of (laid m) p value) _ _ (value_laid value i)
         (λ z z_is. valued line (address_of m p target) (address_of (laid m) p target) _ _ (address_laid target 1 j)
-        (λ a a_is. valued line (ranged low high z) (ranged low high z) _ _ refl
+        (λ a a_is. valued line (check_range low high z) (check_range low high z) _ _ refl
         (λ w w_is. done (number_put (with_stack m p rest) p a w) (ap (λ x. number_put x p a w) (stacked rest) ∙ number_laid f n p status body (with_stack m p rest) a w (spot_at target 1 a j a_is)))))
 
     pub assign_set_laid : (line : ℕ) (target : Place) (value : SetExpression) (low high : ℕ) (rest : List Entry) → set_inside v value ≡ true → has SET_CELLS (place_room v target) ≡ true
@@ -117,7 +117,7 @@ module _ (f : Footprint) (m n : Machine) (p : ℕ) (status : f.statuses p ≡ tr
     assign_set_laid line target value low high rest i j =
         valued line (set_of m p value) (set_of (laid m) p value) _ _ (set_value_laid value i)
         (λ z z_is. valued line (address_of m p target) (address_of (laid m) p target) _ _ (address_laid target SET_CELLS j)
-        (λ a a_is. valued line (sets.ranged low high z) (sets.ranged low high z) _ _ refl
+        (λ a a_is. valued line (sets.check_members low high z) (sets.check_members low high z) _ _ refl
         (λ w w_is. done (set_put (with_stack m p rest) p a w) (ap (λ x. set_put x p a w) (stacked rest) ∙ set_laid f n p status body (with_stack m p rest) a w (spot_at target SET_CELLS a j a_is)))))
 
     pub copy_laid : (line : ℕ) (target source : Place) (size : ℕ) (rest : List Entry) → has size (place_room v source) ≡ true → has size (place_room v target) ≡ true
@@ -159,7 +159,7 @@ module _ (f : Footprint) (m n : Machine) (p : ℕ) (status : f.statuses p ≡ tr
     for_from_laid : (line at : ℕ) (variable : PlaceOrigin) (low high : ℤ) (down : Bool) (list next : Option ℕ) (es : List Entry) (first last : ℤ) → has 1 (room_from v variable) ≡ true
         → Same (for_from (laid m) p line at variable low high down list next es first last) (for_from m p line at variable low high down list next es first last)
     for_from_laid line at variable low high down list next es first last i =
-        either (is_beyond down first last) _ _ _ _ (done _ (stacked _)) (valued line (ranged low high first) (ranged low high first) _ _ refl (λ z z_is. done _ (gone_on_laid at variable list es last z i)))
+        either (is_beyond down first last) _ _ _ _ (done _ (stacked _)) (valued line (check_range low high first) (check_range low high first) _ _ refl (λ z z_is. done _ (gone_on_laid at variable list es last z i)))
 
     pub for_laid : (line at : ℕ) (variable : PlaceOrigin) (low high : ℤ) (first last : OrdinalExpression) (down : Bool) (list next : Option ℕ) (es : List Entry)
         → has 1 (room_from v variable) ≡ true → expression_inside v first ≡ true → expression_inside v last ≡ true
@@ -175,7 +175,7 @@ module _ (f : Footprint) (m n : Machine) (p : ℕ) (status : f.statuses p ≡ tr
         either (int_eq z last) _ _ _ _ (done _ (stacked _)) (valued line (next_value down low high z) (next_value down low high z) _ _ refl (λ w w_is. done _ (gone_on_laid at variable list es last w i)))
 
     pub succeeded_laid : (r : Tables) (at : ℕ) (item : Item) (a : Action) (es : List Entry) (z last : ℤ) → action_inside r v a ≡ true
-        → Same (succeeded (laid m) p at item a es z last) (succeeded m p at item a es z last)
+        → Same (successor_step (laid m) p at item a es z last) (successor_step m p at item a es z last)
     succeeded_laid r at item (For variable low high first end down list) es z last i = next_laid item.line at variable low high down list item.next es z last (and_left (has 1 (room_from v variable)) (expression_inside v first && expression_inside v end) i)
     succeeded_laid r at item _ es z last i = done _ (stacked _)
 

@@ -5,7 +5,7 @@ use Rattle.cp_machine.specs.declared.discipline.Discipline.{Discipline}
 use Rattle.cp_machine.specs.declared.event.Event.TheVariants.{Local}
 use Rattle.cp_machine.specs.declared.process.Status.TheVariants.{Ready}
 use Rattle.cp_machine.specs.Machine.{Machine, Monitor, monitor_at, with_monitor, with_pending, with_status}
-use Rattle.cp_machine.specs.Opening.{admitted_at, without}
+use Rattle.cp_machine.specs.Opening.{admit_at, without}
 use Rattle.cp_machine.specs.Statements.{Stepped}
 use Rattle.cp_machine.specs.Step.{step_at}
 use Rattle.cp_machine.proofs.CallerLemmas.{ready_thread}
@@ -25,7 +25,7 @@ use Rattle.cp_effect_laws.proofs.Machines.{monitor_laid, monitor_read, status_la
 pub admission_laid : AdmissionLaw
 admission_laid f m n p k pending here status = go m.pending pending
   where
-    go : (w : Option ℕ) → w ≡ Some k → admitted_at w (laid_over f m n) p ≡ laid_over f (admitted_at w m p) n
+    go : (w : Option ℕ) → w ≡ Some k → admit_at w (laid_over f m n) p ≡ laid_over f (admit_at w m p) n
     go None is = absurd (cc)
     go (Some j) is =
         let own : f.monitors j ≡ true = subst (λ i. f.monitors i ≡ true) (sym (let same : j ≡ k = cc in same)) here in

@@ -9,9 +9,9 @@ use Rattle.cp_store.specs.declared.memory.Address.{Address}
 use Rattle.cp_store.specs.declared.memory.Address.TheVariants.{Permanent, Local}
 use Rattle.cp_store.specs.declared.memory.Frame.{Frame}
 use Rattle.cp_store.specs.declared.set.SetValue.{SetValue}
-use Rattle.cp_store.specs.Arguments.{bindings_after, bound_in_component, bound_in_frame, put_binding, put_in_frame, put_value}
+use Rattle.cp_store.specs.Arguments.{bindings_after, bind_component, bind_frame, put_binding, put_in_frame, put_value}
 use Rattle.cp_store.specs.Inside.{HasCells}
-use Rattle.cp_store.specs.Memory.{Memory, cell_at, moved, onward, put_copy, put_number}
+use Rattle.cp_store.specs.Memory.{Memory, cell_at, address_onward, onward, put_copy, put_number}
 use Rattle.cp_store.specs.Sets as sets
 use Rattle.cp_effect_laws.specs.Footprint.{overlaid}
 use Rattle.cp_effect_laws.specs.Touches.{HasAt}
@@ -35,15 +35,15 @@ small_of m (Local number) cells few h = tt
 pub spot_of : (own : ℕ → Bool) (m : Memory) (at : Address) (cells : ℕ) → length m.permanents < 2 ^ 64 → Lies own m at cells → Spot own at cells
 spot_of own m at cells few h = record { own_cells = h.own_cells; small = small_of m at cells few h.there }
 
-further_has : (own : ℕ → Bool) (at : Address) (further cells : ℕ) → IsSmall at (further + cells) → HasAt own at (further + cells) → HasAt own (moved at further) cells
+further_has : (own : ℕ → Bool) (at : Address) (further cells : ℕ) → IsSmall at (further + cells) → HasAt own at (further + cells) → HasAt own (address_onward at further) cells
 further_has own (Permanent number) further cells small h = λ k from below. h k (omega (arith, from, below, small)) (omega (arith, from, below, small))
 further_has own (Local number) further cells small h = tt
 
-further_small : (at : Address) (further cells : ℕ) → IsSmall at (further + cells) → IsSmall (moved at further) cells
+further_small : (at : Address) (further cells : ℕ) → IsSmall at (further + cells) → IsSmall (address_onward at further) cells
 further_small (Permanent number) further cells small = omega (arith, small)
 further_small (Local number) further cells small = tt
 
-pub spot_further : (own : ℕ → Bool) (at : Address) (further cells : ℕ) → Spot own at (further + cells) → Spot own (moved at further) cells
+pub spot_further : (own : ℕ → Bool) (at : Address) (further cells : ℕ) → Spot own at (further + cells) → Spot own (address_onward at further) cells
 spot_further own at further cells h = record { own_cells = further_has own at further cells h.small h.own_cells; small = further_small at further cells h.small }
 
 fewer_has : (own : ℕ → Bool) (at : Address) (more cells : ℕ) → cells ≤ more → HasAt own at more → HasAt own at cells
@@ -76,27 +76,27 @@ module _ (own : ℕ → Bool) (others : List ℤ) where
       let y = put_copy x to from n in
       let here = spot_further own to n 1 (spot_fewer own to (suc n) (n + 1) (omega (arith)) h) in
       let there = spot_further own from n 1 (spot_fewer own from (suc n) (n + 1) (omega (arith)) k) in
-      ap (λ z. put_number z (moved to n) (cell_at z (moved from n))) (copy_over x to from n (spot_fewer own to (suc n) n (omega (arith)) h) (spot_fewer own from (suc n) n (omega (arith)) k))
-      ∙ ap (λ v. put_number (over y) (moved to n) v) (cell_over y (moved from n) there)
-      ∙ number_over y (moved to n) (cell_at y (moved from n)) here
+      ap (λ z. put_number z (address_onward to n) (cell_at z (address_onward from n))) (copy_over x to from n (spot_fewer own to (suc n) n (omega (arith)) h) (spot_fewer own from (suc n) n (omega (arith)) k))
+      ∙ ap (λ v. put_number (over y) (address_onward to n) v) (cell_over y (address_onward from n) there)
+      ∙ number_over y (address_onward to n) (cell_at y (address_onward from n)) here
 
   word_over : (x : Memory) (at : Address) (members : ℕ) → Spot own at 1 → sets.put_word (over x) at members ≡ over (sets.put_word x at members)
   word_over x at members h = number_over x at (cast_signed w16 members) h
 
   pair_over : (x : Memory) (at : Address) (members : ℕ) → Spot own at 2 → sets.put_pair (over x) at members ≡ over (sets.put_pair x at members)
   pair_over x at members h =
-      ap (λ z. sets.put_word z (moved at 1) (members / 2 ^ 16)) (word_over x at (members % 2 ^ 16) (spot_fewer own at 2 1 (omega (arith)) h))
-      ∙ word_over (sets.put_word x at (members % 2 ^ 16)) (moved at 1) (members / 2 ^ 16) (spot_further own at 1 1 h)
+      ap (λ z. sets.put_word z (address_onward at 1) (members / 2 ^ 16)) (word_over x at (members % 2 ^ 16) (spot_fewer own at 2 1 (omega (arith)) h))
+      ∙ word_over (sets.put_word x at (members % 2 ^ 16)) (address_onward at 1) (members / 2 ^ 16) (spot_further own at 1 1 h)
 
   quad_over : (x : Memory) (at : Address) (members : ℕ) → Spot own at 4 → sets.put_quad (over x) at members ≡ over (sets.put_quad x at members)
   quad_over x at members h =
-      ap (λ z. sets.put_pair z (moved at 2) (members / 2 ^ 32)) (pair_over x at (members % 2 ^ 32) (spot_fewer own at 4 2 (omega (arith)) h))
-      ∙ pair_over (sets.put_pair x at (members % 2 ^ 32)) (moved at 2) (members / 2 ^ 32) (spot_further own at 2 2 h)
+      ap (λ z. sets.put_pair z (address_onward at 2) (members / 2 ^ 32)) (pair_over x at (members % 2 ^ 32) (spot_fewer own at 4 2 (omega (arith)) h))
+      ∙ pair_over (sets.put_pair x at (members % 2 ^ 32)) (address_onward at 2) (members / 2 ^ 32) (spot_further own at 2 2 h)
 
   pub set_over : (x : Memory) (at : Address) (s : SetValue) → Spot own at 8 → sets.put_set (over x) at s ≡ over (sets.put_set x at s)
   set_over x at s h =
-      ap (λ z. sets.put_quad z (moved at 4) (s.members / 2 ^ 64)) (quad_over x at (s.members % 2 ^ 64) (spot_fewer own at 8 4 (omega (arith)) h))
-      ∙ quad_over (sets.put_quad x at (s.members % 2 ^ 64)) (moved at 4) (s.members / 2 ^ 64) (spot_further own at 4 4 h)
+      ap (λ z. sets.put_quad z (address_onward at 4) (s.members / 2 ^ 64)) (quad_over x at (s.members % 2 ^ 64) (spot_fewer own at 8 4 (omega (arith)) h))
+      ∙ quad_over (sets.put_quad x at (s.members % 2 ^ 64)) (address_onward at 4) (s.members / 2 ^ 64) (spot_further own at 4 4 h)
 
 -- ---- parameters
 
@@ -129,10 +129,10 @@ module _ (own : ℕ → Bool) where
   one_in_frame others x f slot (Copy from size) h = value_over others x (Local (onward f.base slot)) (Copy from size) h
   one_in_frame others x f slot (Component number) h = refl
 
-  pub frame_over : (others : List ℤ) (x : Memory) (f : Frame) (xs : List Argument) (bs : List Bound) → AllInFrame f xs bs → bound_in_frame (over own others x) f xs bs ≡ over own others (bound_in_frame x f xs bs)
+  pub frame_over : (others : List ℤ) (x : Memory) (f : Frame) (xs : List Argument) (bs : List Bound) → AllInFrame f xs bs → bind_frame (over own others x) f xs bs ≡ over own others (bind_frame x f xs bs)
   frame_over others x f [] bs h = refl
   frame_over others x f (a ∷ xs) [] h = refl
-  frame_over others x f (a ∷ xs) (b ∷ bs) h = ap (λ z. bound_in_frame z f xs bs) (one_in_frame others x f a.slot b h.0) ∙ frame_over others (put_in_frame x f a.slot b) f xs bs h.1
+  frame_over others x f (a ∷ xs) (b ∷ bs) h = ap (λ z. bind_frame z f xs bs) (one_in_frame others x f a.slot b h.0) ∙ frame_over others (put_in_frame x f a.slot b) f xs bs h.1
 
   -- those of a component
   abbrev pub AllInComponent : (base : ℕ) → List Argument → List Bound → Type 0
@@ -140,10 +140,10 @@ module _ (own : ℕ → Bool) where
   AllInComponent base (a ∷ xs) [] = Unit {0}
   AllInComponent base (a ∷ xs) (b ∷ bs) = HasBoundAt (Permanent (onward base a.slot)) b × AllInComponent base xs bs
 
-  pub component_over : (others : List ℤ) (x : Memory) (base : ℕ) (xs : List Argument) (bs : List Bound) → AllInComponent base xs bs → bound_in_component (over own others x) base xs bs ≡ over own others (bound_in_component x base xs bs)
+  pub component_over : (others : List ℤ) (x : Memory) (base : ℕ) (xs : List Argument) (bs : List Bound) → AllInComponent base xs bs → bind_component (over own others x) base xs bs ≡ over own others (bind_component x base xs bs)
   component_over others x base [] bs h = refl
   component_over others x base (a ∷ xs) [] h = refl
-  component_over others x base (a ∷ xs) (b ∷ bs) h = ap (λ z. bound_in_component z base xs bs) (value_over others x (Permanent (onward base a.slot)) b h.0) ∙ component_over others (put_value x (Permanent (onward base a.slot)) b) base xs bs h.1
+  component_over others x base (a ∷ xs) (b ∷ bs) h = ap (λ z. bind_component z base xs bs) (value_over others x (Permanent (onward base a.slot)) b h.0) ∙ component_over others (put_value x (Permanent (onward base a.slot)) b) base xs bs h.1
 
   one_binding : (bindings others : List ℕ) (number : ℕ) (b : Bound) → HasBoundAt (Permanent number) b → put_binding (overlaid own bindings others) number b ≡ overlaid own (put_binding bindings number b) others
   one_binding bindings others number (Component component) h = own_set own bindings others number component (h.own_cells number (omega (arith)) (omega (arith)))

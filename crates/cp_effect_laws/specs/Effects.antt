@@ -8,7 +8,7 @@ use Rattle.cp_machine.specs.Machine.{Machine, is_pending, is_ready}
 use Rattle.cp_machine.specs.Statements.{Stepped}
 use Rattle.cp_machine.specs.Step.{is_local, step_at}
 use Rattle.cp_run.specs.declared.outcome.Turn.TheVariants.{Goes}
-use Rattle.cp_machine.specs.Opening.{admitted}
+use Rattle.cp_machine.specs.Opening.{admit_waiting}
 use Rattle.cp_run.specs.Fold.{Fold, fold_stretch, fold_turn, walked}
 use Rattle.cp_run.specs.Run.{turn_after}
 use Rattle.cp_run.specs.Silent.{silent_slots, without_output}
@@ -84,4 +84,4 @@ FoldedLaw {X} F =
 abbrev pub AdmissionLaw : Type 0
 AdmissionLaw =
     (f : Footprint) (m n : Machine) (p k : ℕ) → m.pending ≡ Some k → f.monitors k ≡ true → f.statuses p ≡ true →
-    admitted (laid_over f m n) p ≡ laid_over f (admitted m p) n
+    admit_waiting (laid_over f m n) p ≡ laid_over f (admit_waiting m p) n

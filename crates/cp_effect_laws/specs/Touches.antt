@@ -10,7 +10,7 @@ use Rattle.cp_slots.specs.declared.tables.ComponentKind.TheVariants as kind
 use Rattle.cp_store.specs.declared.memory.Address.{Address}
 use Rattle.cp_store.specs.declared.memory.Address.TheVariants.{Permanent, Local}
 use Rattle.cp_store.specs.declared.memory.Frame.{Frame}
-use Rattle.cp_store.specs.Places.{referred}
+use Rattle.cp_store.specs.Places.{reference_at}
 use Rattle.cp_machine.specs.declared.process.Entry.{Entry}
 use Rattle.cp_machine.specs.declared.process.Entry.TheVariants.{Rest, Return, InitEnd}
 use Rattle.cp_machine.specs.declared.process.Status.{Status}
@@ -34,7 +34,7 @@ HasAt own (Local number) cells = Unit {0}
 pub record HasFrame (f : Footprint) (r : Tables) (references : List Address) (g : Frame) : Type 0 where
   pub own : HasFrom f.cells g.own (own_of r g.component)
   pub behind : (k : ℕ) → k < length (routine_at r g.routine).extents →
-      HasAt f.cells (referred references (g.references + k)) (slice_index_or (routine_at r g.routine).extents k 0)
+      HasAt f.cells (reference_at references (g.references + k)) (slice_index_or (routine_at r g.routine).extents k 0)
 
 -- a component that is a monitor, or a process
 abbrev pub HasKind : Footprint → ComponentKind → Type 0

@@ -3,7 +3,7 @@ use Rattle.std.proofs.Common.{◌≡◌, ℕ, List, [], ◌∷◌, Option, None,
 use Rattle.std.proofs.lemmas.List.Elements.{All-cons, All-nil, All-weaker}
 use Rattle.std.specs.Prelude.{All}
 use Rattle.cp_machine.specs.Bodies.{KeepBodies, has_moved}
-use Rattle.cp_machine.specs.Opening.{admitted, admitted_at}
+use Rattle.cp_machine.specs.Opening.{admit_waiting, admit_at}
 use Rattle.cp_machine.specs.System.{Machine, output_of, step_at}
 use Rattle.cp_machine.specs.declared.event.Event.{Event}
 use Rattle.cp_machine.specs.declared.event.Event.TheVariants.{Kernel}
@@ -36,13 +36,13 @@ moved_on r moved p m after e due step h told = All-weaker (λ before. KeepBodies
     quiet before k = record { count = k.count; bodies = k.bodies }
 
 -- one is let in
-pub let_in : (moved : Moved) (p : ℕ) (m after : Machine) (due : List Machine) → after ≡ admitted m p → HaveMoved moved m due → HaveMoved moved after due
+pub let_in : (moved : Moved) (p : ℕ) (m after : Machine) (due : List Machine) → after ≡ admit_waiting m p → HaveMoved moved m due → HaveMoved moved after due
 let_in moved p m after due is h = All-weaker (λ before. KeepBodies (has_moved moved) before m) (λ before. KeepBodies (has_moved moved) before after) (λ before k. moving.let_in (has_moved moved) before m after p is k) due h
 
-pub quiet_admitted : (m : Machine) (p : ℕ) → output_of (admitted m p) ≡ output_of m
+pub quiet_admitted : (m : Machine) (p : ℕ) → output_of (admit_waiting m p) ≡ output_of m
 quiet_admitted m p = by m.pending
   where
-    by : (o : Option ℕ) → output_of (admitted_at o m p) ≡ output_of m
+    by : (o : Option ℕ) → output_of (admit_at o m p) ≡ output_of m
     by None = refl
     by (Some monitor) = refl
 

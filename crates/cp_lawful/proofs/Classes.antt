@@ -14,7 +14,7 @@ use Rattle.cp_scope.specs.Scopes.{Names, Scope, Scopes, find, is_among, is_decla
 use Rattle.cp_check.specs.declared.types.Spot.TheVariants as spot
 use Rattle.cp_check.specs.Names as names
 use Rattle.cp_check.specs.Types as typing
-use Rattle.cp_check.specs.Declarations.{as_declared, to_kind, reserve_name, reserve_names, add_names, add_all, add_one, constant_steps, variable_steps}
+use Rattle.cp_check.specs.Declarations.{meaning_or_none, to_kind, reserve_name, reserve_names, add_names, add_all, add_one, constant_steps, variable_steps}
 use Rattle.cp_check.specs.Systems as systems
 use Rattle.cp_meaning.specs.Types.{Base, Range, Ty, ordinal, queue_type, component_of, all_integers}
 use Rattle.cp_meaning.specs.Scopes as meant
@@ -137,15 +137,15 @@ look_kind n s t e = ap (λ o. or_else o (look_outer n s.outer)) (look_in_kind n 
 
 -- ---- no type definition stands for a component type
 
-named_component : (ss : List SystemMeaning) (s : Scopes) (m : meant.Scope) (at k : ℕ) (x : Name) → AllTell ss s m → faults (typing.type_spotted s spot.Definition at x) ≡ [] → type_named m x ≡ component_of k → ⊥
-unfolding typing.type_spotted typing.type_named names.visible
+named_component : (ss : List SystemMeaning) (s : Scopes) (m : meant.Scope) (at k : ℕ) (x : Name) → AllTell ss s m → faults (typing.type_at_spot s spot.Definition at x) ≡ [] → type_named m x ≡ component_of k → ⊥
+unfolding typing.type_at_spot typing.type_named names.visible
 named_component ss s m at k x tell h e =
     let there = found_tell ss s x m k tell e in
-    let bad : check_fault.Rule at C13 ∷ [] ≡ [] = subst (λ o. faults (names.found at o >>= typing.to_type at >>= typing.at_spot s spot.Definition at) ≡ []) (look_kind x s (Component there.0.kind there.1.0) there.1.1.1) h in
+    let bad : check_fault.Rule at C13 ∷ [] ≡ [] = subst (λ o. faults (names.check_visible at o >>= typing.to_type at >>= typing.at_spot s spot.Definition at) ≡ []) (look_kind x s (Component there.0.kind there.1.0) there.1.1.1) h in
     cc
 
 no_component : (ss : List SystemMeaning) (s : Scopes) (m : meant.Scope) (t : TypeTerm) (k : ℕ) → AllTell ss s m → faults (typed s spot.Definition t).type ≡ [] → (type_in m t).0 ≡ component_of k → ⊥
-unfolding typed typing.simple_typed
+unfolding typed typing.simple_type
 no_component ss s m (simple at (type_name n_at x)) k tell h e = named_component ss s m n_at k x tell h e
 no_component ss s m x k tell h e = cc
 
@@ -189,19 +189,19 @@ pub one_found : (s : Scopes) (n : Identifier) (m : Option Meaning) → is_some (
 unfolding add_one add settle
 one_found s n m h = new_found s.inner n.name m h
 
-kind_of_uses : (j : Judged Use) (k : SystemKind) (at : ℕ) → Loud (j >>= systems.to_component k at) → faults (j >>= systems.to_component k at) ≡ [] → as_declared (j >>= systems.to_component k at >>= to_kind) ≡ Some (Kind (Component k at))
+kind_of_uses : (j : Judged Use) (k : SystemKind) (at : ℕ) → Loud (j >>= systems.to_component k at) → faults (j >>= systems.to_component k at) ≡ [] → meaning_or_none (j >>= systems.to_component k at >>= to_kind) ≡ Some (Kind (Component k at))
 kind_of_uses (Ok u) k at loud h = refl
 kind_of_uses (Err []) k at loud h = absurd loud
 kind_of_uses (Err (f ∷ fs)) k at loud h = absurd (let bad : f ∷ fs ≡ [] = h in cc)
 
-pub declared_kind : (s : Scopes) (y : System) → Told s → faults (systems.system_typed s y).type ≡ [] → as_declared ((systems.system_typed s y).type >>= to_kind) ≡ Some (Kind (Component y.kind y.at))
-unfolding systems.system_typed
-declared_kind s y told h = kind_of_uses (systems.opened (enter true s) y).uses y.kind y.at (system_loud s y told) h
+pub declared_kind : (s : Scopes) (y : System) → Told s → faults (systems.system_type s y).type ≡ [] → meaning_or_none ((systems.system_type s y).type >>= to_kind) ≡ Some (Kind (Component y.kind y.at))
+unfolding systems.system_type
+declared_kind s y told h = kind_of_uses (systems.enter_system (enter true s) y).uses y.kind y.at (system_loud s y told) h
 
 -- after its definition a system type stands under its name
-pub system_found : (s : Scopes) (n : Identifier) (y : System) → Told s → (reserve_name s n).faults ≡ [] → faults (systems.system_typed (reserve_name s n).scopes y).type ≡ [] → find n.name (add_one (systems.system_typed (reserve_name s n).scopes y).scopes n (as_declared ((systems.system_typed (reserve_name s n).scopes y).type >>= to_kind))).inner.names ≡ Some (Some (Kind (Component y.kind y.at)))
+pub system_found : (s : Scopes) (n : Identifier) (y : System) → Told s → (reserve_name s n).faults ≡ [] → faults (systems.system_type (reserve_name s n).scopes y).type ≡ [] → find n.name (add_one (systems.system_type (reserve_name s n).scopes y).scopes n (meaning_or_none ((systems.system_type (reserve_name s n).scopes y).type >>= to_kind))).inner.names ≡ Some (Some (Kind (Component y.kind y.at)))
 system_found s n y told reserved h =
-    one_found (systems.system_typed (reserve_name s n).scopes y).scopes n _ (ap (λ ds. is_some (find n.name ds)) (system_names (reserve_name s n).scopes y ∙ reserved_names s n) ∙ reserved_new s n reserved)
+    one_found (systems.system_type (reserve_name s n).scopes y).scopes n _ (ap (λ ds. is_some (find n.name ds)) (system_names (reserve_name s n).scopes y ∙ reserved_names s n) ∙ reserved_new s n reserved)
     ∙ ap Some (declared_kind (reserve_name s n).scopes y (name_reserved_told s n told) h)
 
 -- ---- parameters
@@ -314,12 +314,12 @@ unfolding add_all settle
 knows_all_added ss ns t u m s h = let k = knows_added ss ns t u m s h in record { told = k.told; is_open = k.is_open; known = k.known }
 
 -- what breaks no rule as a type is one
-pub parameter_is : (j : Judged ValueType) → Loud j → faults j ≡ [] → (u : ValueType) × (as_declared (j >>= systems.to_parameter) ≡ Some (stands.Parameter u))
+pub parameter_is : (j : Judged ValueType) → Loud j → faults j ≡ [] → (u : ValueType) × (meaning_or_none (j >>= systems.to_parameter) ≡ Some (stands.Parameter u))
 parameter_is (Ok u) loud e = (u, refl)
 parameter_is (Err []) loud e = absurd loud
 parameter_is (Err (f ∷ fs)) loud e = absurd (let bad : f ∷ fs ≡ [] = e in cc)
 
-pub type_there : (o : Option (Option Meaning)) (at : ℕ) (f : ValueType → Judged ValueType) → Loud (names.found at o) → faults (names.found at o >>= typing.to_type at >>= f) ≡ [] → (t : ValueType) × (o ≡ Some (Some (Kind t)))
+pub type_there : (o : Option (Option Meaning)) (at : ℕ) (f : ValueType → Judged ValueType) → Loud (names.check_visible at o) → faults (names.check_visible at o >>= typing.to_type at >>= f) ≡ [] → (t : ValueType) × (o ≡ Some (Some (Kind t)))
 type_there None at f loud e = absurd (let bad : check_fault.Rule at C1 ∷ [] ≡ [] = e in cc)
 type_there (Some None) at f loud e = absurd loud
 type_there (Some (Some (Kind t))) at f loud e = (t, refl)
@@ -341,7 +341,7 @@ admit_named : (ss : List SystemMeaning) (o : SystemKind) (xs : List Name) (t : T
 admit_named ss o [] t b h = tt
 admit_named ss o (x ∷ xs) t b h = (h, admit_named ss o xs t b h)
 
-no_shared_class : (at : ℕ) (o k : SystemKind) (t : ValueType) → faults (systems.component_admitted at o k t) ≡ [] → (o ≡ system_kind.Class → ⊥) → k ≡ system_kind.Class → ⊥
+no_shared_class : (at : ℕ) (o k : SystemKind) (t : ValueType) → faults (systems.check_component_parameter at o k t) ≡ [] → (o ≡ system_kind.Class → ⊥) → k ≡ system_kind.Class → ⊥
 no_shared_class at system_kind.Class system_kind.Class t h other e = other refl
 no_shared_class at x system_kind.Class t h other e = absurd (let bad : check_fault.Rule at C14 ∷ [] ≡ [] = h in cc)
 no_shared_class at o _ t h other e = cc
@@ -349,10 +349,10 @@ no_shared_class at o _ t h other e = cc
 group_admits : (ss : List SystemMeaning) (o : SystemKind) (s : Scopes) (g : Group) (m : meant.Scope) → faults (systems.parameter_type o s g) ≡ [] → Knows ss m s → (k : ℕ) → type_named m g.type_name.name ≡ component_of k → (y : SystemMeaning) × ((slice_get ss k ≡ Some y) × ((o ≡ system_kind.Class → ⊥) → y.kind ≡ system_kind.Class → ⊥))
 unfolding systems.parameter_type typing.type_named names.visible
 group_admits ss o s g m h knows k e =
-    let there = type_there (look g.type_name.name s) g.type_name.at (systems.admitted_in s g.type_name.at o) (heard s knows.told g.type_name.at g.type_name.name) h in
+    let there = type_there (look g.type_name.name s) g.type_name.at (systems.check_parameter_type_in s g.type_name.at o) (heard s knows.told g.type_name.at g.type_name.name) h in
     let r = knows.known g.type_name.name k e there.0 there.1 in
     let met : look g.type_name.name s ≡ Some (Some (Kind (Component r.0.kind r.1.0))) = there.1 ∙ ap (λ t. Some (Some (Kind t))) r.1.1.1 in
-    let admitted : faults (systems.component_admitted g.type_name.at o r.0.kind (Component r.0.kind r.1.0)) ≡ [] = subst (λ f. faults (names.found g.type_name.at f >>= typing.to_type g.type_name.at >>= systems.admitted_in s g.type_name.at o) ≡ []) met h in
+    let admitted : faults (systems.check_component_parameter g.type_name.at o r.0.kind (Component r.0.kind r.1.0)) ≡ [] = subst (λ f. faults (names.check_visible g.type_name.at f >>= typing.to_type g.type_name.at >>= systems.check_parameter_type_in s g.type_name.at o) ≡ []) met h in
     (r.0, (r.1.1.0, λ other is. no_shared_class g.type_name.at o r.0.kind (Component r.0.kind r.1.0) admitted other is))
 
 open_reserved : (s : Scopes) (n : Identifier) → (reserve_name s n).scopes.inner.is_sealed ≡ s.inner.is_sealed
@@ -415,8 +415,8 @@ record Sound (s : Scopes) (d : Declared) : Type 0 where
   tell : AllTell d.systems s d.scope
   admit : SystemsAdmit d.systems d.systems
 
-definition_tells : (s : Scopes) (d : Declared) (n : SystemDefinition) (v : Definition) → Sound s d → (t : Scopes) → Keeps s t → (reserve_name s n.name).faults ≡ [] → faults (systems.defined (reserve_name s n.name).scopes v).type ≡ [] → t ≡ add_one (systems.defined (reserve_name s n.name).scopes v).scopes n.name (as_declared ((systems.defined (reserve_name s n.name).scopes v).type >>= to_kind)) → AllTell (definition_in d n v).systems t (definition_in d n v).scope × SystemsAdmit (definition_in d n v).systems (definition_in d n v).systems
-unfolding systems.defined
+definition_tells : (s : Scopes) (d : Declared) (n : SystemDefinition) (v : Definition) → Sound s d → (t : Scopes) → Keeps s t → (reserve_name s n.name).faults ≡ [] → faults (systems.type_of_definition (reserve_name s n.name).scopes v).type ≡ [] → t ≡ add_one (systems.type_of_definition (reserve_name s n.name).scopes v).scopes n.name (meaning_or_none ((systems.type_of_definition (reserve_name s n.name).scopes v).type >>= to_kind)) → AllTell (definition_in d n v).systems t (definition_in d n v).scope × SystemsAdmit (definition_in d n v).systems (definition_in d n v).systems
+unfolding systems.type_of_definition
 definition_tells s d n (type_definition v) sound t keeps reserved h is = (
   (
     (λ k e. absurd (no_component d.systems (reserve_name s n.name).scopes d.scope v k (tell_kept d.systems s (reserve_name s n.name).scopes d.scope (name_reserved s n.name) sound.tell) h (ap type_meant e))),

@@ -7,7 +7,7 @@ use Rattle.cp_scope.specs.declared.types.Meaning.TheVariants as meaning
 use Rattle.cp_scope.specs.declared.types.Base.{Base}
 use Rattle.cp_scope.specs.Scopes.{Names, Scope, Scopes, Shape, find, is_among, is_declared, with_name, with_pending, sealed, add, reserve, settle, enter, Around, around, last_of, leave, add_around, keep}
 use Rattle.cp_check.specs.declared.types.Spot.TheVariants as spot
-use Rattle.cp_check.specs.Types.{Step, nothing, member, members, simple_typed, keep_array, keep_record, typed, groups_typed, group_typed}
+use Rattle.cp_check.specs.Types.{Step, nothing, member, members, simple_type, keep_array, keep_record, typed, groups_typed, group_typed}
 use Rattle.cp_check.specs.Declarations.{reserve_name, reserve_names, add_names, add_all, add_one, constant_step, constant_steps, type_step, type_steps, variable_step, variable_steps, part_step, part_steps}
 use Rattle.cp_check.specs.Headings as headings
 use Rattle.cp_check.specs.Routines as routines
@@ -113,8 +113,8 @@ unfolding members
 members_kept s b k [] = same s
 members_kept s b k (i ∷ is) = after s (member s b k i).scopes _ (member_kept s b k i) (members_kept (member s b k i).scopes b (k + 1) is)
 
-pub simple_kept : (s : Scopes) (p : Spot) (t : Simple) → Keeps s (simple_typed s p t).scopes
-unfolding simple_typed
+pub simple_kept : (s : Scopes) (p : Spot) (t : Simple) → Keeps s (simple_type s p t).scopes
+unfolding simple_type
 simple_kept s p (enumeration at is) = members_kept s _ 0 is
 simple_kept s p _ = same s
 
@@ -133,8 +133,8 @@ mutual
   type_kept s p (simple at t) = simple_kept s p t
   type_kept s p (array_of at i e) =
       let index = simple_kept s spot.Other i in
-      let element = type_kept (simple_typed s spot.Other i).scopes spot.Element e in
-      after s (typed (simple_typed s spot.Other i).scopes spot.Element e).scopes _ (after s (simple_typed s spot.Other i).scopes _ index element) (array_kept _ at _)
+      let element = type_kept (simple_type s spot.Other i).scopes spot.Element e in
+      after s (typed (simple_type s spot.Other i).scopes spot.Element e).scopes _ (after s (simple_type s spot.Other i).scopes _ index element) (array_kept _ at _)
   type_kept s p (set_type at b) = simple_kept s spot.Base b
   type_kept s p (record_of at gs b) = after s (groups_typed _ s gs).scopes _ (groups_kept _ s gs) (record_kept _ at _)
 
@@ -198,8 +198,8 @@ unfolding headings.parameter_steps
 parameters_kept s [] = same s
 parameters_kept s (g ∷ gs) = after s (headings.group_step g.is_var s g.group).scopes _ (routine_group_kept g.is_var s g.group) (parameters_kept (headings.group_step g.is_var s g.group).scopes gs)
 
-pub written_kept : (s : Scopes) (k : RoutineKind) → Keeps s (headings.written s k).scopes
-unfolding headings.written
+pub written_kept : (s : Scopes) (k : RoutineKind) → Keeps s (headings.parameters_and_result s k).scopes
+unfolding headings.parameters_and_result
 written_kept s (procedure gs) = parameters_kept s gs
 written_kept s (function gs i) = routine_groups_kept s gs
 written_kept s invariants = parameters_kept s []
@@ -225,21 +225,21 @@ last_is (c ∷ cs) t = around_last c cs t
 
 -- ---- routines: the scopes around stay
 
-announced_outer : (r : Routine) (j : Judged (Option ValueType)) (s : Scopes) (cs : List Scope) (t : Scope) → s.outer ≡ cs ++ t ∷ [] → (last_of (headings.announced_of r j s).outer).outer ≡ cs
-unfolding headings.announced add_around keep
+announced_outer : (r : Routine) (j : Judged (Option ValueType)) (s : Scopes) (cs : List Scope) (t : Scope) → s.outer ≡ cs ++ t ∷ [] → (last_of (headings.announce_judged r j s).outer).outer ≡ cs
+unfolding headings.announce add_around keep
 announced_outer r (Ok v) s cs t e = ap (λ (a : Around). a.outer) (last_is (last_of s.outer).outer _) ∙ ap (λ (a : Around). a.outer) (ap last_of e ∙ last_is cs t)
 announced_outer r (Err fs) s cs t e = ap (λ (a : Around). a.outer) (last_is (last_of s.outer).outer _) ∙ ap (λ (a : Around). a.outer) (ap last_of e ∙ last_is cs t)
 
-closed_outer : (r : Routine) (j : Judged (Option ValueType)) (u : Judged Use) (s : Scopes) → (routines.closed_of r j u s).outer ≡ (last_of s.outer).outer
-unfolding routines.closed settle keep leave
+closed_outer : (r : Routine) (j : Judged (Option ValueType)) (u : Judged Use) (s : Scopes) → (routines.close_routine_of r j u s).outer ≡ (last_of s.outer).outer
+unfolding routines.close_routine settle keep leave
 closed_outer r (Ok v) (Ok u) s = refl
 closed_outer r _ _ s = refl
 
 routine_outer : (k : Option SystemKind) (s : Scopes) (r : Routine) → (routines.routine_step k s r).scopes.outer ≡ s.outer
-unfolding routines.routine_step routines.opened headings.heading enter
+unfolding routines.routine_step routines.enter_routine headings.heading enter
 routine_outer k s r =
     let h = headings.heading k r (reserve_name s r.name) in
-    let a = headings.announced_of r h.result h.scopes in
+    let a = headings.announce_judged r h.result h.scopes in
     closed_outer r h.result _ (part_steps spot.Other a r.parts).scopes
     ∙ ap (λ cs. (last_of cs).outer) (parts_kept spot.Other a r.parts).outer
     ∙ announced_outer r h.result h.scopes _ _ (written_kept (enter false (reserve_name s r.name).scopes) r.kind).outer
@@ -256,14 +256,14 @@ pub inside_outer : (s : Scopes) (y : System) → (systems.inside s y).scopes.out
 unfolding systems.inside
 inside_outer s y = routines_outer (Some y.kind) _ y.routines ∙ (parts_kept (spot.Permanent (Some y.kind)) _ y.parts).outer ∙ (system_groups_kept y.kind s y.parameters).outer
 
-pub system_kept : (s : Scopes) (y : System) → Keeps s (systems.system_typed s y).scopes
-unfolding systems.system_typed systems.opened systems.closed enter leave keep
+pub system_kept : (s : Scopes) (y : System) → Keeps s (systems.system_type s y).scopes
+unfolding systems.system_type systems.enter_system systems.close_system enter leave keep
 system_kept s y =
     let back = ap last_of (inside_outer (enter true s) y) ∙ last_is s.outer (sealed true s.inner) in
     record { outer = ap (λ (a : Around). a.outer) back; names = λ x m h. ap (λ (a : Around). find x a.inner.names) back ∙ h }
 
-pub defined_kept : (s : Scopes) (v : Definition) → Keeps s (systems.defined s v).scopes
-unfolding systems.defined
+pub defined_kept : (s : Scopes) (v : Definition) → Keeps s (systems.type_of_definition s v).scopes
+unfolding systems.type_of_definition
 defined_kept s (type_definition t) = type_kept s spot.Definition t
 defined_kept s (system_definition y) = system_kept s y
 
@@ -272,7 +272,7 @@ unfolding systems.definition_step
 definition_kept s d =
     let named = name_reserved s d.name in
     let written = defined_kept (reserve_name s d.name).scopes d.value in
-    after s (systems.defined (reserve_name s d.name).scopes d.value).scopes _ (after s (reserve_name s d.name).scopes _ named written) (one_added _ d.name _)
+    after s (systems.type_of_definition (reserve_name s d.name).scopes d.value).scopes _ (after s (reserve_name s d.name).scopes _ named written) (one_added _ d.name _)
 
 pub definitions_kept : (s : Scopes) (ds : List SystemDefinition) → Keeps s (systems.definition_steps s ds).scopes
 unfolding systems.definition_steps

@@ -62,8 +62,8 @@ Heard s = (at : ℕ) (n : List ℕ) → Loud (names.visible s at n)
 
 -- ---- names
 
-pub begun_loud : (s : Scopes) (i : Identifier) → Heard s → Loud (names.begun s i)
-unfolding names.begun
+pub begun_loud : (s : Scopes) (i : Identifier) → Heard s → Loud (names.meaning_of_name s i)
+unfolding names.meaning_of_name
 begun_loud s i h = loud_then _ _ (h i.at i.name) (λ m. tt)
 
 field_loud : (at : ℕ) (d : DesignatedName) (o : Option (Option Meaning)) → Loud (names.with_field at d o)
@@ -74,18 +74,18 @@ entry_loud : (at : ℕ) (d : DesignatedName) (o : Option (Option Meaning)) → L
 entry_loud at d (Some (Some (meaning.Constant b v))) = tt
 entry_loud at d _ = tt
 
-selected_loud : (s : Scopes) (i : Identifier) (d : DesignatedName) (o : Option ValueType) → Loud (names.selected_of s i d o)
+selected_loud : (s : Scopes) (i : Identifier) (d : DesignatedName) (o : Option ValueType) → Loud (names.member_by_type s i d o)
 selected_loud s i d (Some (value_type.Record n)) = field_loud i.at d (field_at n i.name s)
 selected_loud s i d (Some (value_type.Component k n)) = entry_loud i.at d (member_at n i.name s)
 selected_loud s i d _ = tt
 
-known_loud : (at : ℕ) (d : DesignatedName) (n : Named) → Loud (names.known_named at d n)
+known_loud : (at : ℕ) (d : DesignatedName) (n : Named) → Loud (names.check_selectors_of at d n)
 known_loud at d name.Nothing = tt
 known_loud at d _ = tt
 
 -- ---- constants and labels
 
-sign_loud : (at : ℕ) (o : Option Sign) (n : ConstantNumber) → Loud (constants.signed at o n)
+sign_loud : (at : ℕ) (o : Option Sign) (n : ConstantNumber) → Loud (constants.number_with_sign at o n)
 sign_loud at None n = tt
 sign_loud at (Some s) n = search loud_if
 
@@ -93,8 +93,8 @@ constant_meant_loud : (at : ℕ) (m : Meaning) → Loud (constants.to_constant a
 constant_meant_loud at (meaning.Constant b v) = tt
 constant_meant_loud at _ = tt
 
-named_loud : (s : Scopes) (i : Identifier) → Heard s → Loud (constants.named s i)
-unfolding constants.named
+named_loud : (s : Scopes) (i : Identifier) → Heard s → Loud (constants.constant_named s i)
+unfolding constants.constant_named
 named_loud s i h = loud_then _ _ (h i.at i.name) (constant_meant_loud i.at)
 
 constant_kind_loud : (s : Scopes) (at : ℕ) (k : ConstantKind) → Heard s → Loud (constants.constant_kind s at k)
@@ -117,25 +117,25 @@ labels_loud s (c ∷ cs) h = loud_then _ _ (loud_both _ _ (label_loud s c h) (la
 
 -- ---- operations
 
-agreed_loud : (at : ℕ) (o : Option Operand) → Loud (operations.agreed at o)
+agreed_loud : (at : ℕ) (o : Option Operand) → Loud (operations.check_agreement at o)
 agreed_loud at (Some o) = tt
 agreed_loud at None = tt
 
-related_loud : (at : ℕ) (r : Relation) (p : Operand × Operand) → Loud (operations.related at r p)
+related_loud : (at : ℕ) (r : Relation) (p : Operand × Operand) → Loud (operations.relation_value at r p)
 related_loud at r p = search loud_if
 
-negated_loud : (at : ℕ) (o : Operand) → Loud (operations.negated at o)
+negated_loud : (at : ℕ) (o : Operand) → Loud (operations.negation_of at o)
 negated_loud at o = search loud_if
 
-stepped_loud : (at : ℕ) (t : ValueType) (u : Use) → Loud (operations.stepped at t u)
+stepped_loud : (at : ℕ) (t : ValueType) (u : Use) → Loud (operations.neighbour_value at t u)
 stepped_loud at (value_type.Ordinal r) u = tt
 stepped_loud at _ u = tt
 
-numbered_loud : (at : ℕ) (t : ValueType) (u : Use) → Loud (operations.numbered at t u)
+numbered_loud : (at : ℕ) (t : ValueType) (u : Use) → Loud (operations.ordinal_number at t u)
 numbered_loud at (value_type.Ordinal r) u = tt
 numbered_loud at _ u = tt
 
-applied_to_loud : (at : ℕ) (p : Predeclared) (o : Operand) (u : Use) → Loud (operations.applied_to at p o u)
+applied_to_loud : (at : ℕ) (p : Predeclared) (o : Operand) (u : Use) → Loud (operations.standard_value_of at p o u)
 applied_to_loud at predeclared.Succ o u = stepped_loud at o.value_type u
 applied_to_loud at predeclared.Pred o u = stepped_loud at o.value_type u
 applied_to_loud at predeclared.Ord o u = numbered_loud at o.value_type u
@@ -144,17 +144,17 @@ applied_to_loud at predeclared.Continue o u = tt
 applied_to_loud at predeclared.Display o u = tt
 applied_to_loud at x o u = search loud_if
 
-applied_all_loud : (at : ℕ) (p : Predeclared) (os : List Operand) (u : Use) → Loud (operations.applied_all at p os u)
+applied_all_loud : (at : ℕ) (p : Predeclared) (os : List Operand) (u : Use) → Loud (operations.standard_value_of_all at p os u)
 applied_all_loud at p (o ∷ []) u = applied_to_loud at p o u
 applied_all_loud at p _ u = tt
 
-applied_loud : (at : ℕ) (p : Predeclared) (os : List Operand) (u : Use) → Loud (operations.applied at p os u)
+applied_loud : (at : ℕ) (p : Predeclared) (os : List Operand) (u : Use) → Loud (operations.standard_value at p os u)
 applied_loud at p os u = search (loud_if, applied_all_loud)
 
 -- ---- calls
 
-called_loud : (s : Scopes) (w : Context) (at n_at : ℕ) (b : Bool) (n : ℕ) (os : List Operand) (u : Use) → Loud (calls.called s w at n_at b n os u)
-unfolding calls.called
+called_loud : (s : Scopes) (w : Context) (at n_at : ℕ) (b : Bool) (n : ℕ) (os : List Operand) (u : Use) → Loud (calls.check_routine_call s w at n_at b n os u)
+unfolding calls.check_routine_call
 called_loud s w at n_at b n os u = loud_unless _ _
 
 function_loud : (s : Scopes) (w : Context) (at n_at : ℕ) (b : Bool) (n : ℕ) (os : List Operand) (u : Use) (o : Option ValueType) → Loud (calls.function_of s w at n_at b n os u o)
@@ -169,7 +169,7 @@ alone_loud : (o : Operand) (os : List Operand) → Loud (calls.alone o os)
 alone_loud o [] = tt
 alone_loud o (p ∷ ps) = tt
 
-value_named_loud : (s : Scopes) (w : Context) (at : ℕ) (d : DesignatedName) (os : List Operand) (n : Named) → Loud (calls.value_named s w at d os n)
+value_named_loud : (s : Scopes) (w : Context) (at : ℕ) (d : DesignatedName) (os : List Operand) (n : Named) → Loud (calls.value_by_name s w at d os n)
 value_named_loud s w at d os name.Nothing = tt
 value_named_loud s w at d os name.Kind = tt
 value_named_loud s w at d os (name.Routine n) = function_value_loud s w at d.name_at true n os d.uses
@@ -190,11 +190,11 @@ set_like_loud : (at : ℕ) (os : List Operand) (t : ValueType) → Loud (express
 set_like_loud at os (value_type.Ordinal r) = search loud_if
 set_like_loud at os _ = tt
 
-constructed_loud : (at : ℕ) (os : List Operand) → Loud (expressions.constructed at os)
+constructed_loud : (at : ℕ) (os : List Operand) → Loud (expressions.set_value at os)
 constructed_loud at [] = tt
 constructed_loud at (o ∷ os) = set_like_loud at (o ∷ os) o.value_type
 
-named_value_loud : (s : Scopes) (w : Context) (v : Bool) (at : ℕ) (d : Judged DesignatedName) (os : Judged (List Operand)) → Loud d → Loud os → Loud (expressions.named_value s w v at d os)
+named_value_loud : (s : Scopes) (w : Context) (v : Bool) (at : ℕ) (d : Judged DesignatedName) (os : Judged (List Operand)) → Loud d → Loud os → Loud (expressions.value_of_name s w v at d os)
 named_value_loud s w v at d os h g = loud_if v _ _ (loud_then d _ h (variable_loud s w at)) (loud_then _ _ (loud_both d os h g) (value_loud s w at))
 
 mutual
@@ -242,17 +242,17 @@ mutual
 
 -- ---- statements
 
-aimed_loud : (at : ℕ) (t : Target) → Loud (statements.aimed at t)
+aimed_loud : (at : ℕ) (t : Target) → Loud (statements.check_target at t)
 aimed_loud at target.Kind = tt
 aimed_loud at _ = tt
 
-assigned_loud : (at : ℕ) (t : Target) (o : Operand) (u : Use) → Loud (statements.assigned at t o u)
+assigned_loud : (at : ℕ) (t : Target) (o : Operand) (u : Use) → Loud (statements.check_assignment at t o u)
 assigned_loud at (target.Fixed None) o u = tt
 assigned_loud at target.Kind o u = tt
 assigned_loud at x o u = search loud_if
 
 target_loud : (s : Scopes) (w : Context) (at : ℕ) (d : DesignatedName) → Loud (statements.with_target s w at d)
-target_loud s w at d = loud_then (statements.aimed at (statements.target_of s w d.named)) (λ t. Ok (t, d.uses)) (aimed_loud at (statements.target_of s w d.named)) (λ t. tt)
+target_loud s w at d = loud_then (statements.check_target at (statements.target_of s w d.named)) (λ t. Ok (t, d.uses)) (aimed_loud at (statements.target_of s w d.named)) (λ t. tt)
 
 finish_loud : (at : ℕ) (p : (Target × Use) × Operand) → Loud (statements.finish_assignment at p)
 finish_loud at p = assigned_loud at p.0.0 p.1 (both_uses p.0.1 p.1.uses)
@@ -262,7 +262,7 @@ unfolding statements.assignment
 assignment_loud s w at d e h =
     loud_then _ _ (loud_both _ _ (loud_then _ _ (designator_loud s w h d) (target_loud s w (statements.name_at d))) (expression_loud s w h false e)) (finish_loud at)
 
-performed_loud : (s : Scopes) (w : Context) (at : ℕ) (p : Predeclared) (os : List Operand) (u : Use) → Loud (statements.performed s w at p os u)
+performed_loud : (s : Scopes) (w : Context) (at : ℕ) (p : Predeclared) (os : List Operand) (u : Use) → Loud (statements.check_standard_call s w at p os u)
 performed_loud s w at predeclared.Delay os u = loud_unless _ _
 performed_loud s w at predeclared.Continue os u = loud_unless _ _
 performed_loud s w at predeclared.Display os u = loud_unless _ _
@@ -272,21 +272,21 @@ procedure_loud : (s : Scopes) (w : Context) (at n_at : ℕ) (b : Bool) (n : ℕ)
 procedure_loud s w at n_at b n os u (Some t) = tt
 procedure_loud s w at n_at b n os u None = called_loud s w at n_at b n os u
 
-procedure_called_loud : (s : Scopes) (w : Context) (at n_at : ℕ) (b : Bool) (n : ℕ) (os : List Operand) (u : Use) → Loud (statements.procedure_called s w at n_at b n os u)
-unfolding statements.procedure_called
+procedure_called_loud : (s : Scopes) (w : Context) (at n_at : ℕ) (b : Bool) (n : ℕ) (os : List Operand) (u : Use) → Loud (statements.check_procedure_call s w at n_at b n os u)
+unfolding statements.check_procedure_call
 procedure_called_loud s w at n_at b n os u = procedure_loud s w at n_at b n os u (heading_at n s).result
 
-invoked_named_loud : (s : Scopes) (w : Context) (at : ℕ) (d : DesignatedName) (os : List Operand) (n : Named) → Loud (statements.invoked_named s w at d os n)
+invoked_named_loud : (s : Scopes) (w : Context) (at : ℕ) (d : DesignatedName) (os : List Operand) (n : Named) → Loud (statements.check_call_of s w at d os n)
 invoked_named_loud s w at d os (name.Routine n) = procedure_called_loud s w at d.name_at true n os d.uses
 invoked_named_loud s w at d os (name.Entry n) = procedure_called_loud s w at d.name_at false n os d.uses
 invoked_named_loud s w at d os (name.Predeclared p) = performed_loud s w at p os _
 invoked_named_loud s w at d os _ = tt
 
 call_loud : (s : Scopes) (w : Context) (at : ℕ) (d : Designator) (es : Expressions) → Heard s → Loud (statements.call s w at d es)
-unfolding statements.call statements.invoked
+unfolding statements.call statements.check_call
 call_loud s w at d es h = loud_then _ _ (loud_both _ _ (designator_loud s w h d) (arguments_loud s w h _ 0 es)) (λ p. invoked_named_loud s w at p.0 p.1 p.0.named)
 
-tested_loud : (at : ℕ) (o : Operand) (u : Use) → Loud (statements.tested at o u)
+tested_loud : (at : ℕ) (o : Operand) (u : Use) → Loud (statements.check_test at o u)
 tested_loud at o u = search loud_if
 
 assertion_loud : (s : Scopes) (w : Context) (e : Expression) → Heard s → Loud (statements.assertion s w e)
@@ -299,10 +299,10 @@ test_then_loud at p = tested_loud at p.0 (both_uses p.0.uses p.1)
 test_last_loud : (at : ℕ) (p : Use × Operand) → Loud (statements.test_last at p)
 test_last_loud at p = tested_loud at p.1 (both_uses p.0 p.1.uses)
 
-chosen_loud : (at : ℕ) (p : Operand × (List Label × Use)) → Loud (cases.chosen at p)
+chosen_loud : (at : ℕ) (p : Operand × (List Label × Use)) → Loud (cases.check_case at p)
 chosen_loud at p = loud_unless (cases.case_faults at p.0 p.1.0) (both_uses p.0.uses p.1.1)
 
-counted_loud : (at n : ℕ) (t : Target) (a b : Operand) (u : Use) → Loud (statements.counted at n t a b u)
+counted_loud : (at n : ℕ) (t : Target) (a b : Operand) (u : Use) → Loud (statements.check_for at n t a b u)
 counted_loud at n target.Kind a b u = tt
 counted_loud at n (target.Fixed (Some t)) a b u = search loud_if
 counted_loud at n x a b u = search loud_if
@@ -310,12 +310,12 @@ counted_loud at n x a b u = search loud_if
 count_over_loud : (s : Scopes) (w : Context) (at n : ℕ) (p : ((DesignatedName × Operand) × Operand) × Use) → Loud (statements.count_over s w at n p)
 count_over_loud s w at n p = counted_loud at n (statements.target_of s w p.0.0.0.named) p.0.0.1 p.0.1 (both_uses (both_uses p.0.0.1.uses p.0.1.uses) p.1)
 
-started_loud : (s : Scopes) (at : ℕ) (d : DesignatedName) (os : List Operand) (n : Named) → Loud (statements.started_named s at d os n)
+started_loud : (s : Scopes) (at : ℕ) (d : DesignatedName) (os : List Operand) (n : Named) → Loud (statements.check_start_of s at d os n)
 started_loud s at d os (name.Variable (value_type.Component k n)) = loud_unless _ _
 started_loud s at d os _ = tt
 
 pub start_loud : (s : Scopes) (w : Context) (i : Start) → Heard s → Loud (statements.start s w i)
-unfolding statements.start statements.started
+unfolding statements.start statements.check_start
 start_loud s w i h = loud_then _ _ (loud_both _ _ (designator_loud s w h i.target) (arguments_loud s w h [] 0 i.arguments)) (λ p. started_loud s _ p.0 p.1 p.0.named)
 
 pub starts_loud : (s : Scopes) (w : Context) (is : List Start) (j : Judged Use) → Heard s → Loud j → Loud (statements.starts s w j is)

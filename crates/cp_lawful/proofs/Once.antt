@@ -8,9 +8,9 @@ use Rattle.cp_scope.specs.declared.types.Meaning as checker
 use Rattle.cp_scope.specs.Scopes.{Names, Scope, Scopes, find, is_among, is_declared, is_declared_in, with_name, with_pending, add, reserve, settle, enter, start}
 use Rattle.cp_check.specs.declared.types.Spot.TheVariants as spot
 use Rattle.cp_check.specs.Types.{then_step, nothing, typed}
-use Rattle.cp_check.specs.Declarations.{reserve_name, reserve_names, add_names, add_all, as_declared, to_kind, to_variable, variable_step, variable_steps, part_step, part_steps}
+use Rattle.cp_check.specs.Declarations.{reserve_name, reserve_names, add_names, add_all, meaning_or_none, to_kind, to_variable, variable_step, variable_steps, part_step, part_steps}
 use Rattle.cp_check.specs.Systems as systems
-use Rattle.cp_check.specs.Faults.{declarations, program_context, opened, limit_faults, faults_of}
+use Rattle.cp_check.specs.Faults.{declarations, program_context, declarations_and_body, limit_faults, faults_of}
 use Rattle.cp_check.specs.Routines.{routine_steps}
 use Rattle.cp_scope.specs.Counts.{no_use}
 use Rattle.cp_meaning.specs.Scopes as meant
@@ -208,7 +208,7 @@ step_new p s g h = names_new s g.names (no_left _ _ h)
 
 step_known : (p : Spot) (s : Scopes) (g : VariableGroup) → AreKnown (variable_step p s g).scopes.inner.names g.names
 unfolding variable_step
-step_known p s g = all_known (typed (reserve_names s g.names).scopes p g.variable_type).scopes g.names (as_declared ((typed (reserve_names s g.names).scopes p g.variable_type).type >>= to_variable))
+step_known p s g = all_known (typed (reserve_names s g.names).scopes p g.variable_type).scopes g.names (meaning_or_none ((typed (reserve_names s g.names).scopes p g.variable_type).type >>= to_variable))
 
 variable_once : (p : Spot) (s : Scopes) (g : VariableGroup) (vs : List Variable) (t : Ty) → (variable_step p s g).faults ≡ [] → Once s vs → Once (variable_step p s g).scopes (vs ++ named_variables (names_of g.names) t)
 variable_once p s g vs t h once =
@@ -248,11 +248,11 @@ all_append [] m h k = (k, tt)
 all_append (x ∷ ms) m h k = (h.0, all_append ms m h.1 k)
 
 -- a system type that breaks no rule is made of declarations that break none
-pub inside_sound : (s : Scopes) (y : System) → faults (systems.defined s (system_definition y)).type ≡ [] → (systems.inside (enter true s) y).faults ≡ []
-unfolding systems.defined systems.system_typed systems.opened
-inside_sound s y h = none_before (systems.inside (enter true s) y).faults (statements (systems.inside (enter true s) y).scopes (systems.initial_context y.kind) (Ok no_use) y.body.statements) (no_first (systems.opened (enter true s) y).uses (systems.to_component y.kind y.at) h)
+pub inside_sound : (s : Scopes) (y : System) → faults (systems.type_of_definition s (system_definition y)).type ≡ [] → (systems.inside (enter true s) y).faults ≡ []
+unfolding systems.type_of_definition systems.system_type systems.enter_system
+inside_sound s y h = none_before (systems.inside (enter true s) y).faults (statements (systems.inside (enter true s) y).scopes (systems.initial_context y.kind) (Ok no_use) y.body.statements) (no_first (systems.enter_system (enter true s) y).uses (systems.to_component y.kind y.at) h)
 
-definition_once : (s : Scopes) (d : Declared) (n : SystemDefinition) (v : Definition) → faults (systems.defined s v).type ≡ [] → AllDistinct d.systems → AllDistinct (definition_in d n v).systems
+definition_once : (s : Scopes) (d : Declared) (n : SystemDefinition) (v : Definition) → faults (systems.type_of_definition s v).type ≡ [] → AllDistinct d.systems → AllDistinct (definition_in d n v).systems
 definition_once s d n (type_definition t) h all = all
 definition_once s d n (system_definition y) h all = all_append d.systems _ all (system_distinct (enter true s) y _ (inside_sound s y h))
 
@@ -260,9 +260,9 @@ same_variables : (d : Declared) (n : SystemDefinition) (v : Definition) → (def
 same_variables d n (type_definition t) = refl
 same_variables d n (system_definition y) = refl
 
-pub defined_sound : (s : Scopes) (n : SystemDefinition) → (systems.definition_step s n).faults ≡ [] → faults (systems.defined (reserve_name s n.name).scopes n.value).type ≡ []
+pub defined_sound : (s : Scopes) (n : SystemDefinition) → (systems.definition_step s n).faults ≡ [] → faults (systems.type_of_definition (reserve_name s n.name).scopes n.value).type ≡ []
 unfolding systems.definition_step
-defined_sound s n h = no_first (systems.defined (reserve_name s n.name).scopes n.value).type to_kind (no_right (reserve_name s n.name).faults (faults ((systems.defined (reserve_name s n.name).scopes n.value).type >>= to_kind)) h)
+defined_sound s n h = no_first (systems.type_of_definition (reserve_name s n.name).scopes n.value).type to_kind (no_right (reserve_name s n.name).faults (faults ((systems.type_of_definition (reserve_name s n.name).scopes n.value).type >>= to_kind)) h)
 
 abbrev ProgramOnce : Scopes → Declared → Type 0
 ProgramOnce s d = AllDistinct d.systems × Once s d.variables
@@ -294,8 +294,8 @@ uses_sound at s (Ok u) k = refl
 uses_sound at s (Err fs) k = k
 
 pub declarations_sound : (t : Tree) → faults_of t ≡ [] → (declarations start t.program).faults ≡ []
-unfolding faults_of opened
-declarations_sound t h = none_before (declarations start t.program).faults (statements (declarations start t.program).scopes program_context (Ok no_use) t.program.body.statements) (uses_sound t.program.period (opened start t.program).scopes (opened start t.program).uses h)
+unfolding faults_of declarations_and_body
+declarations_sound t h = none_before (declarations start t.program).faults (statements (declarations start t.program).scopes program_context (Ok no_use) t.program.body.statements) (uses_sound t.program.period (declarations_and_body start t.program).scopes (declarations_and_body start t.program).uses h)
 
 pub parts_sound : (t : Tree) → faults_of t ≡ [] → (systems.program_part_steps start t.program.parts).faults ≡ []
 unfolding declarations

@@ -19,8 +19,8 @@ use Rattle.cp_check.specs.Names as names
 use Rattle.cp_check.specs.Constants.{constant}
 use Rattle.cp_check.specs.Types as typing
 use Rattle.cp_check.specs.Types.{Step, nothing, Typed, typed}
-use Rattle.cp_check.specs.Records.{Fields, sound_of}
-use Rattle.cp_check.specs.Declarations.{as_declared, to_constant, to_kind, to_variable, reserve_name, reserve_names, add_names, add_all, add_one, constant_step, constant_steps, type_step, type_steps, variable_step, variable_steps, part_step, part_steps}
+use Rattle.cp_check.specs.Records.{Fields, check_fields_of}
+use Rattle.cp_check.specs.Declarations.{meaning_or_none, to_constant, to_kind, to_variable, reserve_name, reserve_names, add_names, add_all, add_one, constant_step, constant_steps, type_step, type_steps, variable_step, variable_steps, part_step, part_steps}
 use Rattle.cp_check.specs.Headings as headings
 use Rattle.cp_check.specs.Routines as routines
 use Rattle.cp_check.specs.Systems as systems
@@ -85,7 +85,7 @@ outer_said : (n : List ℕ) (cs : List Scope) → AllTold cs → Said (look_oute
 outer_said n [] h = tt
 outer_said n (c ∷ cs) h = or_said (look_outer n cs) (look_in n c) (outer_said n cs h.1) (look_in_said n c h.0)
 
-found_loud : (at : ℕ) (o : Option (Option Meaning)) → Said o → Loud (names.found at o)
+found_loud : (at : ℕ) (o : Option (Option Meaning)) → Said o → Loud (names.check_visible at o)
 found_loud at (Some None) h = h
 found_loud at _ h = tt
 
@@ -140,18 +140,18 @@ unfolding add_names
 names_added_told s [] m h g = h
 names_added_told s (n ∷ ns) m h g = names_added_told (add s n.name m) ns m (add_told s n.name m h g) g
 
-judged_told : (j : Judged Meaning) → Loud j → faults j ≡ [] → IsTold (as_declared j)
+judged_told : (j : Judged Meaning) → Loud j → faults j ≡ [] → IsTold (meaning_or_none j)
 judged_told (Ok m) h e = tt
 judged_told (Err []) h e = h
 judged_told (Err (f ∷ fs)) h e = absurd (let bad : f ∷ fs ≡ [] = e in cc)
 
-all_told : (ns : List Identifier) (j : Judged Meaning) (s : Scopes) → Told s → Loud j → faults j ≡ [] → Told (add_all s ns (as_declared j))
+all_told : (ns : List Identifier) (j : Judged Meaning) (s : Scopes) → Told s → Loud j → faults j ≡ [] → Told (add_all s ns (meaning_or_none j))
 unfolding add_all
-all_told ns j s h loud e = settle_told (add_names s ns (as_declared j)) (names_added_told s ns (as_declared j) h (judged_told j loud e))
+all_told ns j s h loud e = settle_told (add_names s ns (meaning_or_none j)) (names_added_told s ns (meaning_or_none j) h (judged_told j loud e))
 
-one_told : (n : Identifier) (j : Judged Meaning) (s : Scopes) → Told s → Loud j → faults j ≡ [] → Told (add_one s n (as_declared j))
+one_told : (n : Identifier) (j : Judged Meaning) (s : Scopes) → Told s → Loud j → faults j ≡ [] → Told (add_one s n (meaning_or_none j))
 unfolding add_one
-one_told n j s h loud e = settle_told (add s n.name (as_declared j)) (add_told s n.name (as_declared j) h (judged_told j loud e))
+one_told n j s h loud e = settle_told (add s n.name (meaning_or_none j)) (add_told s n.name (meaning_or_none j) h (judged_told j loud e))
 
 -- ---- types
 
@@ -163,19 +163,19 @@ pub type_named_loud : (s : Scopes) (at : ℕ) (n : List ℕ) → Told s → Loud
 unfolding typing.type_named
 type_named_loud s at n h = loud_then (names.visible s at n) (typing.to_type at) (heard s h at n) (to_type_loud at)
 
-held_loud : (at : ℕ) (p : Spot) (h : Holding) (t : ValueType) → Loud (typing.held_at at p h t)
+held_loud : (at : ℕ) (p : Spot) (h : Holding) (t : ValueType) → Loud (typing.check_spot_of at p h t)
 held_loud at p holds.Plain t = tt
 held_loud at p x t = search loud_if
 
-spotted_loud : (at : ℕ) (p : Spot) (h : Holding) (t : ValueType) → Loud (typing.spotted at p h t)
+spotted_loud : (at : ℕ) (p : Spot) (h : Holding) (t : ValueType) → Loud (typing.check_spot at p h t)
 spotted_loud at (spot.Permanent o) h t = held_loud at (spot.Permanent o) h t
 spotted_loud at spot.Definition h t = held_loud at spot.Definition h t
 spotted_loud at spot.Element h t = held_loud at spot.Element h t
 spotted_loud at spot.Base h t = tt
 spotted_loud at spot.Other h t = held_loud at spot.Other h t
 
-type_spotted_loud : (s : Scopes) (p : Spot) (at : ℕ) (n : List ℕ) → Told s → Loud (typing.type_spotted s p at n)
-unfolding typing.type_spotted
+type_spotted_loud : (s : Scopes) (p : Spot) (at : ℕ) (n : List ℕ) → Told s → Loud (typing.type_at_spot s p at n)
+unfolding typing.type_at_spot
 type_spotted_loud s p at n h = loud_then (typing.type_named s at n) (typing.at_spot s p at) (type_named_loud s at n h) (λ t. spotted_loud at p (typing.holding s t) t)
 
 member_told : (s : Scopes) (b : Base) (k : ℕ) (i : Identifier) → Told s → Told (typing.member s b k i).scopes
@@ -195,43 +195,43 @@ unless_type_loud : (fs : List CheckFault) (t : ValueType) → Loud (typing.unles
 unless_type_loud [] t = tt
 unless_type_loud (f ∷ fs) t = tt
 
-ranged_loud : (at : ℕ) (p : ConstantNumber × ConstantNumber) → Loud (typing.ranged at p)
+ranged_loud : (at : ℕ) (p : ConstantNumber × ConstantNumber) → Loud (typing.subrange_type at p)
 ranged_loud at p = search loud_if
 
-simple_told : (s : Scopes) (p : Spot) (t : Simple) → Told s → Told (typing.simple_typed s p t).scopes × Loud (typing.simple_typed s p t).type
-unfolding typing.simple_typed
+simple_told : (s : Scopes) (p : Spot) (t : Simple) → Told s → Told (typing.simple_type s p t).scopes × Loud (typing.simple_type s p t).type
+unfolding typing.simple_type
 simple_told s p (type_name at n) h = (h, type_spotted_loud s p at n h)
 simple_told s p (enumeration at is) h = (members_told s (typing.base_of at is) 0 is h, unless_type_loud (typing.members s (typing.base_of at is) 0 is).faults _)
-simple_told s p (subrange at a b) h = (h, loud_then (both (constant s a) (constant s b)) (typing.ranged at) (loud_both (constant s a) (constant s b) (constant_loud s a (heard s h)) (constant_loud s b (heard s h))) (ranged_loud at))
+simple_told s p (subrange at a b) h = (h, loud_then (both (constant s a) (constant s b)) (typing.subrange_type at) (loud_both (constant s a) (constant s b) (constant_loud s a (heard s h)) (constant_loud s b (heard s h))) (ranged_loud at))
 
-limited_loud : (at n : ℕ) → Loud (typing.limited at n)
+limited_loud : (at n : ℕ) → Loud (typing.check_cells at n)
 limited_loud at n = search loud_if
 
 abbrev with_shape : Range → ValueType → ℕ → Unit {0} → Judged ArrayShape
 with_shape r e n u = Ok (record { index = r; element = e; cells = n })
 
 array_loud : (s : Scopes) (p : Spot) (at : ℕ) (i e : ValueType) → Loud (typing.array_of_range s p at i e)
-array_loud s p at (value_type.Ordinal r) e = loud_then (typing.spotted at p (typing.holding_array e) (value_type.Array at)) _ (spotted_loud at p (typing.holding_array e) (value_type.Array at)) (λ t. loud_then (typing.limited at (times (count_of r) (cells_of e s.shapes))) (with_shape r e (times (count_of r) (cells_of e s.shapes))) (limited_loud at (times (count_of r) (cells_of e s.shapes))) (λ u. tt))
+array_loud s p at (value_type.Ordinal r) e = loud_then (typing.check_spot at p (typing.holding_array e) (value_type.Array at)) _ (spotted_loud at p (typing.holding_array e) (value_type.Array at)) (λ t. loud_then (typing.check_cells at (times (count_of r) (cells_of e s.shapes))) (with_shape r e (times (count_of r) (cells_of e s.shapes))) (limited_loud at (times (count_of r) (cells_of e s.shapes))) (λ u. tt))
 array_loud s p at _ e = tt
 
-arrayed_loud : (s : Scopes) (p : Spot) (at : ℕ) (q : ValueType × ValueType) → Loud (typing.arrayed s p at q)
-unfolding typing.arrayed
+arrayed_loud : (s : Scopes) (p : Spot) (at : ℕ) (q : ValueType × ValueType) → Loud (typing.shape_of_array s p at q)
+unfolding typing.shape_of_array
 arrayed_loud s p at q = array_loud s p at q.0 q.1
 
 array_kept_told : (s : Scopes) (at : ℕ) (j : Judged ArrayShape) → Told s → Told (typing.keep_array s at j)
 array_kept_told s at (Ok a) h = keep_told s at _ h
 array_kept_told s at (Err fs) h = h
 
-array_typed_told : (p : Spot) (at : ℕ) (i : Judged ValueType) (e : Typed) → Loud i → Told e.scopes → Loud e.type → Told (typing.array_typed p at i e).scopes × Loud (typing.array_typed p at i e).type
+array_typed_told : (p : Spot) (at : ℕ) (i : Judged ValueType) (e : Typed) → Loud i → Told e.scopes → Loud e.type → Told (typing.array_type p at i e).scopes × Loud (typing.array_type p at i e).type
 array_typed_told p at i e loud told element =
-    let heard_shape : Loud (both i e.type >>= typing.arrayed e.scopes p at) = loud_then (both i e.type) (typing.arrayed e.scopes p at) (loud_both i e.type loud element) (arrayed_loud e.scopes p at) in
-    (array_kept_told e.scopes at (both i e.type >>= typing.arrayed e.scopes p at) told, loud_then (both i e.type >>= typing.arrayed e.scopes p at) (typing.to_array at) heard_shape (λ a. tt))
+    let heard_shape : Loud (both i e.type >>= typing.shape_of_array e.scopes p at) = loud_then (both i e.type) (typing.shape_of_array e.scopes p at) (loud_both i e.type loud element) (arrayed_loud e.scopes p at) in
+    (array_kept_told e.scopes at (both i e.type >>= typing.shape_of_array e.scopes p at) told, loud_then (both i e.type >>= typing.shape_of_array e.scopes p at) (typing.to_array at) heard_shape (λ a. tt))
 
 set_of_loud : (at base_at : ℕ) (t : ValueType) → Loud (typing.set_of at base_at t)
 set_of_loud at base_at (value_type.Ordinal r) = search loud_if
 set_of_loud at base_at _ = tt
 
-sound_loud : (fs : List CheckFault) (f : Scope) → Loud (sound_of fs f)
+sound_loud : (fs : List CheckFault) (f : Scope) → Loud (check_fields_of fs f)
 sound_loud [] f = tt
 sound_loud (e ∷ es) f = tt
 
@@ -242,8 +242,8 @@ record_kept_told s at (Err fs) h = h
 abbrev with_record : Scope → ℕ → Unit {0} → Judged Shape
 with_record f n u = Ok (record_shape f n)
 
-recorded_loud : (at : ℕ) (f : Fields) → Loud (typing.recorded at f)
-recorded_loud at f = loud_then (sound_of f.faults f.fields) (typing.shaped f.scopes at) (sound_loud f.faults f.fields) (λ c. loud_then (typing.limited at (typing.cells_in c f.scopes)) (with_record c (typing.cells_in c f.scopes)) (limited_loud at (typing.cells_in c f.scopes)) (λ u. tt))
+recorded_loud : (at : ℕ) (f : Fields) → Loud (typing.sound_shape at f)
+recorded_loud at f = loud_then (check_fields_of f.faults f.fields) (typing.shape_within_limits f.scopes at) (sound_loud f.faults f.fields) (λ c. loud_then (typing.check_cells at (typing.cells_in c f.scopes)) (with_record c (typing.cells_in c f.scopes)) (limited_loud at (typing.cells_in c f.scopes)) (λ u. tt))
 
 mutual
   unfolding typed
@@ -252,13 +252,13 @@ mutual
   type_told s p (simple at t) h = simple_told s p t h
   type_told s p (array_of at i e) h =
       let index = simple_told s spot.Other i h in
-      let element = type_told (typing.simple_typed s spot.Other i).scopes spot.Element e index.0 in
-      array_typed_told p at (typing.simple_typed s spot.Other i).type (typed (typing.simple_typed s spot.Other i).scopes spot.Element e) index.1 element.0 element.1
+      let element = type_told (typing.simple_type s spot.Other i).scopes spot.Element e index.0 in
+      array_typed_told p at (typing.simple_type s spot.Other i).type (typed (typing.simple_type s spot.Other i).scopes spot.Element e) index.1 element.0 element.1
   type_told s p (set_type at b) h =
       let base = simple_told s spot.Base b h in
-      (base.0, loud_then (typing.simple_typed s spot.Base b).type (typing.set_of at (typing.simple_at b)) base.1 (set_of_loud at (typing.simple_at b)))
+      (base.0, loud_then (typing.simple_type s spot.Base b).type (typing.set_of at (typing.simple_at b)) base.1 (set_of_loud at (typing.simple_at b)))
   type_told s p (record_of at gs b) h =
-      (record_kept_told (typing.groups_typed new_scope s gs).scopes at (typing.recorded at (typing.groups_typed new_scope s gs)) (groups_told new_scope s gs h), loud_then (typing.recorded at (typing.groups_typed new_scope s gs)) (typing.to_record at) (recorded_loud at (typing.groups_typed new_scope s gs)) (λ d. tt))
+      (record_kept_told (typing.groups_typed new_scope s gs).scopes at (typing.sound_shape at (typing.groups_typed new_scope s gs)) (groups_told new_scope s gs h), loud_then (typing.sound_shape at (typing.groups_typed new_scope s gs)) (typing.to_record at) (recorded_loud at (typing.groups_typed new_scope s gs)) (λ d. tt))
 
   groups_told : (f : Scope) (s : Scopes) (gs : FieldGroups) → Told s → Told (typing.groups_typed f s gs).scopes
   groups_told f s no_fields h = h
@@ -283,7 +283,7 @@ constants_told s [] e h = h
 constants_told s (d ∷ ds) e h = constants_told (constant_step s d).scopes ds (no_right (constant_step s d).faults (constant_steps (constant_step s d).scopes ds).faults e) (constant_told s d (no_left (constant_step s d).faults (constant_steps (constant_step s d).scopes ds).faults e) h)
 
 -- what a written type leaves under its name
-kind_told : (n : Identifier) (t : Typed) → Told t.scopes → Loud t.type → faults (t.type >>= to_kind) ≡ [] → Told (add_one t.scopes n (as_declared (t.type >>= to_kind)))
+kind_told : (n : Identifier) (t : Typed) → Told t.scopes → Loud t.type → faults (t.type >>= to_kind) ≡ [] → Told (add_one t.scopes n (meaning_or_none (t.type >>= to_kind)))
 kind_told n t told loud e = one_told n (t.type >>= to_kind) t.scopes told (loud_then t.type to_kind loud (λ v. tt)) e
 
 type_step_told : (s : Scopes) (d : TypeDefinition) → (type_step s d).faults ≡ [] → Told s → Told (type_step s d).scopes
@@ -323,13 +323,13 @@ parts_told p s (d ∷ ds) e h = parts_told p (part_step p s d).scopes ds (no_rig
 
 -- ---- headings of routines
 
-admitted_loud : (at : ℕ) (h : Holding) (t : ValueType) → Loud (headings.admitted at h t)
+admitted_loud : (at : ℕ) (h : Holding) (t : ValueType) → Loud (headings.check_parameter_type at h t)
 admitted_loud at (holds.Component system_kind.Class) t = tt
 admitted_loud at _ t = tt
 
 parameter_type_loud : (s : Scopes) (g : Group) → Told s → Loud (headings.parameter_type s g)
 unfolding headings.parameter_type
-parameter_type_loud s g h = loud_then (typing.type_named s g.type_name.at g.type_name.name) (headings.admitted_in s g.type_name.at) (type_named_loud s g.type_name.at g.type_name.name h) (λ t. admitted_loud g.type_name.at (typing.holding s t) t)
+parameter_type_loud s g h = loud_then (typing.type_named s g.type_name.at g.type_name.name) (headings.check_parameter_type_in s g.type_name.at) (type_named_loud s g.type_name.at g.type_name.name h) (λ t. admitted_loud g.type_name.at (typing.holding s t) t)
 
 routine_group_told : (b : Bool) (s : Scopes) (g : Group) → (headings.group_step b s g).faults ≡ [] → Told s → Told (headings.group_step b s g).scopes
 unfolding headings.group_step
@@ -349,13 +349,13 @@ unfolding headings.parameter_steps
 parameters_told s [] e h = h
 parameters_told s (g ∷ gs) e h = parameters_told (headings.parameter_step s g).scopes gs (no_right (headings.parameter_step s g).faults (headings.parameter_steps (headings.parameter_step s g).scopes gs).faults e) (routine_group_told g.is_var s g.group (no_left (headings.parameter_step s g).faults (headings.parameter_steps (headings.parameter_step s g).scopes gs).faults e) h)
 
-returned_loud : (at : ℕ) (h : Holding) (t : ValueType) → Loud (headings.returned at h t)
+returned_loud : (at : ℕ) (h : Holding) (t : ValueType) → Loud (headings.check_result_type at h t)
 returned_loud at holds.Plain t = tt
 returned_loud at _ t = tt
 
 result_loud : (s : Scopes) (i : Identifier) → Told s → Loud (headings.result_type s i)
 unfolding headings.result_type
-result_loud s i h = loud_then (typing.type_named s i.at i.name >>= headings.returned_in s i.at) headings.some_type (loud_then (typing.type_named s i.at i.name) (headings.returned_in s i.at) (type_named_loud s i.at i.name h) (λ t. returned_loud i.at (typing.holding s t) t)) (λ t. tt)
+result_loud s i h = loud_then (typing.type_named s i.at i.name >>= headings.check_result_type_in s i.at) headings.some_type (loud_then (typing.type_named s i.at i.name) (headings.check_result_type_in s i.at) (type_named_loud s i.at i.name h) (λ t. returned_loud i.at (typing.holding s t) t)) (λ t. tt)
 
 after_loud : {A : Type 0} (fs : List CheckFault) (j : Judged A) → (fs ≡ [] → Loud j) → Loud (after_faults fs j)
 after_loud [] j g = g refl
@@ -365,14 +365,14 @@ pub none_after : {A : Type 0} (fs : List CheckFault) (j : Judged A) → faults (
 none_after [] j h = h
 none_after (f ∷ fs) j h = absurd (let bad : f ∷ (fs ++ faults j) ≡ [] = h in cc)
 
-written_loud : (s : Scopes) (k : RoutineKind) → Told s → Loud (headings.written s k).result
-unfolding headings.written
+written_loud : (s : Scopes) (k : RoutineKind) → Told s → Loud (headings.parameters_and_result s k).result
+unfolding headings.parameters_and_result
 written_loud s (procedure gs) h = after_loud (headings.parameter_steps s gs).faults (Ok None) (λ e. tt)
 written_loud s (function gs i) h = after_loud (headings.group_steps s gs).faults (headings.result_type (headings.group_steps s gs).scopes i) (λ e. result_loud (headings.group_steps s gs).scopes i (routine_groups_told s gs e h))
 written_loud s invariants h = after_loud (headings.parameter_steps s []).faults (Ok None) (λ e. tt)
 
-pub written_told : (s : Scopes) (k : RoutineKind) → faults (headings.written s k).result ≡ [] → Told s → Told (headings.written s k).scopes
-unfolding headings.written
+pub written_told : (s : Scopes) (k : RoutineKind) → faults (headings.parameters_and_result s k).result ≡ [] → Told s → Told (headings.parameters_and_result s k).scopes
+unfolding headings.parameters_and_result
 written_told s (procedure gs) e h = parameters_told s gs (none_before {A = Option ValueType} (headings.parameter_steps s gs).faults (Ok None) e) h
 written_told s (function gs i) e h = routine_groups_told s gs (none_before (headings.group_steps s gs).faults (headings.result_type (headings.group_steps s gs).scopes i) e) h
 written_told s invariants e h = parameters_told s [] (none_before {A = Option ValueType} (headings.parameter_steps s []).faults (Ok None) e) h
@@ -407,14 +407,14 @@ add_around_told s n m h g =
 
 -- ---- routines
 
-pub announced_told : (r : Routine) (j : Judged (Option ValueType)) (s : Scopes) → Loud j → faults j ≡ [] → Told s → Told (headings.announced_of r j s)
-unfolding headings.announced
+pub announced_told : (r : Routine) (j : Judged (Option ValueType)) (s : Scopes) → Loud j → faults j ≡ [] → Told s → Told (headings.announce_judged r j s)
+unfolding headings.announce
 announced_told r (Ok t) s loud e h = add_around_told (keep s r.name.at _) r.name.name (Some (meaning.Routine r.name.at)) (keep_told s r.name.at _ h) tt
 announced_told r (Err []) s loud e h = absurd loud
 announced_told r (Err (f ∷ fs)) s loud e h = absurd (let bad : f ∷ fs ≡ [] = e in cc)
 
-closed_told : (r : Routine) (j : Judged (Option ValueType)) (u : Judged Use) (s : Scopes) → Loud j → faults j ≡ [] → Loud u → faults u ≡ [] → Told s → Told (routines.closed_of r j u s)
-unfolding routines.closed
+closed_told : (r : Routine) (j : Judged (Option ValueType)) (u : Judged Use) (s : Scopes) → Loud j → faults j ≡ [] → Loud u → faults u ≡ [] → Told s → Told (routines.close_routine_of r j u s)
+unfolding routines.close_routine
 closed_told r (Ok t) (Ok u) s a b c d h = settle_told (keep (leave s) r.body.at _) (keep_told (leave s) r.body.at _ (leave_told s h))
 closed_told r (Ok t) (Err []) s a b c d h = absurd c
 closed_told r (Ok t) (Err (f ∷ fs)) s a b c d h = absurd (let bad : f ∷ fs ≡ [] = d in cc)
@@ -425,29 +425,29 @@ closed_told r (Err (f ∷ fs)) u s a b c d h = absurd (let bad : f ∷ fs ≡ []
 pub heading_loud : (k : Option SystemKind) (r : Routine) (d : Step) → Told d.scopes → Loud (headings.heading k r d).result
 unfolding headings.heading
 heading_loud k r d h =
-    loud_then (after_faults d.faults (headings.written (enter false d.scopes) r.kind).result) (headings.ruled k r)
-    (after_loud d.faults (headings.written (enter false d.scopes) r.kind).result (λ e. written_loud (enter false d.scopes) r.kind (enter_told false d.scopes h)))
+    loud_then (after_faults d.faults (headings.parameters_and_result (enter false d.scopes) r.kind).result) (headings.check_heading k r)
+    (after_loud d.faults (headings.parameters_and_result (enter false d.scopes) r.kind).result (λ e. written_loud (enter false d.scopes) r.kind (enter_told false d.scopes h)))
     (λ t. loud_unless (headings.heading_faults k r t) t)
 
 pub heading_told : (k : Option SystemKind) (r : Routine) (d : Step) → faults (headings.heading k r d).result ≡ [] → Told d.scopes → Told (headings.heading k r d).scopes
 unfolding headings.heading
 heading_told k r d e h =
-    written_told (enter false d.scopes) r.kind (none_after d.faults (headings.written (enter false d.scopes) r.kind).result (no_first (after_faults d.faults (headings.written (enter false d.scopes) r.kind).result) (headings.ruled k r) e)) (enter_told false d.scopes h)
+    written_told (enter false d.scopes) r.kind (none_after d.faults (headings.parameters_and_result (enter false d.scopes) r.kind).result (no_first (after_faults d.faults (headings.parameters_and_result (enter false d.scopes) r.kind).result) (headings.check_heading k r) e)) (enter_told false d.scopes h)
 
-body_loud : (k : Option SystemKind) (r : Routine) (d : Step) → (d.faults ≡ [] → Told d.scopes) → Loud (routines.opened_step k r d).uses
+body_loud : (k : Option SystemKind) (r : Routine) (d : Step) → (d.faults ≡ [] → Told d.scopes) → Loud (routines.body_after k r d).uses
 body_loud k r d h = after_loud d.faults (statements d.scopes (routines.routine_context k r) (Ok no_use) r.body.statements) (λ e. statements_loud d.scopes (routines.routine_context k r) (heard d.scopes (h e)) r.body.statements (Ok no_use) tt)
 
-headed_told : (k : Option SystemKind) (r : Routine) (h : headings.Headed) → (routines.headed_step k r h).faults ≡ [] → Loud h.result → (faults h.result ≡ [] → Told h.scopes) → Told (routines.headed_step k r h).scopes
-unfolding routines.opened
+headed_told : (k : Option SystemKind) (r : Routine) (h : headings.Headed) → (routines.routine_after_heading k r h).faults ≡ [] → Loud h.result → (faults h.result ≡ [] → Told h.scopes) → Told (routines.routine_after_heading k r h).scopes
+unfolding routines.enter_routine
 headed_told k r h e loud told =
-    let none : faults h.result ≡ [] = no_left (faults h.result) (faults (routines.opened_step k r (part_steps spot.Other (headings.announced_of r h.result h.scopes) r.parts)).uses) e in
-    let quiet : faults (routines.opened_step k r (part_steps spot.Other (headings.announced_of r h.result h.scopes) r.parts)).uses ≡ [] = no_right (faults h.result) (faults (routines.opened_step k r (part_steps spot.Other (headings.announced_of r h.result h.scopes) r.parts)).uses) e in
-    let before : Told (headings.announced_of r h.result h.scopes) = announced_told r h.result h.scopes loud none (told none) in
-    let parts : (part_steps spot.Other (headings.announced_of r h.result h.scopes) r.parts).faults ≡ [] → Told (part_steps spot.Other (headings.announced_of r h.result h.scopes) r.parts).scopes = (λ f. parts_told spot.Other (headings.announced_of r h.result h.scopes) r.parts f before) in
-    closed_told r h.result (routines.opened_step k r (part_steps spot.Other (headings.announced_of r h.result h.scopes) r.parts)).uses (part_steps spot.Other (headings.announced_of r h.result h.scopes) r.parts).scopes loud none
-    (body_loud k r (part_steps spot.Other (headings.announced_of r h.result h.scopes) r.parts) parts)
+    let none : faults h.result ≡ [] = no_left (faults h.result) (faults (routines.body_after k r (part_steps spot.Other (headings.announce_judged r h.result h.scopes) r.parts)).uses) e in
+    let quiet : faults (routines.body_after k r (part_steps spot.Other (headings.announce_judged r h.result h.scopes) r.parts)).uses ≡ [] = no_right (faults h.result) (faults (routines.body_after k r (part_steps spot.Other (headings.announce_judged r h.result h.scopes) r.parts)).uses) e in
+    let before : Told (headings.announce_judged r h.result h.scopes) = announced_told r h.result h.scopes loud none (told none) in
+    let parts : (part_steps spot.Other (headings.announce_judged r h.result h.scopes) r.parts).faults ≡ [] → Told (part_steps spot.Other (headings.announce_judged r h.result h.scopes) r.parts).scopes = (λ f. parts_told spot.Other (headings.announce_judged r h.result h.scopes) r.parts f before) in
+    closed_told r h.result (routines.body_after k r (part_steps spot.Other (headings.announce_judged r h.result h.scopes) r.parts)).uses (part_steps spot.Other (headings.announce_judged r h.result h.scopes) r.parts).scopes loud none
+    (body_loud k r (part_steps spot.Other (headings.announce_judged r h.result h.scopes) r.parts) parts)
     quiet
-    (parts (none_before (part_steps spot.Other (headings.announced_of r h.result h.scopes) r.parts).faults (statements (part_steps spot.Other (headings.announced_of r h.result h.scopes) r.parts).scopes (routines.routine_context k r) (Ok no_use) r.body.statements) quiet))
+    (parts (none_before (part_steps spot.Other (headings.announce_judged r h.result h.scopes) r.parts).faults (statements (part_steps spot.Other (headings.announce_judged r h.result h.scopes) r.parts).scopes (routines.routine_context k r) (Ok no_use) r.body.statements) quiet))
 
 pub routine_told : (k : Option SystemKind) (s : Scopes) (r : Routine) → (routines.routine_step k s r).faults ≡ [] → Told s → Told (routines.routine_step k s r).scopes
 unfolding routines.routine_step
@@ -461,19 +461,19 @@ routines_told k s (r ∷ rs) e h = routines_told k (routines.routine_step k s r)
 
 -- ---- system types
 
-component_admitted_loud : (at : ℕ) (o k : SystemKind) (t : ValueType) → Loud (systems.component_admitted at o k t)
+component_admitted_loud : (at : ℕ) (o k : SystemKind) (t : ValueType) → Loud (systems.check_component_parameter at o k t)
 component_admitted_loud at system_kind.Class system_kind.Class t = tt
 component_admitted_loud at system_kind.Monitor system_kind.Class t = tt
 component_admitted_loud at system_kind.Process system_kind.Class t = tt
 component_admitted_loud at _ _ t = tt
 
-system_admitted_loud : (at : ℕ) (o : SystemKind) (h : Holding) (t : ValueType) → Loud (systems.admitted at o h t)
+system_admitted_loud : (at : ℕ) (o : SystemKind) (h : Holding) (t : ValueType) → Loud (systems.check_parameter_type at o h t)
 system_admitted_loud at o (holds.Component k) t = component_admitted_loud at o k t
 system_admitted_loud at o _ t = tt
 
 pub system_parameter_loud : (o : SystemKind) (s : Scopes) (g : Group) → Told s → Loud (systems.parameter_type o s g)
 unfolding systems.parameter_type
-system_parameter_loud o s g h = loud_then (typing.type_named s g.type_name.at g.type_name.name) (systems.admitted_in s g.type_name.at o) (type_named_loud s g.type_name.at g.type_name.name h) (λ t. system_admitted_loud g.type_name.at o (typing.holding s t) t)
+system_parameter_loud o s g h = loud_then (typing.type_named s g.type_name.at g.type_name.name) (systems.check_parameter_type_in s g.type_name.at o) (type_named_loud s g.type_name.at g.type_name.name h) (λ t. system_admitted_loud g.type_name.at o (typing.holding s t) t)
 
 system_group_told : (o : SystemKind) (s : Scopes) (g : Group) → (systems.group_step o s g).faults ≡ [] → Told s → Told (systems.group_step o s g).scopes
 unfolding systems.group_step
@@ -497,29 +497,29 @@ inside_told s y e h =
     (parts_told (spot.Permanent (Some y.kind)) (systems.group_steps y.kind s y.parameters).scopes y.parts (no_left (part_steps (spot.Permanent (Some y.kind)) (systems.group_steps y.kind s y.parameters).scopes y.parts).faults _ later)
     (system_groups_told y.kind s y.parameters (no_left (systems.group_steps y.kind s y.parameters).faults _ e) h))
 
-uses_loud : (y : System) (d : Step) → (d.faults ≡ [] → Told d.scopes) → Loud (systems.opened_step y d).uses
+uses_loud : (y : System) (d : Step) → (d.faults ≡ [] → Told d.scopes) → Loud (systems.body_after y d).uses
 uses_loud y d h = after_loud d.faults (statements d.scopes (systems.initial_context y.kind) (Ok no_use) y.body.statements) (λ e. statements_loud d.scopes (systems.initial_context y.kind) (heard d.scopes (h e)) y.body.statements (Ok no_use) tt)
 
-pub system_loud : (s : Scopes) (y : System) → Told s → Loud (systems.system_typed s y).type
-unfolding systems.system_typed systems.opened
-system_loud s y h = loud_then (systems.opened_step y (systems.inside (enter true s) y)).uses (systems.to_component y.kind y.at) (uses_loud y (systems.inside (enter true s) y) (λ e. inside_told (enter true s) y e (enter_told true s h))) (λ u. tt)
+pub system_loud : (s : Scopes) (y : System) → Told s → Loud (systems.system_type s y).type
+unfolding systems.system_type systems.enter_system
+system_loud s y h = loud_then (systems.body_after y (systems.inside (enter true s) y)).uses (systems.to_component y.kind y.at) (uses_loud y (systems.inside (enter true s) y) (λ e. inside_told (enter true s) y e (enter_told true s h))) (λ u. tt)
 
 -- the names of the scope around a system type stay as they are
-pub system_names : (s : Scopes) (y : System) → (systems.system_typed s y).scopes.inner.names ≡ s.inner.names
-unfolding systems.system_typed systems.opened systems.closed enter leave keep
+pub system_names : (s : Scopes) (y : System) → (systems.system_type s y).scopes.inner.names ≡ s.inner.names
+unfolding systems.system_type systems.enter_system systems.close_system enter leave keep
 system_names s y = ap (λ (a : Around). a.inner.names) (ap last_of (inside_outer (enter true s) y) ∙ last_is s.outer (sealed true s.inner))
 
-system_outer : (s : Scopes) (y : System) → (systems.system_typed s y).scopes.outer ≡ s.outer
-unfolding systems.system_typed systems.opened systems.closed enter leave keep
+system_outer : (s : Scopes) (y : System) → (systems.system_type s y).scopes.outer ≡ s.outer
+unfolding systems.system_type systems.enter_system systems.close_system enter leave keep
 system_outer s y = ap (λ (a : Around). a.outer) (ap last_of (inside_outer (enter true s) y) ∙ last_is s.outer (sealed true s.inner))
 
-pub system_told : (s : Scopes) (y : System) → Told s → Told (systems.system_typed s y).scopes
+pub system_told : (s : Scopes) (y : System) → Told s → Told (systems.system_type s y).scopes
 system_told s y h = (subst NamesTold (sym (system_names s y)) h.0, subst AllTold (sym (system_outer s y)) h.1)
 
 -- ---- the program's declarations
 
-pub defined_told : (s : Scopes) (v : Definition) → Told s → Told (systems.defined s v).scopes × Loud (systems.defined s v).type
-unfolding systems.defined
+pub defined_told : (s : Scopes) (v : Definition) → Told s → Told (systems.type_of_definition s v).scopes × Loud (systems.type_of_definition s v).type
+unfolding systems.type_of_definition
 defined_told s (type_definition t) h = type_told s spot.Definition t h
 defined_told s (system_definition y) h = (system_told s y h, system_loud s y h)
 
@@ -527,7 +527,7 @@ pub definition_told : (s : Scopes) (d : SystemDefinition) → (systems.definitio
 unfolding systems.definition_step
 definition_told s d e h =
     let written = defined_told (reserve_name s d.name).scopes d.value (name_reserved_told s d.name h) in
-    kind_told d.name (systems.defined (reserve_name s d.name).scopes d.value) written.0 written.1 (no_right (reserve_name s d.name).faults (faults ((systems.defined (reserve_name s d.name).scopes d.value).type >>= to_kind)) e)
+    kind_told d.name (systems.type_of_definition (reserve_name s d.name).scopes d.value) written.0 written.1 (no_right (reserve_name s d.name).faults (faults ((systems.type_of_definition (reserve_name s d.name).scopes d.value).type >>= to_kind)) e)
 
 pub definitions_told : (s : Scopes) (ds : List SystemDefinition) → (systems.definition_steps s ds).faults ≡ [] → Told s → Told (systems.definition_steps s ds).scopes
 unfolding systems.definition_steps

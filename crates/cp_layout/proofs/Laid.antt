@@ -19,9 +19,9 @@ use Rattle.cp_slots.specs.declared.place.OrdinalExpression.{the_lemmas as place_
 use Rattle.cp_layout.specs.declared.layer.ParameterLayout.{ParameterLayout}
 use Rattle.cp_slots.specs.Code as code
 use Rattle.cp_slots.specs.Code.{Index, Indices, SetExpression, Argument, place_seen, index_seen, indices_of}
-use Rattle.cp_layout.specs.Values.{Value, Designated, ordinal_of, multiplied, added}
+use Rattle.cp_layout.specs.Values.{Value, Designated, ordinal_of, product_of, sum_of}
 use Rattle.cp_layout.specs.Layers.{Layer, parameter_of}
-use Rattle.cp_layout.specs.LaidExpressions.{with_last, with_index, selector, selectors, expression, elements, factor, more_factors, term, more_terms, sum, signed, arguments_from, with_argument}
+use Rattle.cp_layout.specs.LaidExpressions.{with_last, with_index, selector, selectors, expression, elements, factor, more_factors, term, more_terms, sum, with_sign, arguments_from, with_argument}
 
 module _ (l : Layer) (d : Designated) (xs : List tree_selector.Selector) (i : ℕ) where
   pub selectors_step : (x : tree_selector.Selector) → i < length xs → x ≡ get_or xs i x → (e : Designated) (m : Layer) → selector l d (selector_view x) ≡ (e, m) → selectors l d (selectors_of (selectors_view (drop i xs))) ≡ selectors m e (selectors_of (selectors_view (drop (i + 1) xs)))
@@ -42,18 +42,18 @@ module _ (l : Layer) (s : SetExpression) (xs : List tree_expression.Expression) 
   elements_none h = rw (drop_all i xs h) refl
 
 module _ (l : Layer) (t : Value) (xs : List (Multiplication × tree_factor.Factor)) (i : ℕ) where
-  pub factors_step : (x : Multiplication × tree_factor.Factor) → i < length xs → x ≡ get_or xs i x → (v : Value) (m : Layer) → factor l (factor_view x.1) ≡ (v, m) → more_factors l t (factors_of (factors_view (drop i xs))) ≡ more_factors m (multiplied x.0 t v) (factors_of (factors_view (drop (i + 1) xs)))
+  pub factors_step : (x : Multiplication × tree_factor.Factor) → i < length xs → x ≡ get_or xs i x → (v : Value) (m : Layer) → factor l (factor_view x.1) ≡ (v, m) → more_factors l t (factors_of (factors_view (drop i xs))) ≡ more_factors m (product_of x.0 t v) (factors_of (factors_view (drop (i + 1) xs)))
   unfolding more_factors
-  factors_step x within here v m h = rw (add-one, drop-cons xs i x, ← here) (ap (λ (r : Value × Layer). more_factors r.1 (multiplied x.0 t r.0) (factors_of (factors_view (drop (suc i) xs)))) h)
+  factors_step x within here v m h = rw (add-one, drop-cons xs i x, ← here) (ap (λ (r : Value × Layer). more_factors r.1 (product_of x.0 t r.0) (factors_of (factors_view (drop (suc i) xs)))) h)
 
   pub factors_none : length xs ≤ i → more_factors l t (factors_of (factors_view (drop i xs))) ≡ (t, l)
   unfolding more_factors
   factors_none h = rw (drop_all i xs h) refl
 
 module _ (l : Layer) (t : Value) (xs : List (Addition × tree_term.Term)) (i : ℕ) where
-  pub terms_step : (x : Addition × tree_term.Term) → i < length xs → x ≡ get_or xs i x → (v : Value) (m : Layer) → term l (term_view x.1) ≡ (v, m) → more_terms l t (terms_of (terms_view (drop i xs))) ≡ more_terms m (added x.0 t v) (terms_of (terms_view (drop (i + 1) xs)))
+  pub terms_step : (x : Addition × tree_term.Term) → i < length xs → x ≡ get_or xs i x → (v : Value) (m : Layer) → term l (term_view x.1) ≡ (v, m) → more_terms l t (terms_of (terms_view (drop i xs))) ≡ more_terms m (sum_of x.0 t v) (terms_of (terms_view (drop (i + 1) xs)))
   unfolding more_terms
-  terms_step x within here v m h = rw (add-one, drop-cons xs i x, ← here) (ap (λ (r : Value × Layer). more_terms r.1 (added x.0 t r.0) (terms_of (terms_view (drop (suc i) xs)))) h)
+  terms_step x within here v m h = rw (add-one, drop-cons xs i x, ← here) (ap (λ (r : Value × Layer). more_terms r.1 (sum_of x.0 t r.0) (terms_of (terms_view (drop (suc i) xs)))) h)
 
   pub terms_none : length xs ≤ i → more_terms l t (terms_of (terms_view (drop i xs))) ≡ (t, l)
   unfolding more_terms
@@ -103,9 +103,9 @@ pub term_laid : (l : Layer) (t : tree_term.Term) (v : Value) (m : Layer) → fac
 unfolding term
 term_laid l t v m h = rw (term_shown t) (ap (λ (r : Value × Layer). more_factors r.1 r.0 (factors_of (factors_view (tree_term.out-Term t).more.items))) h)
 
-pub sum_laid : (l : Layer) (t : tree_sum.Sum) (v : Value) (m : Layer) → term l (term_view (tree_sum.out-Sum t).first) ≡ (v, m) → sum l (sum_view t) ≡ more_terms m (signed (tree_sum.out-Sum t).sign v) (terms_of (terms_view (tree_sum.out-Sum t).more.items))
+pub sum_laid : (l : Layer) (t : tree_sum.Sum) (v : Value) (m : Layer) → term l (term_view (tree_sum.out-Sum t).first) ≡ (v, m) → sum l (sum_view t) ≡ more_terms m (with_sign (tree_sum.out-Sum t).sign v) (terms_of (terms_view (tree_sum.out-Sum t).more.items))
 unfolding sum
-sum_laid l t v m h = rw (sum_shown t) (ap (λ (r : Value × Layer). more_terms r.1 (signed (tree_sum.out-Sum t).sign r.0) (terms_of (terms_view (tree_sum.out-Sum t).more.items))) h)
+sum_laid l t v m h = rw (sum_shown t) (ap (λ (r : Value × Layer). more_terms r.1 (with_sign (tree_sum.out-Sum t).sign r.0) (terms_of (terms_view (tree_sum.out-Sum t).more.items))) h)
 
 pub place_shown : (p : code_place.Place) → place_seen p ≡ code.place (code_place.out-Place p).origin (code_place.out-Place p).offset (indices_of (map index_seen (code_place.out-Place p).indices.items))
 place_shown p = search (rules, place_lemmas)

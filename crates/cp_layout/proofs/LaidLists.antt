@@ -15,8 +15,8 @@ use Rattle.cp_tree.specs.declared.statement.Start as tree_start
 use Rattle.cp_tree.specs.View.{asserted_of, expression_at, expression_view, expressions_view, statement_view, statements_view, statements_of, arm_view, arms_view, arms_of, start_view}
 use Rattle.cp_slots.specs.declared.item.ResolvedArm as code_arm
 use Rattle.cp_slots.specs.Code.{Arm, arm_seen}
-use Rattle.cp_layout.specs.Layers.{Layer, Names, settled}
-use Rattle.cp_layout.specs.LaidStatements.{token_of, assertion, assertions, statement, statements, one_arm, arms, starts, started}
+use Rattle.cp_layout.specs.Layers.{Layer, Names, settle_items}
+use Rattle.cp_layout.specs.LaidStatements.{token_of, assertion, assertions, statement, statements, one_arm, arms, starts, start_statement}
 use Rattle.cp_layout.specs.LaidTypes.{labels_of, constant_of}
 
 module _ (l : Layer) (last : Option ℕ) (xs : List tree_statement.Statement) where
@@ -37,11 +37,11 @@ module _ (l : Layer) (last : Option ℕ) (xs : List tree_statement.Statement) wh
 module _ (l : Layer) (k : AssertionKind) (next : Option ℕ) (xs : List tree_expression.Expression) where
   pub assertions_step : (i j : ℕ) (x : tree_expression.Expression) → i < length xs → x ≡ get_or xs i x → j ≡ i + 1 → (first : Option ℕ) (m : Layer)
       → assertions l k (expressions_view (drop j xs)) next ≡ (first, m)
-      → assertions l k (expressions_view (drop i xs)) next ≡ settled (assertion m (token_of (expression_view x)) k (expression_view x)) first
+      → assertions l k (expressions_view (drop i xs)) next ≡ settle_items (assertion m (token_of (expression_view x)) k (expression_view x)) first
   unfolding assertions
   assertions_step i j x within here after first m h =
       let k' : assertions l k (expressions_view (drop (suc i) xs)) next ≡ (first, m) = rw (after, add-one) at h in
-      rw (drop-cons xs i x, ← here) (ap (λ (r : Option ℕ × Layer). settled (assertion r.1 (token_of (expression_view x)) k (expression_view x)) r.0) k')
+      rw (drop-cons xs i x, ← here) (ap (λ (r : Option ℕ × Layer). settle_items (assertion r.1 (token_of (expression_view x)) k (expression_view x)) r.0) k')
 
   pub assertions_none : (i : ℕ) → length xs ≤ i → assertions l k (expressions_view (drop i xs)) next ≡ (next, l)
   unfolding assertions
@@ -52,15 +52,15 @@ pub asserted_laid : (l : Layer) (k : AssertionKind) (es : List Expression) (s : 
     → statement l (asserted_of k es s) next ≡ (let x = statement l s next in assertions x.1 k es x.0)
 unfolding statement assertions
 asserted_laid l k [] s next = refl
-asserted_laid l k (e ∷ es) s next = ap (λ (r : Option ℕ × Layer). settled (assertion r.1 (expression_at e) k e) r.0) (asserted_laid l k es s next)
+asserted_laid l k (e ∷ es) s next = ap (λ (r : Option ℕ × Layer). settle_items (assertion r.1 (expression_at e) k e) r.0) (asserted_laid l k es s next)
 
 module _ (l : Layer) (next : Option ℕ) (xs : List tree_start.Start) where
   pub starts_step : (i j : ℕ) (x : tree_start.Start) → i < length xs → x ≡ get_or xs i x → j ≡ i + 1 → (first : Option ℕ) (m : Layer)
-      → starts l (map start_view (drop j xs)) next ≡ (first, m) → starts l (map start_view (drop i xs)) next ≡ settled (started m (start_view x)) first
+      → starts l (map start_view (drop j xs)) next ≡ (first, m) → starts l (map start_view (drop i xs)) next ≡ settle_items (start_statement m (start_view x)) first
   unfolding starts
   starts_step i j x within here after first m h =
       let k : starts l (map start_view (drop (suc i) xs)) next ≡ (first, m) = rw (after, add-one) at h in
-      rw (drop-cons xs i x, ← here) (ap (λ (r : Option ℕ × Layer). settled (started r.1 (start_view x)) r.0) k)
+      rw (drop-cons xs i x, ← here) (ap (λ (r : Option ℕ × Layer). settle_items (start_statement r.1 (start_view x)) r.0) k)
 
   pub starts_none : (i : ℕ) → length xs ≤ i → starts l (map start_view (drop i xs)) next ≡ (next, l)
   unfolding starts

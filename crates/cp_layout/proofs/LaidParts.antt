@@ -19,7 +19,7 @@ use Rattle.cp_symbols.specs.declared.kinds.CellType.{CellType}
 use Rattle.cp_symbols.specs.declared.names.LayoutMeaning.TheVariants as meaning
 use Rattle.cp_layout.specs.Kinds.{Fields, with_field}
 use Rattle.cp_layout.specs.LaidExpressions.{as_integer}
-use Rattle.cp_layout.specs.LaidTypes.{with_constant, enumerated, fields_of_type, field_group, field_groups}
+use Rattle.cp_layout.specs.LaidTypes.{with_constant, enumerate, fields_of_type, field_group, field_groups}
 use Rattle.cp_layout.specs.LaidDeclarations as spec
 use Rattle.cp_layout.specs.LaidDeclarations.{Parameters, constants, type_definitions, variables_of, variables, locals_of, local_variables, permanent_parts, local_parts, constant_parameters_of, constant_groups, var_parameters_of, parameter_groups, routines, system_parameters_of, system_groups, system_definitions, program_parts, initial_statement, program}
 
@@ -35,12 +35,12 @@ module _ (r : Fields) (xs : List Identifier) (i : ℕ) (t : CellType) (cells : �
   fields_none h = rw (drop_all i xs h) refl
 
 module _ (l : Layer) (b : CellBase) (xs : List Identifier) (i : ℕ) where
-  pub enumerated_step : (x : Identifier) → i < length xs → x ≡ get_or xs i x → (m : Layer) → with_constant l x.name (meaning.Constant b (as_integer i)) ≡ m → enumerated l b i (drop i xs) ≡ enumerated m b (i + 1) (drop (i + 1) xs)
-  unfolding enumerated
-  enumerated_step x within here m h = rw (drop-cons xs i x, ← here, ← add-one i) (ap (λ (y : Layer). enumerated y b (i + 1) (drop (i + 1) xs)) h)
+  pub enumerated_step : (x : Identifier) → i < length xs → x ≡ get_or xs i x → (m : Layer) → with_constant l x.name (meaning.Constant b (as_integer i)) ≡ m → enumerate l b i (drop i xs) ≡ enumerate m b (i + 1) (drop (i + 1) xs)
+  unfolding enumerate
+  enumerated_step x within here m h = rw (drop-cons xs i x, ← here, ← add-one i) (ap (λ (y : Layer). enumerate y b (i + 1) (drop (i + 1) xs)) h)
 
-  pub enumerated_none : length xs ≤ i → enumerated l b i (drop i xs) ≡ l
-  unfolding enumerated
+  pub enumerated_none : length xs ≤ i → enumerate l b i (drop i xs) ≡ l
+  unfolding enumerate
   enumerated_none h = rw (drop_all i xs h) refl
 
 module _ (l : Layer) (r : Fields) (xs : List tree_field_group.FieldGroup) (i : ℕ) where

@@ -7,15 +7,15 @@ use Rattle.cp_layout.specs.declared.layer.Contained.{Contained}
 use Rattle.cp_layout.specs.declared.layer.Content.{Content}
 use Rattle.cp_symbols.specs.Kinds.{Compounds}
 use Rattle.cp_layout.specs.Layers.{System}
-use Rattle.cp_layout.specs.LaidComponents.{Listing, content_least, contents_least, again_and_again, contained_by, system_by, listed_below}
+use Rattle.cp_layout.specs.LaidComponents.{Listing, content_least, contents_least, again_and_again, add_contained, system_by, add_below}
 
-pub listed_inside : (ts : Compounds) (ss : List System) (bound n : ℕ) (c : Listing) → n < bound → listed_below ts ss bound n c ≡ system_by ts (listed_below ts ss n) (slice_get ss n) n c
-unfolding listed_below
+pub listed_inside : (ts : Compounds) (ss : List System) (bound n : ℕ) (c : Listing) → n < bound → add_below ts ss bound n c ≡ system_by ts (add_below ts ss n) (slice_get ss n) n c
+unfolding add_below
 listed_inside ts ss zero n c h = grind (arith, nat_tests)
 listed_inside ts ss (suc bound) n c h = let below = listed_inside ts ss bound n c in grind (arith, nat_tests, below)
 
-pub listed_outside : (ts : Compounds) (ss : List System) (bound n : ℕ) (c : Listing) → bound ≤ n → listed_below ts ss bound n c ≡ c
-unfolding listed_below
+pub listed_outside : (ts : Compounds) (ss : List System) (bound n : ℕ) (c : Listing) → bound ≤ n → add_below ts ss bound n c ≡ c
+unfolding add_below
 listed_outside ts ss zero n c h = refl
 listed_outside ts ss (suc bound) n c h = let below = listed_outside ts ss bound n c in grind (arith, nat_tests, below)
 
@@ -31,12 +31,12 @@ unfolding again_and_again
 again_none one c = refl
 
 module _ (one : ℕ → Listing → Listing) (xs : List Contained) (i : ℕ) (c : Listing) where
-  pub contained_step : (e : Contained) → i < length xs → (d : Listing) → d ≡ again_and_again (get_or xs i e).count (one (get_or xs i e).system) c → contained_by one (drop i xs) c ≡ contained_by one (drop (i + 1) xs) d
-  unfolding contained_by
-  contained_step e within d h = rw (add-one, drop-cons xs i e) (ap (λ (y : Listing). contained_by one (drop (suc i) xs) y) (sym h))
+  pub contained_step : (e : Contained) → i < length xs → (d : Listing) → d ≡ again_and_again (get_or xs i e).count (one (get_or xs i e).system) c → add_contained one (drop i xs) c ≡ add_contained one (drop (i + 1) xs) d
+  unfolding add_contained
+  contained_step e within d h = rw (add-one, drop-cons xs i e) (ap (λ (y : Listing). add_contained one (drop (suc i) xs) y) (sym h))
 
-  pub contained_none : length xs ≤ i → contained_by one (drop i xs) c ≡ c
-  unfolding contained_by
+  pub contained_none : length xs ≤ i → add_contained one (drop i xs) c ≡ c
+  unfolding add_contained
   contained_none h = rw (drop_all i xs h) refl
 
 module _ (ts : Compounds) (front : List ℤ) (xs : List Content) (i : ℕ) where

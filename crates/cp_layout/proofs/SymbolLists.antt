@@ -12,24 +12,24 @@ use Rattle.cp_layout.specs.declared.kinds.Compound as code_compound
 use Rattle.cp_layout.specs.declared.kinds.Field as code_field
 use Rattle.cp_layout.specs.Kinds.{compound_seen, field_seen}
 use Rattle.cp_layout.specs.Layers.{heading_seen, system_seen, noted_seen}
-use Rattle.cp_layout.specs.Symbols.{routine_named, system_named}
+use Rattle.cp_layout.specs.Symbols.{name_of_routine, symbol_of_system}
 
 -- one more of those that are gathered, and all of them
 one_more : {X Y : Type 0} (f : X → Y) (xs : List X) (i : ℕ) (x : X) → i < length xs → x ≡ get_or xs i x → map f (take (i + 1) xs) ≡ map f (take i xs) ++ f x ∷ []
 one_more f xs i x within here = rw (add-one, take-suc xs i x within, ← here) (map-append f (take i xs) (x ∷ []))
 
 module _ (xs : List code_heading.HeadingLayout) (i : ℕ) where
-  pub routines_step : (x : code_heading.HeadingLayout) → i < length xs → x ≡ get_or xs i x → map routine_named (map heading_seen (take (i + 1) xs)) ≡ map routine_named (map heading_seen (take i xs)) ++ routine_named (heading_seen x) ∷ []
-  routines_step x within here = ap (map routine_named) (one_more heading_seen xs i x within here) ∙ map-append routine_named (map heading_seen (take i xs)) (heading_seen x ∷ [])
+  pub routines_step : (x : code_heading.HeadingLayout) → i < length xs → x ≡ get_or xs i x → map name_of_routine (map heading_seen (take (i + 1) xs)) ≡ map name_of_routine (map heading_seen (take i xs)) ++ name_of_routine (heading_seen x) ∷ []
+  routines_step x within here = ap (map name_of_routine) (one_more heading_seen xs i x within here) ∙ map-append name_of_routine (map heading_seen (take i xs)) (heading_seen x ∷ [])
 
-  pub routines_none : length xs ≤ i → map routine_named (map heading_seen (take i xs)) ≡ map routine_named (map heading_seen xs)
+  pub routines_none : length xs ≤ i → map name_of_routine (map heading_seen (take i xs)) ≡ map name_of_routine (map heading_seen xs)
   routines_none h = rw (take_all i xs h) refl
 
 module _ (xs : List code_system.SystemCells) (i : ℕ) where
-  pub systems_step : (x : code_system.SystemCells) → i < length xs → x ≡ get_or xs i x → map system_named (map system_seen (take (i + 1) xs)) ≡ map system_named (map system_seen (take i xs)) ++ system_named (system_seen x) ∷ []
-  systems_step x within here = ap (map system_named) (one_more system_seen xs i x within here) ∙ map-append system_named (map system_seen (take i xs)) (system_seen x ∷ [])
+  pub systems_step : (x : code_system.SystemCells) → i < length xs → x ≡ get_or xs i x → map symbol_of_system (map system_seen (take (i + 1) xs)) ≡ map symbol_of_system (map system_seen (take i xs)) ++ symbol_of_system (system_seen x) ∷ []
+  systems_step x within here = ap (map symbol_of_system) (one_more system_seen xs i x within here) ∙ map-append symbol_of_system (map system_seen (take i xs)) (system_seen x ∷ [])
 
-  pub systems_none : length xs ≤ i → map system_named (map system_seen (take i xs)) ≡ map system_named (map system_seen xs)
+  pub systems_none : length xs ≤ i → map symbol_of_system (map system_seen (take i xs)) ≡ map symbol_of_system (map system_seen xs)
   systems_none h = rw (take_all i xs h) refl
 
 module _ (xs : List code_field.Field) (i : ℕ) where

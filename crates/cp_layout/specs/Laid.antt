@@ -11,7 +11,7 @@ use Rattle.cp_slots.specs.Code.{Item, item_seen}
 use Rattle.cp_symbols.specs.Kinds.{plus}
 use Rattle.cp_layout.specs.Layers.{Layer, Owned, System, need_of, nothing_laid}
 use Rattle.cp_layout.specs.LaidDeclarations.{program}
-use Rattle.cp_layout.specs.LaidComponents.{Listing, program_listed}
+use Rattle.cp_layout.specs.LaidComponents.{Listing, components_of_program}
 
 -- tables whose items are plain data
 pub record PlainTables : Type 0 where
@@ -92,12 +92,12 @@ tables_with l c r =
       names = l.constants;
     }
 
-abbrev pub tables_listed : Layer → Listing → PlainTables
-tables_listed l c = tables_with l c (room_from l no_room c.processes)
+abbrev pub tables_of_components : Layer → Listing → PlainTables
+tables_of_components l c = tables_with l c (room_from l no_room c.processes)
 
 -- the program is a process, and its initial statement is the last routine
 unfoldable pub tables_laid : Layer → PlainTables
-tables_laid l = tables_listed l (program_listed l.types l.systems l.owned (length l.routines - 1))
+tables_laid l = tables_of_components l (components_of_program l.types l.systems l.owned (length l.routines - 1))
 
 -- all that is laid out of a tree
 abbrev pub whole : Tree → Layer

@@ -24,8 +24,8 @@ pub record Listing : Type 0 where
 abbrev pub listing_seen : code_components.Components → Listing
 listing_seen c = record { components = c.items.items; processes = c.processes.items; monitors = c.monitors; permanents = c.permanents.items }
 
-abbrev pub nothing_listed : Listing
-nothing_listed = record { components = []; processes = []; monitors = 0; permanents = [] }
+abbrev pub empty_listing : Listing
+empty_listing = record { components = []; processes = []; monitors = 0; permanents = [] }
 
 -- ---- cells as a run begins
 
@@ -66,22 +66,22 @@ again_and_again zero one c = c
 again_and_again (suc n) one c = one (again_and_again n one c)
 
 -- the components inside one, by what lists one of a system type
-unfoldable pub contained_by : (ℕ → Listing → Listing) → List Contained → Listing → Listing
-contained_by one [] c = c
-contained_by one (k ∷ ks) c = contained_by one ks (again_and_again k.count (one k.system) c)
+unfoldable pub add_contained : (ℕ → Listing → Listing) → List Contained → Listing → Listing
+add_contained one [] c = c
+add_contained one (k ∷ ks) c = add_contained one ks (again_and_again k.count (one k.system) c)
 
-abbrev pub owned_by : Compounds → (ℕ → Listing → Listing) → ComponentKind × Listing → Owned → (system : ℕ) → Listing
-owned_by ts one x o system = contained_by one o.contained (with_component x.1 x.0 (contents_least ts o.contents) system)
+abbrev pub add_owned : Compounds → (ℕ → Listing → Listing) → ComponentKind × Listing → Owned → (system : ℕ) → Listing
+add_owned ts one x o system = add_contained one o.contained (with_component x.1 x.0 (contents_least ts o.contents) system)
 
 abbrev pub system_by : Compounds → (ℕ → Listing → Listing) → Option System → (number : ℕ) → Listing → Listing
 system_by ts one None number c = c
-system_by ts one (Some s) number c = owned_by ts one (next_kind c s.kind s.initial) s.owned number
+system_by ts one (Some s) number c = add_owned ts one (next_kind c s.kind s.initial) s.owned number
 
 -- a component of a system type with those that it contains, if the type is one of the first `bound`
-unfoldable pub listed_below : Compounds → List System → (bound : ℕ) → (system : ℕ) → Listing → Listing
-listed_below ts ss zero n c = c
-listed_below ts ss (suc bound) n c = if n == bound then system_by ts (listed_below ts ss bound) (slice_get ss bound) bound c else listed_below ts ss bound n c
+unfoldable pub add_below : Compounds → List System → (bound : ℕ) → (system : ℕ) → Listing → Listing
+add_below ts ss zero n c = c
+add_below ts ss (suc bound) n c = if n == bound then system_by ts (add_below ts ss bound) (slice_get ss bound) bound c else add_below ts ss bound n c
 
 -- the program as a process, and all that it contains
-unfoldable pub program_listed : Compounds → List System → Owned → (initial : ℕ) → Listing
-program_listed ts ss o initial = owned_by ts (listed_below ts ss (length ss)) (next_kind nothing_listed system_kind.Process initial) o (length ss)
+unfoldable pub components_of_program : Compounds → List System → Owned → (initial : ℕ) → Listing
+components_of_program ts ss o initial = add_owned ts (add_below ts ss (length ss)) (next_kind empty_listing system_kind.Process initial) o (length ss)

@@ -20,10 +20,10 @@ use Rattle.cp_symbols.specs.declared.symbols.FunctionResult.{FunctionResult}
 use Rattle.cp_layout.specs.declared.declaration.Outer as code_outer
 use Rattle.cp_symbols.specs.Kinds.{Compounds, cells_of, count_of, plus, times}
 use Rattle.cp_layout.specs.Kinds.{array_of, least}
-use Rattle.cp_layout.specs.Layers.{Names, names_seen, owned_seen, seen_inside, Layer, Heading, Owned, System, with_name, with_routine, settled, no_frame, no_owned}
+use Rattle.cp_layout.specs.Layers.{Names, names_seen, owned_seen, seen_inside, Layer, Heading, Owned, System, with_name, with_routine, settle_items, no_frame, no_owned}
 use Rattle.cp_layout.specs.LaidExpressions.{component_count}
-use Rattle.cp_layout.specs.LaidTypes.{constant_of, named_type, written_type}
-use Rattle.cp_layout.specs.LaidStatements.{checked, statements}
+use Rattle.cp_layout.specs.LaidTypes.{constant_of, type_of_name, written_type}
+use Rattle.cp_layout.specs.LaidStatements.{check_invariants, statements}
 
 -- ---- constants and types
 
@@ -38,11 +38,11 @@ constants l [] = l
 constants l (d ∷ ds) = constants (constant l d) ds
 
 -- a name for a type, by the type and the state after it
-abbrev pub type_named : List ℕ → CellType × Layer → Layer
-type_named x t = with_name t.1 x (meaning.Kind t.0)
+abbrev pub with_type_name : List ℕ → CellType × Layer → Layer
+with_type_name x t = with_name t.1 x (meaning.Kind t.0)
 
 abbrev pub type_definition : Layer → TypeDefinition → Layer
-type_definition l d = type_named d.name.name (written_type l d.value)
+type_definition l d = with_type_name d.name.name (written_type l d.value)
 
 unfoldable pub type_definitions : Layer → List TypeDefinition → Layer
 type_definitions l [] = l
@@ -173,7 +173,7 @@ constant_parameters_of l ps t (i ∷ is) =
     constant_parameters_of x.1 x.0 t is
 
 abbrev pub constant_group : Layer → Parameters → Group → Parameters × Layer
-constant_group l ps g = constant_parameters_of l ps (named_type l g.type_name.name) g.names
+constant_group l ps g = constant_parameters_of l ps (type_of_name l g.type_name.name) g.names
 
 unfoldable pub constant_groups : Layer → Parameters → List Group → Parameters × Layer
 constant_groups l ps [] = (ps, l)
@@ -201,7 +201,7 @@ var_parameters_of l ps t (i ∷ is) =
     var_parameters_of x.1 x.0 t is
 
 abbrev pub var_group : Layer → Parameters → Group → Parameters × Layer
-var_group l ps g = var_parameters_of l ps (named_type l g.type_name.name) g.names
+var_group l ps g = var_parameters_of l ps (type_of_name l g.type_name.name) g.names
 
 abbrev pub parameter_group : Layer → Parameters → ParameterGroup → Parameters × Layer
 parameter_group l ps g = if g.is_var then var_group l ps g.group else constant_group l ps g.group
@@ -231,14 +231,14 @@ unfoldable pub heading : Layer → List ℕ → RoutineKind → Heading × Layer
 heading l x (syntax.procedure gs) = procedure_heading x (parameter_groups l [] gs)
 heading l x (syntax.function gs i) =
     let p = constant_groups l [] gs in
-    function_heading x p (named_type p.1 i.name)
+    function_heading x p (type_of_name p.1 i.name)
 heading l x syntax.invariants = procedure_heading x ([], l)
 
 -- ---- routines
 
 -- the items at the end of a body, where the invariants are looked at or not
 abbrev pub end_of_body : Layer → Bool → Option ℕ × Layer
-end_of_body l checks = settled (if checks then checked l 0 else l) None
+end_of_body l checks = settle_items (if checks then check_invariants l 0 else l) None
 
 abbrev pub body : Layer → Body → Bool → Layer
 body l b checks =
@@ -253,14 +253,14 @@ abbrev pub with_heading : Layer → Heading → Layer
 with_heading l h = record l { headings = l.headings ++ h ∷ [] }
 
 -- a routine's name and the frame for its parameters, and how many names there are then
-abbrev pub opened : Layer → List ℕ → ℕ × Layer
-opened l x =
+abbrev pub open_routine : Layer → List ℕ → ℕ × Layer
+open_routine l x =
     let m = with_name l x (meaning.Routine (length l.routines)) in
     (length m.names, with_new_frame m)
 
 -- only the first names remain
-abbrev pub closed : Layer → ℕ → Layer
-closed l count = record l { names = drop (length l.names - count) l.names }
+abbrev pub close : Layer → ℕ → Layer
+close l count = record l { names = drop (length l.names - count) l.names }
 
 -- after its name: parameters, parts and statements
 abbrev pub routine_inside : Layer → Routine → Layer
@@ -270,8 +270,8 @@ routine_inside l r =
 
 abbrev pub routine : Layer → Routine → Layer
 routine l r =
-    let x = opened l r.name.name in
-    closed (routine_inside x.1 r) x.0
+    let x = open_routine l r.name.name in
+    close (routine_inside x.1 r) x.0
 
 unfoldable pub routines : Layer → List Routine → Layer
 routines l [] = l
@@ -293,13 +293,13 @@ with_component_cell l k = (
   record l { owned = record l.owned { cells = plus l.owned.cells 1; contents = l.owned.contents ++ content.Component ∷ []; parameters = l.owned.parameters ++ component_cell l.owned.cells k ∷ [] } },
 )
 
-abbrev pub passed_component : ℕ → ParameterLayout
-passed_component slot = record { slot = slot; passing = passing.Component }
+abbrev pub parameter_for_component : ℕ → ParameterLayout
+parameter_for_component slot = record { slot = slot; passing = passing.Component }
 
 abbrev pub component_parameter : Layer → Parameters → List ℕ → ℕ → Parameters × Layer
 component_parameter l ps x k =
     let y = with_component_cell l k in
-    (ps ++ passed_component y.0 ∷ [], with_name y.1 x (meaning.Bound y.0 k))
+    (ps ++ parameter_for_component y.0 ∷ [], with_name y.1 x (meaning.Bound y.0 k))
 
 abbrev pub cell_parameter : Layer → Parameters → List ℕ → CellType → Parameters × Layer
 cell_parameter l ps x t =
@@ -318,7 +318,7 @@ system_parameters_of l ps t (i ∷ is) =
     system_parameters_of x.1 x.0 t is
 
 abbrev pub system_group : Layer → Parameters → Group → Parameters × Layer
-system_group l ps g = system_parameters_of l ps (named_type l g.type_name.name) g.names
+system_group l ps g = system_parameters_of l ps (type_of_name l g.type_name.name) g.names
 
 unfoldable pub system_groups : Layer → Parameters → List Group → Parameters × Layer
 system_groups l ps [] = (ps, l)
@@ -335,15 +335,15 @@ abbrev pub outer_seen : code_outer.Outer → Outer
 outer_seen o = record { names = names_seen o.names; owned = owned_seen o.owned }
 
 -- a system type begins: it sees some of the names, and has its own cells
-abbrev pub entered : Layer → Outer × Layer
-entered l = (record { names = l.names; owned = l.owned }, record l { names = seen_inside l.names; owned = no_owned; is_inside = true })
+abbrev pub enter_system : Layer → Outer × Layer
+enter_system l = (record { names = l.names; owned = l.owned }, record l { names = seen_inside l.names; owned = no_owned; is_inside = true })
 
 abbrev pub system_of : SystemKind → Owned → (first initial : ℕ) → System
 system_of kind o first last = record { kind = kind; owned = o; first = first; initial = last }
 
 -- a system type is whole
-abbrev pub left : Layer → Outer → SystemKind → (first initial : ℕ) → CellType × Layer
-left l o kind first last =
+abbrev pub leave_system : Layer → Outer → SystemKind → (first initial : ℕ) → CellType × Layer
+leave_system l o kind first last =
     (types.System (length l.systems), record l { names = o.names; owned = o.owned; systems = l.systems ++ system_of kind l.owned first last ∷ []; is_inside = false })
 
 -- its parts and its routines, after its parameters
@@ -351,11 +351,11 @@ abbrev pub system_inside : Layer → syntax.System → Layer
 system_inside l s = routines (permanent_parts l s.parts) s.routines
 
 abbrev pub system_with : Layer → Outer → (first : ℕ) → Parameters → syntax.System → CellType × Layer
-system_with l o first ps s = left (initial_statement l ps s.body) o s.kind first (length l.routines)
+system_with l o first ps s = leave_system (initial_statement l ps s.body) o s.kind first (length l.routines)
 
 unfoldable pub system : Layer → syntax.System → CellType × Layer
 system l s =
-    let o = entered l in
+    let o = enter_system l in
     let x = system_groups o.1 [] s.parameters in
     system_with (system_inside x.1 s) o.0 (length l.routines) x.0 s
 
@@ -366,7 +366,7 @@ definition l (syntax.type_definition t) = written_type l t
 definition l (syntax.system_definition s) = system l s
 
 abbrev pub system_definition : Layer → SystemDefinition → Layer
-system_definition l d = type_named d.name.name (definition l d.value)
+system_definition l d = with_type_name d.name.name (definition l d.value)
 
 unfoldable pub system_definitions : Layer → List SystemDefinition → Layer
 system_definitions l [] = l

@@ -21,25 +21,25 @@ use Rattle.cp_layout.specs.Kinds.{field_of, array_of}
 use Rattle.cp_slots.specs.Code as code
 use Rattle.cp_slots.specs.Code.{Place, Indices, Index, OrdinalExpression, SetExpression, ComponentPlace, ArgumentValue, Argument}
 use Rattle.cp_layout.specs.Values as values
-use Rattle.cp_layout.specs.Values.{Value, component_value, Designated, a_value, a_variable, a_contained, a_component, a_routine, an_entry, a_standard, no_designated, number_value, no_value, place_at, loaded, place_of, ordinal_of, set_of, set_value, component_value, applied}
-use Rattle.cp_layout.specs.Layers.{find, Layer, Heading, System, parameter_of, result_of, with_cell, with_room, call_need, added}
+use Rattle.cp_layout.specs.Values.{Value, component_value, Designated, a_value, a_variable, a_contained, a_component, a_routine, an_entry, a_standard, no_designated, number_value, no_value, place_at, value_loaded_from, place_of, ordinal_of, set_of, set_value, component_value, standard_value}
+use Rattle.cp_layout.specs.Layers.{find, Layer, Heading, System, parameter_of, result_of, with_cell, with_room, call_need, add_item}
 
 -- ---- names
 
-abbrev pub begun_as : Option LayoutMeaning → Designated
-begun_as None = no_designated
-begun_as (Some (meaning.Constant b z)) = a_value (number_value z b)
-begun_as (Some (meaning.Kind t)) = no_designated
-begun_as (Some (meaning.Variable o t)) = a_variable (place_at o) t
-begun_as (Some (meaning.Contained first (types.System k))) = a_component (code.contained first) k
-begun_as (Some (meaning.Contained first t)) = a_contained first t
-begun_as (Some (meaning.Bound slot k)) = a_component (code.parameter slot) k
-begun_as (Some (meaning.Routine r)) = a_routine r
-begun_as (Some (meaning.Predeclared r)) = a_standard r
+abbrev pub meaning_of : Option LayoutMeaning → Designated
+meaning_of None = no_designated
+meaning_of (Some (meaning.Constant b z)) = a_value (number_value z b)
+meaning_of (Some (meaning.Kind t)) = no_designated
+meaning_of (Some (meaning.Variable o t)) = a_variable (place_at o) t
+meaning_of (Some (meaning.Contained first (types.System k))) = a_component (code.contained first) k
+meaning_of (Some (meaning.Contained first t)) = a_contained first t
+meaning_of (Some (meaning.Bound slot k)) = a_component (code.parameter slot) k
+meaning_of (Some (meaning.Routine r)) = a_routine r
+meaning_of (Some (meaning.Predeclared r)) = a_standard r
 
 -- what a name stands for
-abbrev pub begun : Layer → List ℕ → Designated
-begun l x = begun_as (find x l.names)
+abbrev pub name_meaning : Layer → List ℕ → Designated
+name_meaning l x = meaning_of (find x l.names)
 
 -- ---- selectors
 
@@ -74,10 +74,10 @@ entry_found c None = no_designated
 entry_found c (Some r) = an_entry c r
 
 -- a field of a record, or a routine of a component
-abbrev pub field_selected : Layer → Designated → List ℕ → Designated
-field_selected l (a_variable p t) x = field_found p (field_of l.types t x)
-field_selected l (a_component c k) x = entry_found c (entry_of l k x)
-field_selected l d x = no_designated
+abbrev pub field_of_designated : Layer → Designated → List ℕ → Designated
+field_of_designated l (a_variable p t) x = field_found p (field_of l.types t x)
+field_of_designated l (a_component c k) x = entry_found c (entry_of l k x)
+field_of_designated l d x = no_designated
 
 abbrev pub count_in : Option System → ℕ
 count_in None = 0
@@ -100,10 +100,10 @@ component_found l first None e = no_designated
 component_found l first (Some a) e = component_of_array l first a a.element e
 
 -- an element of an array
-abbrev pub element_selected : Layer → Designated → OrdinalExpression → Designated
-element_selected l (a_variable p t) e = element_found p (array_of l.types t) e
-element_selected l (a_contained first t) e = component_found l first (array_of l.types t) e
-element_selected l d e = no_designated
+abbrev pub element_of_designated : Layer → Designated → OrdinalExpression → Designated
+element_of_designated l (a_variable p t) e = element_found p (array_of l.types t) e
+element_of_designated l (a_contained first t) e = component_found l first (array_of l.types t) e
+element_of_designated l d e = no_designated
 
 -- ---- arguments
 
@@ -116,59 +116,59 @@ component_in (component_value c) = c
 component_in v = code.own
 
 -- a value as the argument of a parameter
-abbrev pub passed : Layer → Passing → Value → ArgumentValue
-passed l passing.Reference v = code.reference (place_of v)
-passed l passing.Component v = code.component_of (component_in v)
-passed l (passing.Constant (types.Ordinal r)) v = code.scalar (ordinal_of v) r.low r.high
-passed l (passing.Constant (types.Set r)) v = code.set (set_of v) (byte_or 0 r.low) (byte_or 255 r.high)
-passed l (passing.Constant t) v = code.copy (place_of v) (cells_of l.types t)
+abbrev pub argument_for : Layer → Passing → Value → ArgumentValue
+argument_for l passing.Reference v = code.reference (place_of v)
+argument_for l passing.Component v = code.component_of (component_in v)
+argument_for l (passing.Constant (types.Ordinal r)) v = code.scalar (ordinal_of v) r.low r.high
+argument_for l (passing.Constant (types.Set r)) v = code.set (set_of v) (byte_or 0 r.low) (byte_or 255 r.high)
+argument_for l (passing.Constant t) v = code.copy (place_of v) (cells_of l.types t)
 
 abbrev pub with_argument : Layer → Option ParameterLayout → Value → List Argument → List Argument
 with_argument l None v rest = rest
-with_argument l (Some p) v rest = (let a : Argument = record { slot = p.slot; value = passed l p.passing v } in a) ∷ rest
+with_argument l (Some p) v rest = (let a : Argument = record { slot = p.slot; value = argument_for l p.passing v } in a) ∷ rest
 
 abbrev pub with_count : Layer → ℕ → Layer
 with_count l n = record l { arguments = max l.arguments n }
 
-abbrev pub counted : List Argument × Layer → List Argument × Layer
-counted x = (x.0, with_count x.1 (length x.0))
+abbrev pub with_their_count : List Argument × Layer → List Argument × Layer
+with_their_count x = (x.0, with_count x.1 (length x.0))
 
 -- ---- calls
 
-abbrev pub called : Layer → (at : ℕ) → (component : ComponentPlace) → Bool → (routine : ℕ) → FunctionResult → List Argument → Value × Layer
-called l at c is_entry r result as' = (
-  loaded (place_at (origin.Local (length l.frame.image))) result.value_type,
-  added (with_room (with_cell l) r) at (code.call r c is_entry as' (Some (length l.frame.image))) (call_need (with_cell l) r),
+abbrev pub call_value : Layer → (at : ℕ) → (component : ComponentPlace) → Bool → (routine : ℕ) → FunctionResult → List Argument → Value × Layer
+call_value l at c is_entry r result as' = (
+  value_loaded_from (place_at (origin.Local (length l.frame.image))) result.value_type,
+  add_item (with_room (with_cell l) r) at (code.call r c is_entry as' (Some (length l.frame.image))) (call_need (with_cell l) r),
 )
 
 -- by what its arguments give
 abbrev pub function_as : Layer → (at : ℕ) → ComponentPlace → Bool → ℕ → Option FunctionResult → (Layer → ℕ → List Argument × Layer) → Value × Layer
 function_as l at c is_entry r None arguments = (no_value, l)
 function_as l at c is_entry r (Some result) arguments =
-    let x = counted (arguments l r) in
-    called x.1 at c is_entry r result x.0
+    let x = with_their_count (arguments l r) in
+    call_value x.1 at c is_entry r result x.0
 
 -- a variable, a constant, or a call of a function, by what its first argument and all of them give
-abbrev pub named_as : Layer → (at : ℕ) → Designated → (Layer → Value × Layer) → (Layer → ℕ → List Argument × Layer) → Value × Layer
-named_as l at (a_value v) first arguments = (v, l)
-named_as l at (a_variable p t) first arguments = (loaded p t, l)
-named_as l at (a_contained n t) first arguments = (no_value, l)
-named_as l at (a_component c k) first arguments = (component_value c, l)
-named_as l at (a_routine r) first arguments = function_as l at code.own false r (result_of l r) arguments
-named_as l at (an_entry c r) first arguments = function_as l at c true r (result_of l r) arguments
-named_as l at (a_standard f) first arguments =
+abbrev pub value_of_meaning : Layer → (at : ℕ) → Designated → (Layer → Value × Layer) → (Layer → ℕ → List Argument × Layer) → Value × Layer
+value_of_meaning l at (a_value v) first arguments = (v, l)
+value_of_meaning l at (a_variable p t) first arguments = (value_loaded_from p t, l)
+value_of_meaning l at (a_contained n t) first arguments = (no_value, l)
+value_of_meaning l at (a_component c k) first arguments = (component_value c, l)
+value_of_meaning l at (a_routine r) first arguments = function_as l at code.own false r (result_of l r) arguments
+value_of_meaning l at (an_entry c r) first arguments = function_as l at c true r (result_of l r) arguments
+value_of_meaning l at (a_standard f) first arguments =
     let x = first l in
-    (applied f x.0, x.1)
-named_as l at no_designated first arguments = (no_value, l)
+    (standard_value f x.0, x.1)
+value_of_meaning l at no_designated first arguments = (no_value, l)
 
 -- ---- expressions
 
 abbrev pub as_integer : ℕ → ℤ
 as_integer n = if nat_le n 32767 then pos n else pos 32767
 
-abbrev pub signed : Option Sign → Value → Value
-signed (Some sign.Minus) v = values.opposite v
-signed s v = v
+abbrev pub with_sign : Option Sign → Value → Value
+with_sign (Some sign.Minus) v = values.opposite v
+with_sign s v = v
 
 abbrev pub name_at : Designator → ℕ
 name_at (syntax.designator i ss) = i.at
@@ -179,18 +179,18 @@ unfoldable mutual
   expression l (syntax.related at a r b) =
       let x = sum l a in
       let y = sum x.1 b in
-      (values.related r x.0 y.0, y.1)
+      (values.comparison_of r x.0 y.0, y.1)
 
   pub sum : Layer → Sum → Value × Layer
   sum l (syntax.sum at s t ts) =
       let x = term l t in
-      more_terms x.1 (signed s x.0) ts
+      more_terms x.1 (with_sign s x.0) ts
 
   pub more_terms : Layer → Value → Terms → Value × Layer
   more_terms l v syntax.no_terms = (v, l)
   more_terms l v (syntax.more_terms a t ts) =
       let x = term l t in
-      more_terms x.1 (values.added a v x.0) ts
+      more_terms x.1 (values.sum_of a v x.0) ts
 
   pub term : Layer → Term → Value × Layer
   term l (syntax.term at f fs) =
@@ -201,18 +201,18 @@ unfoldable mutual
   more_factors l v syntax.no_factors = (v, l)
   more_factors l v (syntax.more_factors m f fs) =
       let x = factor l f in
-      more_factors x.1 (values.multiplied m v x.0) fs
+      more_factors x.1 (values.product_of m v x.0) fs
 
   pub factor : Layer → Factor → Value × Layer
   factor l (syntax.number at n) = (number_value (as_integer n) base.Integer, l)
   factor l (syntax.character at c) = (number_value (pos c) base.Char, l)
   factor l (syntax.named at d es) =
       let x = designator l d in
-      named_as x.1 at x.0 (λ m. first_value m es) (λ m r. arguments_from m r 0 es)
+      value_of_meaning x.1 at x.0 (λ m. first_value m es) (λ m r. arguments_from m r 0 es)
   factor l (syntax.group at e) = expression l e
   factor l (syntax.negated at f) =
       let x = factor l f in
-      (values.negated x.0, x.1)
+      (values.negation_of x.0, x.1)
   factor l (syntax.set_of at es) =
       let x = elements l code.empty_set es in
       (set_value x.0, x.1)
@@ -237,7 +237,7 @@ unfoldable mutual
 
   -- a name with its selectors
   pub designator : Layer → Designator → Designated × Layer
-  designator l (syntax.designator i ss) = selectors l (begun l i.name) ss
+  designator l (syntax.designator i ss) = selectors l (name_meaning l i.name) ss
 
   pub selectors : Layer → Designated → Selectors → Designated × Layer
   selectors l d syntax.no_selectors = (d, l)
@@ -246,19 +246,19 @@ unfoldable mutual
       selectors x.1 x.0 ss
 
   pub selector : Layer → Designated → Selector → Designated × Layer
-  selector l d (syntax.field i) = (field_selected l d i.name, l)
+  selector l d (syntax.field i) = (field_of_designated l d i.name, l)
   selector l d (syntax.index e) =
       let x = expression l e in
-      (element_selected x.1 d (ordinal_of x.0), x.1)
+      (element_of_designated x.1 d (ordinal_of x.0), x.1)
 
 -- the arguments of a routine, or of the system type with this initial statement
 unfoldable pub arguments : Layer → ℕ → Expressions → List Argument × Layer
-arguments l r es = counted (arguments_from l r 0 es)
+arguments l r es = with_their_count (arguments_from l r 0 es)
 
 -- a call of a function
 unfoldable pub function : Layer → (at : ℕ) → ComponentPlace → Bool → ℕ → Expressions → Value × Layer
 function l at c is_entry r es = function_as l at c is_entry r (result_of l r) (λ m k. arguments_from m k 0 es)
 
 -- a name with its selectors, and with arguments after it
-unfoldable pub named : Layer → (at : ℕ) → Designated → Expressions → Value × Layer
-named l at d es = named_as l at d (λ m. first_value m es) (λ m k. arguments_from m k 0 es)
+unfoldable pub value_of_name : Layer → (at : ℕ) → Designated → Expressions → Value × Layer
+value_of_name l at d es = value_of_meaning l at d (λ m. first_value m es) (λ m k. arguments_from m k 0 es)

@@ -28,13 +28,13 @@ use Rattle.cp_symbols.specs.Kinds.{cells_of, values_of}
 use Rattle.cp_slots.specs.Code as code
 use Rattle.cp_slots.specs.Code.{Place, place_seen, ComponentPlace, component_seen, Arm, Action}
 use Rattle.cp_layout.specs.Values.{Value, ordinal_value, Designated, a_variable, a_component, a_routine, an_entry, a_standard, place_at, place_of, ordinal_of, set_of}
-use Rattle.cp_layout.specs.Layers.{Layer, System, find, is_own, need_inside, with_room, call_need, pending_need, again, added, settled, result_of}
+use Rattle.cp_layout.specs.Layers.{Layer, System, find, is_own, need_inside, with_room, call_need, pending_need, again, add_item, settle_items, result_of}
 use Rattle.cp_layout.specs.LaidTypes.{labels_of}
-use Rattle.cp_layout.specs.LaidExpressions.{begun, byte_or, name_at, expression, first_value, arguments, designator}
+use Rattle.cp_layout.specs.LaidExpressions.{name_meaning, byte_or, name_at, expression, first_value, arguments, designator}
 
 -- ---- assignments
 
--- a variable that is assigned to
+-- a variable that is assign to
 pub record Target : Type 0 where
   pub place : Place
   pub value_type : CellType
@@ -56,19 +56,19 @@ target_of l (a_variable p t) = record { place = p; value_type = t }
 target_of l (a_routine r) = result_target (is_own l r) (result_of l r)
 target_of l d = no_target
 
-abbrev pub assigned_as : Layer → Place → Value → CellType → Action
-assigned_as l p v (types.Ordinal r) = code.assign p (ordinal_of v) r.low r.high
-assigned_as l p v (types.Set r) = code.assign_set p (set_of v) (byte_or 0 r.low) (byte_or 255 r.high)
-assigned_as l p v t = code.copy_cells p (place_of v) (cells_of l.types t)
+abbrev pub assign_by_type : Layer → Place → Value → CellType → Action
+assign_by_type l p v (types.Ordinal r) = code.assign p (ordinal_of v) r.low r.high
+assign_by_type l p v (types.Set r) = code.assign_set p (set_of v) (byte_or 0 r.low) (byte_or 255 r.high)
+assign_by_type l p v t = code.copy_cells p (place_of v) (cells_of l.types t)
 
 abbrev pub assignment : Layer → Target → Value → Action
-assignment l t v = assigned_as l t.place v t.value_type
+assignment l t v = assign_by_type l t.place v t.value_type
 
-unfoldable pub assigned : Layer → ℕ → Designator → syntax.Expression → Layer
-assigned l at d e =
+unfoldable pub assign : Layer → ℕ → Designator → syntax.Expression → Layer
+assign l at d e =
     let x = designator l d in
     let y = expression x.1 e in
-    added y.1 at (assignment y.1 (target_of x.1 x.0) y.0) 0
+    add_item y.1 at (assignment y.1 (target_of x.1 x.0) y.0) 0
 
 -- ---- calls
 
@@ -78,28 +78,28 @@ shown_kind (ordinal_value e base.Boolean) = shown.Truth
 shown_kind (ordinal_value e (base.Enumeration first last)) = shown.Constant first
 shown_kind v = shown.Integer
 
-abbrev pub displayed : Value → Action
-displayed v = code.display (ordinal_of v) (shown_kind v)
+abbrev pub display : Value → Action
+display v = code.display (ordinal_of v) (shown_kind v)
 
-abbrev pub performed : PredeclaredRoutine → Value → Action
-performed predeclared.Delay v = code.delay (place_of v)
-performed predeclared.Continue v = code.continue_at (place_of v)
-performed predeclared.Display v = displayed v
-performed r v = code.nothing
+abbrev pub standard_action : PredeclaredRoutine → Value → Action
+standard_action predeclared.Delay v = code.delay (place_of v)
+standard_action predeclared.Continue v = code.continue_at (place_of v)
+standard_action predeclared.Display v = display v
+standard_action r v = code.nothing
 
 unfoldable pub procedure : Layer → ℕ → ComponentPlace → Bool → ℕ → Expressions → Layer
 procedure l at c is_entry r es =
     let x = arguments l r es in
-    added (with_room x.1 r) at (code.call r c is_entry x.0 None) (call_need x.1 r)
+    add_item (with_room x.1 r) at (code.call r c is_entry x.0 None) (call_need x.1 r)
 
 -- ---- checks: calls of the invariants of the block, where it has some
 
-abbrev pub checked_by : Layer → ℕ → Option LayoutMeaning → Layer
-checked_by l at (Some (meaning.Routine r)) = procedure l at code.own false r syntax.no_expressions
-checked_by l at m = l
+abbrev pub check_by : Layer → ℕ → Option LayoutMeaning → Layer
+check_by l at (Some (meaning.Routine r)) = procedure l at code.own false r syntax.no_expressions
+check_by l at m = l
 
-unfoldable pub checked : Layer → ℕ → Layer
-checked l at = checked_by l at (find syntax.nameless l.names)
+unfoldable pub check_invariants : Layer → ℕ → Layer
+check_invariants l at = check_by l at (find syntax.nameless l.names)
 
 -- whether the invariants are looked at before it
 abbrev pub waits : PredeclaredRoutine → Bool
@@ -107,13 +107,13 @@ waits predeclared.Delay = true
 waits predeclared.Continue = true
 waits r = false
 
-abbrev pub checked_before : Layer → ℕ → PredeclaredRoutine → Layer
-checked_before l at r = if waits r then checked l at else l
+abbrev pub check_before : Layer → ℕ → PredeclaredRoutine → Layer
+check_before l at r = if waits r then check_invariants l at else l
 
 unfoldable pub standard : Layer → ℕ → PredeclaredRoutine → Expressions → Layer
 standard l at r es =
     let x = first_value l es in
-    added (checked_before x.1 at r) at (performed r x.0) 0
+    add_item (check_before x.1 at r) at (standard_action r x.0) 0
 
 -- what a call statement calls
 pub data Callee : Type 0 where
@@ -133,57 +133,57 @@ callee_of (a_routine r) = a_procedure code.own false r
 callee_of (an_entry c r) = a_procedure c true r
 callee_of d = no_callee
 
-abbrev pub invoked_as : Layer → ℕ → Callee → Expressions → Layer
-invoked_as l at (a_standard_procedure r) es = standard l at r es
-invoked_as l at (a_procedure c is_entry r) es = procedure l at c is_entry r es
-invoked_as l at no_callee es = added l at code.nothing 0
+abbrev pub call_of : Layer → ℕ → Callee → Expressions → Layer
+call_of l at (a_standard_procedure r) es = standard l at r es
+call_of l at (a_procedure c is_entry r) es = procedure l at c is_entry r es
+call_of l at no_callee es = add_item l at code.nothing 0
 
-unfoldable pub invoked : Layer → ℕ → Designator → Expressions → Layer
-invoked l at d es =
+unfoldable pub call_statement : Layer → ℕ → Designator → Expressions → Layer
+call_statement l at d es =
     let x = designator l d in
-    invoked_as x.1 at (callee_of x.0) es
+    call_of x.1 at (callee_of x.0) es
 
 -- ---- statements with lists
 
-abbrev pub blocked : Layer → ℕ → Option ℕ → Layer
-blocked l at list = added l at (code.block list) (need_inside l.items list)
+abbrev pub block_item : Layer → ℕ → Option ℕ → Layer
+block_item l at list = add_item l at (code.block list) (need_inside l.items list)
 
-abbrev pub cycled : Layer → ℕ → Option ℕ → Layer
-cycled l at list = added l at (code.cycle list) (need_inside l.items list)
+abbrev pub cycle_item : Layer → ℕ → Option ℕ → Layer
+cycle_item l at list = add_item l at (code.cycle list) (need_inside l.items list)
 
-unfoldable pub chosen : Layer → ℕ → syntax.Expression → (first other : Option ℕ) → Layer
-chosen l at e first other =
+unfoldable pub choose : Layer → ℕ → syntax.Expression → (first other : Option ℕ) → Layer
+choose l at e first other =
     let x = expression l e in
-    added x.1 at (code.choose (ordinal_of x.0) first other) (max (need_inside x.1.items first) (need_inside x.1.items other))
+    add_item x.1 at (code.choose (ordinal_of x.0) first other) (max (need_inside x.1.items first) (need_inside x.1.items other))
 
 unfoldable pub while_item : Layer → ℕ → syntax.Expression → Option ℕ → Layer
 while_item l at e body =
     let x = expression l e in
-    added x.1 at (code.while_do (ordinal_of x.0) body (again x.1)) (max (need_inside x.1.items body) (pending_need x.1))
+    add_item x.1 at (code.while_do (ordinal_of x.0) body (again x.1)) (max (need_inside x.1.items body) (pending_need x.1))
 
 unfoldable pub until_item : Layer → ℕ → syntax.Expression → Option ℕ → Layer
 until_item l at e body =
     let x = expression l e in
-    added x.1 at (code.until (ordinal_of x.0) body (again x.1)) (max (need_inside x.1.items body) (pending_need x.1))
+    add_item x.1 at (code.until (ordinal_of x.0) body (again x.1)) (max (need_inside x.1.items body) (pending_need x.1))
 
 abbrev pub token_of : syntax.Expression → ℕ
 token_of (syntax.alone at a) = at
 token_of (syntax.related at a r b) = at
 
 -- the list as a block, and `until` after it
-abbrev pub repeated : Layer → ℕ → Option ℕ → syntax.Expression → Option ℕ → Option ℕ × Layer
-repeated l at body e next =
-    let y = settled (until_item l (token_of e) e body) next in
-    settled (blocked y.1 at body) y.0
+abbrev pub repeat_items : Layer → ℕ → Option ℕ → syntax.Expression → Option ℕ → Option ℕ × Layer
+repeat_items l at body e next =
+    let y = settle_items (until_item l (token_of e) e body) next in
+    settle_items (block_item y.1 at body) y.0
 
 abbrev pub arms_need : Layer → ℕ → List Arm → ℕ
 arms_need l n [] = n
 arms_need l n (a ∷ as') = arms_need l (max (need_inside l.items a.body) n) as'
 
-unfoldable pub selected : Layer → ℕ → syntax.Expression → List Arm → Layer
-selected l at e as' =
+unfoldable pub select : Layer → ℕ → syntax.Expression → List Arm → Layer
+select l at e as' =
     let x = expression l e in
-    added x.1 at (code.select (ordinal_of x.0) as') (arms_need x.1 0 as')
+    add_item x.1 at (code.select (ordinal_of x.0) as') (arms_need x.1 0 as')
 
 abbrev pub low_of : CellType → ℤ
 low_of (types.Ordinal r) = r.low
@@ -202,10 +202,10 @@ is_down direction.Downto = true
 
 unfoldable pub for_item : Layer → ℕ → List ℕ → syntax.Expression → Direction → syntax.Expression → Option ℕ → Layer
 for_item l at n e d f body =
-    let t = target_of l (begun l n) in
+    let t = target_of l (name_meaning l n) in
     let x = expression l e in
     let y = expression x.1 f in
-    added y.1 at (code.for_do (origin_of t.place) (low_of t.value_type) (high_of t.value_type) (ordinal_of x.0) (ordinal_of y.0) (is_down d) body) (need_inside y.1.items body)
+    add_item y.1 at (code.for_do (origin_of t.place) (low_of t.value_type) (high_of t.value_type) (ordinal_of x.0) (ordinal_of y.0) (is_down d) body) (need_inside y.1.items body)
 
 -- ---- starts
 
@@ -217,10 +217,10 @@ initial_in (Some s) = s.initial
 abbrev pub initial_of : Layer → ℕ → ℕ
 initial_of l k = initial_in (slice_get l.systems k)
 
-unfoldable pub begun_component : Layer → ℕ → ComponentPlace → ℕ → Expressions → Layer
-begun_component l at c r es =
+unfoldable pub begin_component : Layer → ℕ → ComponentPlace → ℕ → Expressions → Layer
+begin_component l at c r es =
     let x = arguments l r es in
-    added (with_room x.1 r) at (code.start c r x.0) (call_need x.1 r)
+    add_item (with_room x.1 r) at (code.start c r x.0) (call_need x.1 r)
 
 -- a component with its system type
 abbrev pub Placed : Type 0
@@ -229,25 +229,25 @@ Placed = ComponentPlace × ℕ
 abbrev pub placed_seen : code_component.ComponentPlace × ℕ → Placed
 placed_seen p = (component_seen p.0, p.1)
 
-abbrev pub placed_of : Designated → Option Placed
-placed_of (a_component c k) = Some (c, k)
-placed_of d = None
+abbrev pub component_place_of : Designated → Option Placed
+component_place_of (a_component c k) = Some (c, k)
+component_place_of d = None
 
-abbrev pub started_as : Layer → ℕ → Option Placed → Expressions → Layer
-started_as l at None es = added l at code.nothing 0
-started_as l at (Some p) es = begun_component l at p.0 (initial_of l p.1) es
+abbrev pub start_of : Layer → ℕ → Option Placed → Expressions → Layer
+start_of l at None es = add_item l at code.nothing 0
+start_of l at (Some p) es = begin_component l at p.0 (initial_of l p.1) es
 
-unfoldable pub started : Layer → Start → Layer
-started l t =
+unfoldable pub start_statement : Layer → Start → Layer
+start_statement l t =
     let x = designator l t.target in
-    started_as x.1 (name_at t.target) (placed_of x.0) t.arguments
+    start_of x.1 (name_at t.target) (component_place_of x.0) t.arguments
 
 -- the starts of an `init`, each with the calls in its arguments before it
 unfoldable pub starts : Layer → List Start → Option ℕ → Option ℕ × Layer
 starts l [] next = (next, l)
 starts l (t ∷ ts) next =
     let rest = starts l ts next in
-    settled (started rest.1 t) rest.0
+    settle_items (start_statement rest.1 t) rest.0
 
 -- ---- annotations
 
@@ -259,14 +259,14 @@ said_of kinds.Invariant = said.Invariant
 unfoldable pub assertion : Layer → ℕ → AssertionKind → syntax.Expression → Layer
 assertion l at k e =
     let x = expression l e in
-    added x.1 at (code.assert_that (ordinal_of x.0) (said_of k)) 0
+    add_item x.1 at (code.assert_that (ordinal_of x.0) (said_of k)) 0
 
 -- what is said before items that begin at `next`
 unfoldable pub assertions : Layer → AssertionKind → List syntax.Expression → Option ℕ → Option ℕ × Layer
 assertions l k [] next = (next, l)
 assertions l k (e ∷ es) next =
     let rest = assertions l k es next in
-    settled (assertion rest.1 (token_of e) k e) rest.0
+    settle_items (assertion rest.1 (token_of e) k e) rest.0
 
 -- ---- lists
 
@@ -280,38 +280,38 @@ unfoldable mutual
 
   -- the items of a statement, before those that begin at `next`
   pub statement : Layer → Statement → Option ℕ → Option ℕ × Layer
-  statement l (syntax.empty at) next = settled (added l at code.nothing 0) next
-  statement l (syntax.assign at d e) next = settled (assigned l at d e) next
-  statement l (syntax.invoke at d es) next = settled (invoked l at d es) next
+  statement l (syntax.empty at) next = settle_items (add_item l at code.nothing 0) next
+  statement l (syntax.assign at d e) next = settle_items (assign l at d e) next
+  statement l (syntax.invoke at d es) next = settle_items (call_statement l at d es) next
   statement l (syntax.block at ss) next =
       let x = statements l ss None in
-      settled (blocked x.1 at x.0) next
+      settle_items (block_item x.1 at x.0) next
   statement l (syntax.if_then at e s) next =
       let x = statement l s None in
-      settled (chosen x.1 at e x.0 None) next
+      settle_items (choose x.1 at e x.0 None) next
   statement l (syntax.if_else at e s t) next =
       let x = statement l s None in
       let y = statement x.1 t None in
-      settled (chosen y.1 at e x.0 y.0) next
+      settle_items (choose y.1 at e x.0 y.0) next
   statement l (syntax.case_of at e as' b) next =
       let x = arms l as' in
-      settled (selected x.1 at e x.0) next
+      settle_items (select x.1 at e x.0) next
   statement l (syntax.while_do at e s) next =
       let x = statement l s None in
-      settled (while_item x.1 at e x.0) next
+      settle_items (while_item x.1 at e x.0) next
   statement l (syntax.repeat_until at ss e) next =
       let x = statements l ss None in
-      repeated x.1 at x.0 e next
+      repeat_items x.1 at x.0 e next
   statement l (syntax.for_do at i e d f s) next =
       let x = statement l s None in
-      settled (for_item x.1 at i.name e d f x.0) next
+      settle_items (for_item x.1 at i.name e d f x.0) next
   statement l (syntax.cycle at ss) next =
       let x = statements l ss None in
-      settled (cycled x.1 at x.0) next
+      settle_items (cycle_item x.1 at x.0) next
   statement l (syntax.init at ts) next = starts l ts next
   statement l (syntax.asserted at k e s) next =
       let x = statement l s next in
-      settled (assertion x.1 at k e) x.0
+      settle_items (assertion x.1 at k e) x.0
 
   pub arms : Layer → Arms → List Arm × Layer
   arms l syntax.no_arms = ([], l)

@@ -26,16 +26,16 @@ use Rattle.cp_layout.specs.LaidExpressions.{as_integer}
 abbrev pub opposite_number : ℤ → ℤ
 opposite_number z = if int_le z (negsuc 32767) then pos 32767 else neg_ℤ z
 
-abbrev pub signed_number : Option Sign → ℤ → ℤ
-signed_number (Some sign.Minus) z = opposite_number z
-signed_number s z = z
+abbrev pub number_with_sign : Option Sign → ℤ → ℤ
+number_with_sign (Some sign.Minus) z = opposite_number z
+number_with_sign s z = z
 
 abbrev pub constant_meant : Option Sign → Option LayoutMeaning → CellBase × ℤ
-constant_meant s (Some (meaning.Constant b z)) = (b, signed_number s z)
+constant_meant s (Some (meaning.Constant b z)) = (b, number_with_sign s z)
 constant_meant s m = (base.Integer, pos 0)
 
 abbrev pub constant_of_kind : Names → ConstantKind → CellBase × ℤ
-constant_of_kind names (constant_kind.Number s n) = (base.Integer, signed_number s (as_integer n))
+constant_of_kind names (constant_kind.Number s n) = (base.Integer, number_with_sign s (as_integer n))
 constant_of_kind names (constant_kind.Name s i) = constant_meant s (find i.name names)
 constant_of_kind names (constant_kind.Character c) = (base.Char, pos c)
 
@@ -54,8 +54,8 @@ type_meant (Some t) = t
 type_meant None = values_of base.Integer
 
 -- the type that a name stands for
-abbrev pub named_type : Layer → List ℕ → CellType
-named_type l x = type_meant (find_type x l.names)
+abbrev pub type_of_name : Layer → List ℕ → CellType
+type_of_name l x = type_meant (find_type x l.names)
 
 abbrev pub subrange : (low high : CellBase × ℤ) → CellType
 subrange low high = types.Ordinal (record { base = low.0; low = low.1; high = high.1 })
@@ -65,9 +65,9 @@ abbrev pub with_constant : Layer → List ℕ → LayoutMeaning → Layer
 with_constant l x m = record l { names = (x, m) ∷ l.names; constants = l.constants ++ x ∷ [] }
 
 -- the constants of an enumeration, from the one with this number on
-unfoldable pub enumerated : Layer → CellBase → ℕ → List Identifier → Layer
-enumerated l b n [] = l
-enumerated l b n (i ∷ is) = enumerated (with_constant l i.name (meaning.Constant b (as_integer n))) b (n + 1) is
+unfoldable pub enumerate : Layer → CellBase → ℕ → List Identifier → Layer
+enumerate l b n [] = l
+enumerate l b n (i ∷ is) = enumerate (with_constant l i.name (meaning.Constant b (as_integer n))) b (n + 1) is
 
 abbrev pub first_constant : ℕ → ℕ
 first_constant n = if nat_le n 65535 then n else 65535
@@ -77,10 +77,10 @@ abbrev pub enumeration_base : (first count : ℕ) → CellBase
 enumeration_base first count = base.Enumeration (first_constant first) (as_integer (count - 1))
 
 abbrev pub enumeration : Layer → List Identifier → CellType × Layer
-enumeration l is = (values_of (enumeration_base (length l.constants) (length is)), enumerated l (enumeration_base (length l.constants) (length is)) 0 is)
+enumeration l is = (values_of (enumeration_base (length l.constants) (length is)), enumerate l (enumeration_base (length l.constants) (length is)) 0 is)
 
 unfoldable pub simple_type : Layer → Simple → CellType × Layer
-simple_type l (syntax.type_name at x) = (named_type l x, l)
+simple_type l (syntax.type_name at x) = (type_of_name l x, l)
 simple_type l (syntax.enumeration at is) = enumeration l is
 simple_type l (syntax.subrange at c d) = (subrange (constant_of l.names c) (constant_of l.names d), l)
 

@@ -312,25 +312,25 @@ abbrev pub again : Layer → ℕ
 again l = plus (length l.items) (length l.pending)
 
 -- one more item of the statement, by the token at which it begins
-abbrev pub added : Layer → (at : ℕ) → Action → (need : ℕ) → Layer
-added l at a need = record l { pending = l.pending ++ (let p : Pending = record { action = a; line = slice_index l.lines at; need = need } in p) ∷ [] }
+abbrev pub add_item : Layer → (at : ℕ) → Action → (need : ℕ) → Layer
+add_item l at a need = record l { pending = l.pending ++ (let p : Pending = record { action = a; line = slice_index l.lines at; need = need } in p) ∷ [] }
 
 abbrev pub with_item : Layer → Pending → Option ℕ → Layer
 with_item l p next =
     record l { items = l.items ++ (let i : Item = record { action = p.action; next = next; line = p.line; routine = length l.routines; need = max (need_of l.items next) p.need } in i) ∷ [] }
 
 -- the items go into the tables, the last one first; the answer is the first of all
-abbrev pub settled_all : Layer → List Pending → Option ℕ → Option ℕ × Layer
-settled_all l [] next = (next, l)
-settled_all l (p ∷ ps) next =
-    let rest = settled_all l ps next in
+abbrev pub add_items : Layer → List Pending → Option ℕ → Option ℕ × Layer
+add_items l [] next = (next, l)
+add_items l (p ∷ ps) next =
+    let rest = add_items l ps next in
     (Some (length rest.1.items), with_item rest.1 p rest.0)
 
 abbrev pub without_pending : Layer → Layer
 without_pending l = record l { pending = [] }
 
-abbrev pub settled : Layer → Option ℕ → Option ℕ × Layer
-settled l next = settled_all (without_pending l) l.pending next
+abbrev pub settle_items : Layer → Option ℕ → Option ℕ × Layer
+settle_items l next = add_items (without_pending l) l.pending next
 
 -- ---- whole routines
 

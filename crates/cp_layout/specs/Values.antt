@@ -76,10 +76,10 @@ abbrev pub place_at : PlaceOrigin → Place
 place_at o = code.place o 0 code.no_indices
 
 -- the value of a variable
-abbrev pub loaded : Place → CellType → Value
-loaded p (types.Ordinal r) = ordinal_value (code.load p) r.base
-loaded p (types.Set r) = set_value (code.load_set p)
-loaded p t = whole_value p t
+abbrev pub value_loaded_from : Place → CellType → Value
+value_loaded_from p (types.Ordinal r) = ordinal_value (code.load p) r.base
+value_loaded_from p (types.Set r) = set_value (code.load_set p)
+value_loaded_from p t = whole_value p t
 
 abbrev pub load_place : OrdinalExpression → Place
 load_place (code.load p) = p
@@ -104,8 +104,8 @@ abbrev pub set_of : Value → SetExpression
 set_of (set_value e) = e
 set_of v = code.empty_set
 
-abbrev pub negated : Value → Value
-negated v = ordinal_value (code.opposite (ordinal_of v)) base.Boolean
+abbrev pub negation_of : Value → Value
+negation_of v = ordinal_value (code.opposite (ordinal_of v)) base.Boolean
 
 abbrev pub opposite : Value → Value
 opposite v = ordinal_value (code.negate (ordinal_of v)) base.Integer
@@ -116,8 +116,8 @@ arithmetic_of o v w = ordinal_value (code.arithmetic o (ordinal_of v) (ordinal_o
 abbrev pub logic_of : Logic → Value → Value → Value
 logic_of o v w = ordinal_value (code.logic o (ordinal_of v) (ordinal_of w)) base.Boolean
 
-abbrev pub combined : SetOperation → Value → Value → Value
-combined o v w = set_value (code.combine o (set_of v) (set_of w))
+abbrev pub combination_of : SetOperation → Value → Value → Value
+combination_of o v w = set_value (code.combine o (set_of v) (set_of w))
 
 abbrev pub is_set : Value → Bool
 is_set (set_value e) = true
@@ -127,16 +127,16 @@ abbrev pub either_way : Bool → Value → Value → Value
 either_way true v w = v
 either_way false v w = w
 
-abbrev pub added : Addition → Value → Value → Value
-added addition.Plus v w = arithmetic_of arithmetic.Add v w
-added addition.Minus v w = either_way (is_set v) (combined set_operation.Difference v w) (arithmetic_of arithmetic.Subtract v w)
-added addition.Or v w = either_way (is_set v) (combined set_operation.Union v w) (logic_of logic.Or v w)
+abbrev pub sum_of : Addition → Value → Value → Value
+sum_of addition.Plus v w = arithmetic_of arithmetic.Add v w
+sum_of addition.Minus v w = either_way (is_set v) (combination_of set_operation.Difference v w) (arithmetic_of arithmetic.Subtract v w)
+sum_of addition.Or v w = either_way (is_set v) (combination_of set_operation.Union v w) (logic_of logic.Or v w)
 
-abbrev pub multiplied : Multiplication → Value → Value → Value
-multiplied multiplication.Times v w = arithmetic_of arithmetic.Multiply v w
-multiplied multiplication.Div v w = arithmetic_of arithmetic.Divide v w
-multiplied multiplication.Mod v w = arithmetic_of arithmetic.Modulo v w
-multiplied multiplication.And v w = either_way (is_set v) (combined set_operation.Intersection v w) (logic_of logic.And v w)
+abbrev pub product_of : Multiplication → Value → Value → Value
+product_of multiplication.Times v w = arithmetic_of arithmetic.Multiply v w
+product_of multiplication.Div v w = arithmetic_of arithmetic.Divide v w
+product_of multiplication.Mod v w = arithmetic_of arithmetic.Modulo v w
+product_of multiplication.And v w = either_way (is_set v) (combination_of set_operation.Intersection v w) (logic_of logic.And v w)
 
 abbrev pub member_of : Value → Value → Value
 member_of v w = ordinal_value (code.member (ordinal_of v) (set_of w)) base.Boolean
@@ -144,30 +144,30 @@ member_of v w = ordinal_value (code.member (ordinal_of v) (set_of w)) base.Boole
 abbrev pub same_sets : Bool → Value → Value → Value
 same_sets b v w = ordinal_value (code.same_set b (set_of v) (set_of w)) base.Boolean
 
-abbrev pub compared : Comparison → Value → Value → Value
-compared o v w = ordinal_value (code.compare o (ordinal_of v) (ordinal_of w)) base.Boolean
+abbrev pub comparison_value : Comparison → Value → Value → Value
+comparison_value o v w = ordinal_value (code.compare o (ordinal_of v) (ordinal_of w)) base.Boolean
 
-abbrev pub related : Relation → Value → Value → Value
-related relation.In v w = member_of v w
-related relation.Equal v w = either_way (is_set v) (same_sets true v w) (compared comparison.Equal v w)
-related relation.NotEqual v w = either_way (is_set v) (same_sets false v w) (compared comparison.NotEqual v w)
-related relation.Less v w = compared comparison.Less v w
-related relation.Greater v w = compared comparison.Greater v w
-related relation.AtMost v w = compared comparison.AtMost v w
-related relation.AtLeast v w = compared comparison.AtLeast v w
+abbrev pub comparison_of : Relation → Value → Value → Value
+comparison_of relation.In v w = member_of v w
+comparison_of relation.Equal v w = either_way (is_set v) (same_sets true v w) (comparison_value comparison.Equal v w)
+comparison_of relation.NotEqual v w = either_way (is_set v) (same_sets false v w) (comparison_value comparison.NotEqual v w)
+comparison_of relation.Less v w = comparison_value comparison.Less v w
+comparison_of relation.Greater v w = comparison_value comparison.Greater v w
+comparison_of relation.AtMost v w = comparison_value comparison.AtMost v w
+comparison_of relation.AtLeast v w = comparison_value comparison.AtLeast v w
 
-abbrev pub applied_to : PredeclaredRoutine → OrdinalExpression → CellBase → Value
-applied_to predeclared.Succ e b = ordinal_value (code.successor e (whole b).high) b
-applied_to predeclared.Pred e b = ordinal_value (code.predecessor e (whole b).low) b
-applied_to predeclared.Chr e b = ordinal_value (code.character e) base.Char
-applied_to predeclared.Abs e b = ordinal_value (code.absolute e) base.Integer
-applied_to r e b = ordinal_value e base.Integer
+abbrev pub standard_value_of : PredeclaredRoutine → OrdinalExpression → CellBase → Value
+standard_value_of predeclared.Succ e b = ordinal_value (code.successor e (whole b).high) b
+standard_value_of predeclared.Pred e b = ordinal_value (code.predecessor e (whole b).low) b
+standard_value_of predeclared.Chr e b = ordinal_value (code.character e) base.Char
+standard_value_of predeclared.Abs e b = ordinal_value (code.absolute e) base.Integer
+standard_value_of r e b = ordinal_value e base.Integer
 
 abbrev pub empty_queue : Place → Value
 empty_queue p = ordinal_value (code.is_empty p) base.Boolean
 
 -- what a standard function answers for an argument
-abbrev pub applied : PredeclaredRoutine → Value → Value
-applied r (ordinal_value e b) = applied_to r e b
-applied r (whole_value p t) = empty_queue p
-applied r v = no_value
+abbrev pub standard_value : PredeclaredRoutine → Value → Value
+standard_value r (ordinal_value e b) = standard_value_of r e b
+standard_value r (whole_value p t) = empty_queue p
+standard_value r v = no_value

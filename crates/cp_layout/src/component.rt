@@ -24,7 +24,7 @@ pub struct Components {
 
 impl Components {
     fn new(alloc: Global) -> Components
-        ensures { listing_seen result ≡ spec.nothing_listed }
+        ensures { listing_seen result ≡ spec.empty_listing }
     {
         Components {
             items: Vec::new(alloc),
@@ -35,13 +35,13 @@ impl Components {
     }
 
     /// The program as a process, and all that it contains.
-    #[tactic(auto, unfolding(crate::specs::LaidComponents::program_listed))]
+    #[tactic(auto, unfolding(crate::specs::LaidComponents::components_of_program))]
     pub fn of_program(
         alloc: Global,
         around: &Surroundings<'_>,
         initial: usize,
     ) -> Result<Components, AllocError>
-        ensures { IfOk result (λ c. listing_seen c ≡ spec.program_listed (types_seen around.now.types) (map system_seen around.now.systems.items) (owned_seen around.now.owned) initial) }
+        ensures { IfOk result (λ c. listing_seen c ≡ spec.components_of_program (types_seen around.now.types) (map system_seen around.now.systems.items) (owned_seen around.now.owned) initial) }
     {
         let mut components = Components::new(alloc);
         let kind = components.new_kind(SystemKind::Process, initial)?;
@@ -59,7 +59,7 @@ impl Components {
         systems: &[SystemCells],
         number: usize,
     ) -> Result<(), AllocError>
-        ensures { OnOk result (listing_seen self.new ≡ spec.system_by (types_seen types.now) (spec.listed_below (types_seen types.now) (map system_seen systems.now) number) (slice_get (map system_seen systems.now) number) number (listing_seen self.old)) }
+        ensures { OnOk result (listing_seen self.new ≡ spec.system_by (types_seen types.now) (spec.add_below (types_seen types.now) (map system_seen systems.now) number) (slice_get (map system_seen systems.now) number) number (listing_seen self.old)) }
     {
         let Some(system) = systems.get(number) else {
             return Ok(());
@@ -78,7 +78,7 @@ impl Components {
         owned: &Owned,
         number: usize,
     ) -> Result<(), AllocError>
-        ensures { OnOk result (listing_seen self.new ≡ spec.owned_by (types_seen types.now) (spec.listed_below (types_seen types.now) (map system_seen systems.now) number) (kind, listing_seen self.old) (owned_seen owned.now) number) }
+        ensures { OnOk result (listing_seen self.new ≡ spec.add_owned (types_seen types.now) (spec.add_below (types_seen types.now) (map system_seen systems.now) number) (kind, listing_seen self.old) (owned_seen owned.now) number) }
     {
         self.add_component(types, kind, &owned.contents, number)?;
         self.add_contained(types, systems, &owned.contained, number)
@@ -93,7 +93,7 @@ impl Components {
         contained: &[Contained],
         bound: usize,
     ) -> Result<(), AllocError>
-        ensures { OnOk result (listing_seen self.new ≡ spec.contained_by (spec.listed_below (types_seen types.now) (map system_seen systems.now) bound) contained.now (listing_seen self.old)) }
+        ensures { OnOk result (listing_seen self.new ≡ spec.add_contained (spec.add_below (types_seen types.now) (map system_seen systems.now) bound) contained.now (listing_seen self.old)) }
     {
         for components in contained {
             self.add_each(types, systems, *components, bound)?;
@@ -110,7 +110,7 @@ impl Components {
         components: Contained,
         bound: usize,
     ) -> Result<(), AllocError>
-        ensures { OnOk result (listing_seen self.new ≡ spec.again_and_again components.count (spec.listed_below (types_seen types.now) (map system_seen systems.now) bound components.system) (listing_seen self.old)) }
+        ensures { OnOk result (listing_seen self.new ≡ spec.again_and_again components.count (spec.add_below (types_seen types.now) (map system_seen systems.now) bound components.system) (listing_seen self.old)) }
     {
         for _ in 0..components.count {
             self.add_below(types, systems, components.system, bound)?;
@@ -128,7 +128,7 @@ impl Components {
         number: usize,
         bound: usize,
     ) -> Result<(), AllocError>
-        ensures { OnOk result (listing_seen self.new ≡ spec.listed_below (types_seen types.now) (map system_seen systems.now) bound number (listing_seen self.old)) }
+        ensures { OnOk result (listing_seen self.new ≡ spec.add_below (types_seen types.now) (map system_seen systems.now) bound number (listing_seen self.old)) }
     {
         if number < bound {
             return self.add(types, systems, number);

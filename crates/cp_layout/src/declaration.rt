@@ -113,7 +113,7 @@ impl<'a> Layouter<'a> {
     // A system type begins: it sees some of the names, and has its own cells.
     #[tactic(auto, unfolding(crate::specs::Layers::layer_seen))]
     fn enter(&mut self, alloc: Global) -> Result<Outer<'a>, AllocError>
-        ensures { Lays outer_seen (spec.entered (layer_seen self.old)) (layer_seen self.new) result }
+        ensures { Lays outer_seen (spec.enter_system (layer_seen self.old)) (layer_seen self.new) result }
     {
         let inside = self.around.names.inside(alloc)?;
         self.is_inside = true;
@@ -132,7 +132,7 @@ impl<'a> Layouter<'a> {
         first: usize,
         initial: usize,
     ) -> Result<CellType, AllocError>
-        ensures { Lays (λ t. t) (spec.left (layer_seen self.old) (outer_seen outer.entry) kind first initial) (layer_seen self.new) result }
+        ensures { Lays (λ t. t) (spec.leave_system (layer_seen self.old) (outer_seen outer.entry) kind first initial) (layer_seen self.new) result }
     {
         self.is_inside = false;
         self.around.names = outer.names;
@@ -169,7 +169,7 @@ impl<'a> Layouter<'a> {
     // Declares a routine. The answer is how many names there are then.
     #[tactic(auto, unfolding(crate::specs::Layers::layer_seen))]
     fn open(&mut self, alloc: Global, node: &'a Routine) -> Result<usize, AllocError>
-        ensures { Lays (λ n. n) (spec.opened (layer_seen self.old) node.now.name.name) (layer_seen self.new) result }
+        ensures { Lays (λ n. n) (spec.open_routine (layer_seen self.old) node.now.name.name) (layer_seen self.new) result }
     {
         let number = self.lists.routines.len();
         self.declare(&node.name, LayoutMeaning::Routine(number))?;
@@ -189,7 +189,7 @@ impl<'a> Layouter<'a> {
     // Only the first names remain.
     #[tactic(auto, unfolding(crate::specs::Layers::layer_seen))]
     fn close(&mut self, count: usize)
-        ensures { layer_seen self.new ≡ spec.closed (layer_seen self.old) count }
+        ensures { layer_seen self.new ≡ spec.close (layer_seen self.old) count }
     {
         self.around.names.close(count);
     }

@@ -18,7 +18,7 @@ use std::alloc::{AllocError, Global};
 impl<'a> Names<'a> {
     /// What a name stands for.
     pub fn meaning_of(&self, alloc: Global, name: &Identifier) -> Designated
-        ensures { designated_seen result ≡ spec.begun_as (find name.now.name (names_seen self.now)) }
+        ensures { designated_seen result ≡ spec.meaning_of (find name.now.name (names_seen self.now)) }
     {
         let Some(meaning) = self.look(name.name.as_str()) else {
             return Designated::Nothing;
@@ -45,7 +45,7 @@ impl<'a> Names<'a> {
 impl<'a> Surroundings<'a> {
     /// A field of a record, or a routine of a component.
     pub fn field(&self, whole: Designated, name: &Identifier) -> Designated
-        ensures { designated_seen result ≡ spec.field_selected (around_seen self.now) (designated_seen whole) name.now.name }
+        ensures { designated_seen result ≡ spec.field_of_designated (around_seen self.now) (designated_seen whole) name.now.name }
     {
         match whole {
             Designated::Variable(place, value_type) => {
@@ -82,7 +82,7 @@ impl<'a> Surroundings<'a> {
         whole: Designated,
         index: OrdinalExpression,
     ) -> Result<Designated, AllocError>
-        ensures { IfOk result (λ d. designated_seen d ≡ spec.element_selected (around_seen self.now) (designated_seen whole) (expression_seen index)) }
+        ensures { IfOk result (λ d. designated_seen d ≡ spec.element_of_designated (around_seen self.now) (designated_seen whole) (expression_seen index)) }
     {
         match whole {
             Designated::Variable(place, value_type) => {
@@ -112,7 +112,7 @@ impl<'a> Surroundings<'a> {
         value_type: CellType,
         index: OrdinalExpression,
     ) -> Result<Designated, AllocError>
-        ensures { IfOk result (λ d. designated_seen d ≡ spec.element_selected (around_seen self.now) (a_contained first value_type) (expression_seen index)) }
+        ensures { IfOk result (λ d. designated_seen d ≡ spec.element_of_designated (around_seen self.now) (a_contained first value_type) (expression_seen index)) }
     {
         let Some(array) = self.types.array(value_type) else {
             return Ok(Designated::Nothing);

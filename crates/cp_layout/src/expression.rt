@@ -71,7 +71,7 @@ impl<'a> Layouter<'a> {
     }
 
     #[cycle(expression)]
-    #[tactic(auto, unfolding(crate::specs::LaidExpressions::factor, crate::specs::LaidExpressions::named))]
+    #[tactic(auto, unfolding(crate::specs::LaidExpressions::factor, crate::specs::LaidExpressions::value_of_name))]
     fn factor(&mut self, alloc: Global, node: &Factor) -> Result<Value, AllocError>
         ensures { Lays value_seen (spec.factor (layer_seen self.old) (factor_view node.now)) (layer_seen self.new) result }
     {
@@ -107,7 +107,7 @@ impl<'a> Layouter<'a> {
 
     // A variable, a constant, or a call of a function.
     #[cycle(expression)]
-    #[tactic(auto, unfolding(crate::specs::LaidExpressions::named, crate::specs::LaidExpressions::function))]
+    #[tactic(auto, unfolding(crate::specs::LaidExpressions::value_of_name, crate::specs::LaidExpressions::function))]
     fn value_of_name(
         &mut self,
         alloc: Global,
@@ -115,7 +115,7 @@ impl<'a> Layouter<'a> {
         whole: Designated,
         nodes: &[Written],
     ) -> Result<Value, AllocError>
-        ensures { Lays value_seen (spec.named (layer_seen self.old) at (designated_seen whole) (expressions_of (expressions_view nodes.now))) (layer_seen self.new) result }
+        ensures { Lays value_seen (spec.value_of_name (layer_seen self.old) at (designated_seen whole) (expressions_of (expressions_view nodes.now))) (layer_seen self.new) result }
     {
         match whole {
             Designated::Value(value) => Ok(value),
@@ -167,7 +167,7 @@ impl<'a> Layouter<'a> {
         outcome: FunctionResult,
         arguments: Vec<Argument>,
     ) -> Result<Value, AllocError>
-        ensures { Lays value_seen (spec.called (layer_seen self.old) at (component_seen component) is_entry routine outcome (map argument_seen arguments.items)) (layer_seen self.new) result }
+        ensures { Lays value_seen (spec.call_value (layer_seen self.old) at (component_seen component) is_entry routine outcome (map argument_seen arguments.items)) (layer_seen self.new) result }
     {
         let slot = self.frame.add_cell()?;
         let need = self.reserve(routine);
@@ -327,7 +327,7 @@ impl<'a> Layouter<'a> {
 impl<'a> Surroundings<'a> {
     // A value as the argument of a parameter.
     fn argument_for(&self, alloc: Global, passing: Passing, value: Value) -> ArgumentValue
-        ensures { code.value_seen result ≡ spec.passed (around_seen self.now) passing (value_seen value) }
+        ensures { code.value_seen result ≡ spec.argument_for (around_seen self.now) passing (value_seen value) }
     {
         match passing {
             Passing::Reference => ArgumentValue::Reference(place_of(alloc, value)),
@@ -388,7 +388,7 @@ pub fn byte_or(other: u8, number: i16) -> u8
 
 // A value after its sign.
 fn with_sign(alloc: Global, sign: Option<Sign>, value: Value) -> Result<Value, AllocError>
-    ensures { IfOk result (λ v. value_seen v ≡ spec.signed sign (value_seen value)) }
+    ensures { IfOk result (λ v. value_seen v ≡ spec.with_sign sign (value_seen value)) }
 {
     match sign {
         Some(Sign::Minus) => opposite(alloc, value),

@@ -245,7 +245,7 @@ impl<'a> Layouter<'a> {
     /// One more item of the statement, by the token at which it begins.
     #[tactic(auto, unfolding(crate::specs::Layers::layer_seen))]
     pub fn add(&mut self, at: usize, action: Action, need: usize) -> Result<(), AllocError>
-        ensures { Leads (spec.added (layer_seen self.old) at (action_seen action) need) (layer_seen self.new) result }
+        ensures { Leads (spec.add_item (layer_seen self.old) at (action_seen action) need) (layer_seen self.new) result }
     {
         let line = self.around.line(at);
         self.lists.pending.push(Pending { action, line, need })?;
@@ -258,7 +258,7 @@ impl<'a> Layouter<'a> {
         alloc: Global,
         next: Option<usize>,
     ) -> Result<Option<usize>, AllocError>
-        ensures { Lays (λ o. o) (spec.settled (layer_seen self.old) next) (layer_seen self.new) result }
+        ensures { Lays (λ o. o) (spec.settle_items (layer_seen self.old) next) (layer_seen self.new) result }
     {
         let pending = self.take_pending(alloc);
         self.add_items(pending, next)
@@ -278,7 +278,7 @@ impl<'a> Layouter<'a> {
         pending: Vec<Pending>,
         next: Option<usize>,
     ) -> Result<Option<usize>, AllocError>
-        ensures { Lays (λ o. o) (spec.settled_all (layer_seen self.old) (map pending_seen pending.items) next) (layer_seen self.new) result }
+        ensures { Lays (λ o. o) (spec.add_items (layer_seen self.old) (map pending_seen pending.items) next) (layer_seen self.new) result }
     {
         let mut left = pending;
         let mut first = next;

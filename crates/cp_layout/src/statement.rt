@@ -1,10 +1,10 @@
-//! Statements as items. The items of a list are added last to first, each after those inside it.
+//! Statements as items. The items of a list are add_item last to first, each after those inside it.
 
 ghost use Rattle.std.specs.Prelude.{◌≡◌, map, option_map};
 ghost use Rattle.cp_tree.specs.View.{expression_view, expressions_view, expressions_of, designator_view, statement_view, statements_view, statements_of, arm_view, arms_view, arms_of, start_view};
 ghost use Rattle.cp_slots.specs.Code.{action_seen, arm_seen, component_seen};
 ghost use Rattle.cp_layout.specs.Values.{value_seen, designated_seen};
-ghost use Rattle.cp_layout.specs.Layers.{layer_seen, around_seen, Lays, Leads, is_own, result_of, settled, added};
+ghost use Rattle.cp_layout.specs.Layers.{layer_seen, around_seen, Lays, Leads, is_own, result_of, settle_items, add_item};
 ghost use Rattle.cp_layout.specs.LaidStatements as spec;
 ghost use Rattle.cp_layout.specs.LaidStatements.{target_seen, callee_seen, placed_seen, token_of};
 
@@ -49,7 +49,7 @@ fn callee_of(named: Designated) -> CalledRoutine
 
 // A component with its system type.
 fn component_place_of(named: Designated) -> Option<(ComponentPlace, usize)>
-    ensures { option_map placed_seen result ≡ spec.placed_of (designated_seen named) }
+    ensures { option_map placed_seen result ≡ spec.component_place_of (designated_seen named) }
 {
     match named {
         Designated::Component(place, system) => Some((place, system)),
@@ -163,7 +163,7 @@ impl<'a> Layouter<'a> {
         node: &Written,
         next: Option<usize>,
     ) -> Result<Option<usize>, AllocError>
-        ensures { Lays (λ o. o) (settled (spec.assertion (layer_seen self.old) (token_of (expression_view node.now)) kind (expression_view node.now)) next) (layer_seen self.new) result }
+        ensures { Lays (λ o. o) (settle_items (spec.assertion (layer_seen self.old) (token_of (expression_view node.now)) kind (expression_view node.now)) next) (layer_seen self.new) result }
     {
         let at = node.at;
         let test = ordinal(self.expression(alloc, node)?);
@@ -233,7 +233,7 @@ impl<'a> Layouter<'a> {
         right: &Written,
         next: Option<usize>,
     ) -> Result<Option<usize>, AllocError>
-        ensures { Lays (λ o. o) (settled (spec.assigned (layer_seen self.old) at (designator_view left.now) (expression_view right.now)) next) (layer_seen self.new) result }
+        ensures { Lays (λ o. o) (settle_items (spec.assign (layer_seen self.old) at (designator_view left.now) (expression_view right.now)) next) (layer_seen self.new) result }
     {
         let named = self.designator(alloc, left)?;
         let target = self.target(alloc, named);
@@ -242,7 +242,7 @@ impl<'a> Layouter<'a> {
         self.finish(alloc, at, action, 0, next)
     }
 
-    #[tactic(auto, unfolding(crate::specs::LaidStatements::invoked))]
+    #[tactic(auto, unfolding(crate::specs::LaidStatements::call_statement))]
     fn call(
         &mut self,
         alloc: Global,
@@ -251,7 +251,7 @@ impl<'a> Layouter<'a> {
         nodes: &[Written],
         next: Option<usize>,
     ) -> Result<Option<usize>, AllocError>
-        ensures { Lays (λ o. o) (settled (spec.invoked (layer_seen self.old) at (designator_view name.now) (expressions_of (expressions_view nodes.now))) next) (layer_seen self.new) result }
+        ensures { Lays (λ o. o) (settle_items (spec.call_statement (layer_seen self.old) at (designator_view name.now) (expressions_of (expressions_view nodes.now))) next) (layer_seen self.new) result }
     {
         let whole = self.designator(alloc, name)?;
         self.call_of(alloc, at, callee_of(whole), nodes)?;
@@ -265,7 +265,7 @@ impl<'a> Layouter<'a> {
         callee: CalledRoutine,
         nodes: &[Written],
     ) -> Result<(), AllocError>
-        ensures { Leads (spec.invoked_as (layer_seen self.old) at (callee_seen callee) (expressions_of (expressions_view nodes.now))) (layer_seen self.new) result }
+        ensures { Leads (spec.call_of (layer_seen self.old) at (callee_seen callee) (expressions_of (expressions_view nodes.now))) (layer_seen self.new) result }
     {
         match callee {
             CalledRoutine::Predeclared(routine) => self.perform(alloc, at, routine, nodes),
@@ -320,9 +320,9 @@ impl<'a> Layouter<'a> {
     }
 
     /// A call of the invariants of the block, where it has some.
-    #[tactic(auto, unfolding(crate::specs::LaidStatements::checked, crate::specs::Layers::layer_seen))]
+    #[tactic(auto, unfolding(crate::specs::LaidStatements::check_invariants, crate::specs::Layers::layer_seen))]
     pub fn check(&mut self, alloc: Global, at: usize) -> Result<(), AllocError>
-        ensures { Leads (spec.checked (layer_seen self.old) at) (layer_seen self.new) result }
+        ensures { Leads (spec.check_invariants (layer_seen self.old) at) (layer_seen self.new) result }
     {
         match self.around.names.look(NAMELESS) {
             Some(LayoutMeaning::Routine(routine)) => {
@@ -340,7 +340,7 @@ impl<'a> Layouter<'a> {
         list: Option<usize>,
         next: Option<usize>,
     ) -> Result<Option<usize>, AllocError>
-        ensures { Lays (λ o. o) (settled (spec.blocked (layer_seen self.old) at list) next) (layer_seen self.new) result }
+        ensures { Lays (λ o. o) (settle_items (spec.block_item (layer_seen self.old) at list) next) (layer_seen self.new) result }
     {
         let need = self.lists.need_inside(list);
         self.finish(alloc, at, Action::Block(list), need, next)
@@ -354,7 +354,7 @@ impl<'a> Layouter<'a> {
         list: Option<usize>,
         next: Option<usize>,
     ) -> Result<Option<usize>, AllocError>
-        ensures { Lays (λ o. o) (settled (spec.cycled (layer_seen self.old) at list) next) (layer_seen self.new) result }
+        ensures { Lays (λ o. o) (settle_items (spec.cycle_item (layer_seen self.old) at list) next) (layer_seen self.new) result }
     {
         let need = self.lists.need_inside(list);
         self.finish(alloc, at, Action::Cycle(list), need, next)
@@ -369,14 +369,14 @@ impl<'a> Layouter<'a> {
         need: usize,
         next: Option<usize>,
     ) -> Result<Option<usize>, AllocError>
-        ensures { Lays (λ o. o) (settled (added (layer_seen self.old) at (action_seen action) need) next) (layer_seen self.new) result }
+        ensures { Lays (λ o. o) (settle_items (add_item (layer_seen self.old) at (action_seen action) need) next) (layer_seen self.new) result }
     {
         self.add(at, action, need)?;
         self.settle(alloc, next)
     }
 
     // `if`.
-    #[tactic(auto, unfolding(crate::specs::LaidStatements::chosen, crate::specs::Layers::layer_seen))]
+    #[tactic(auto, unfolding(crate::specs::LaidStatements::choose, crate::specs::Layers::layer_seen))]
     fn choose(
         &mut self,
         alloc: Global,
@@ -386,7 +386,7 @@ impl<'a> Layouter<'a> {
         otherwise: Option<usize>,
         next: Option<usize>,
     ) -> Result<Option<usize>, AllocError>
-        ensures { Lays (λ o. o) (settled (spec.chosen (layer_seen self.old) at (expression_view test.now) then otherwise) next) (layer_seen self.new) result }
+        ensures { Lays (λ o. o) (settle_items (spec.choose (layer_seen self.old) at (expression_view test.now) then otherwise) next) (layer_seen self.new) result }
     {
         let test = ordinal(self.expression(alloc, test)?);
         let need = self
@@ -402,7 +402,7 @@ impl<'a> Layouter<'a> {
     }
 
     // `case`.
-    #[tactic(auto, unfolding(crate::specs::LaidStatements::selected))]
+    #[tactic(auto, unfolding(crate::specs::LaidStatements::select))]
     fn select(
         &mut self,
         alloc: Global,
@@ -411,7 +411,7 @@ impl<'a> Layouter<'a> {
         arms: Vec<ResolvedArm>,
         next: Option<usize>,
     ) -> Result<Option<usize>, AllocError>
-        ensures { Lays (λ o. o) (settled (spec.selected (layer_seen self.old) at (expression_view selector.now) (map arm_seen arms.items)) next) (layer_seen self.new) result }
+        ensures { Lays (λ o. o) (settle_items (spec.select (layer_seen self.old) at (expression_view selector.now) (map arm_seen arms.items)) next) (layer_seen self.new) result }
     {
         let selector = ordinal(self.expression(alloc, selector)?);
         let need = self.arms_need(&arms);
@@ -439,7 +439,7 @@ impl<'a> Layouter<'a> {
         body: Option<usize>,
         next: Option<usize>,
     ) -> Result<Option<usize>, AllocError>
-        ensures { Lays (λ o. o) (settled (spec.while_item (layer_seen self.old) at (expression_view test.now) body) next) (layer_seen self.new) result }
+        ensures { Lays (λ o. o) (settle_items (spec.while_item (layer_seen self.old) at (expression_view test.now) body) next) (layer_seen self.new) result }
     {
         let test = ordinal(self.expression(alloc, test)?);
         let need = self.lists.need_inside(body).max(self.lists.pending_need());
@@ -456,7 +456,7 @@ impl<'a> Layouter<'a> {
         test: &Written,
         next: Option<usize>,
     ) -> Result<Option<usize>, AllocError>
-        ensures { Lays (λ o. o) (spec.repeated (layer_seen self.old) at body (expression_view test.now) next) (layer_seen self.new) result }
+        ensures { Lays (λ o. o) (spec.repeat_items (layer_seen self.old) at body (expression_view test.now) next) (layer_seen self.new) result }
     {
         self.until_item(alloc, test, body)?;
         let until = self.settle(alloc, next)?;
@@ -491,7 +491,7 @@ impl<'a> Layouter<'a> {
         body: Option<usize>,
         next: Option<usize>,
     ) -> Result<Option<usize>, AllocError>
-        ensures { Lays (λ o. o) (settled (spec.for_item (layer_seen self.old) at name.now.name (expression_view from.now) direction (expression_view to.now) body) next) (layer_seen self.new) result }
+        ensures { Lays (λ o. o) (settle_items (spec.for_item (layer_seen self.old) at name.now.name (expression_view from.now) direction (expression_view to.now) body) next) (layer_seen self.new) result }
     {
         let named = self.around.names.meaning_of(alloc, name);
         let target = self.target(alloc, named);
@@ -531,9 +531,9 @@ impl<'a> Layouter<'a> {
         Ok(first)
     }
 
-    #[tactic(auto, unfolding(crate::specs::LaidStatements::started, crate::specs::Layers::layer_seen))]
+    #[tactic(auto, unfolding(crate::specs::LaidStatements::start_statement, crate::specs::Layers::layer_seen))]
     fn start(&mut self, alloc: Global, node: &Start) -> Result<(), AllocError>
-        ensures { Leads (spec.started (layer_seen self.old) (start_view node.now)) (layer_seen self.new) result }
+        ensures { Leads (spec.start_statement (layer_seen self.old) (start_view node.now)) (layer_seen self.new) result }
     {
         let at = node.target.name.at;
         let named = self.designator(alloc, &node.target)?;
@@ -546,7 +546,7 @@ impl<'a> Layouter<'a> {
         }
     }
 
-    #[tactic(auto, unfolding(crate::specs::LaidStatements::begun_component))]
+    #[tactic(auto, unfolding(crate::specs::LaidStatements::begin_component))]
     fn begin_component(
         &mut self,
         alloc: Global,
@@ -555,7 +555,7 @@ impl<'a> Layouter<'a> {
         routine: usize,
         nodes: &[Written],
     ) -> Result<(), AllocError>
-        ensures { Leads (spec.begun_component (layer_seen self.old) at (component_seen component) routine (expressions_of (expressions_view nodes.now))) (layer_seen self.new) result }
+        ensures { Leads (spec.begin_component (layer_seen self.old) at (component_seen component) routine (expressions_of (expressions_view nodes.now))) (layer_seen self.new) result }
     {
         let arguments = self.arguments(alloc, routine, nodes)?;
         let need = self.reserve(routine);
@@ -645,7 +645,7 @@ fn is_down(direction: Direction) -> bool
 
 // What a predeclared procedure does.
 fn standard_action(alloc: Global, routine: PredeclaredRoutine, value: Value) -> Action
-    ensures { action_seen result ≡ spec.performed routine (value_seen value) }
+    ensures { action_seen result ≡ spec.standard_action routine (value_seen value) }
 {
     match routine {
         PredeclaredRoutine::Delay => Action::Delay(place_of(alloc, value)),
@@ -657,7 +657,7 @@ fn standard_action(alloc: Global, routine: PredeclaredRoutine, value: Value) -> 
 
 // `display` of a value.
 fn display(value: Value) -> Action
-    ensures { action_seen result ≡ spec.displayed (value_seen value) }
+    ensures { action_seen result ≡ spec.display (value_seen value) }
 {
     let kind = shown_kind(&value);
     Action::Display {

@@ -6,7 +6,7 @@ ghost use Rattle.cp_layout.specs.Layers.{around_seen, heading_seen, system_seen}
 ghost use Rattle.cp_layout.specs.LaidExpressions as expressions;
 ghost use Rattle.cp_layout.specs.LaidStatements as statements;
 ghost use Rattle.cp_symbols.specs.Symbols.{routine_seen};
-ghost use Rattle.cp_layout.specs.Symbols.{routine_named, system_named};
+ghost use Rattle.cp_layout.specs.Symbols.{name_of_routine, symbol_of_system};
 
 use crate::kinds::Types;
 use crate::layer::{HeadingLayout, Owned, ParameterLayout, SystemCells};
@@ -74,7 +74,7 @@ impl<'a> Surroundings<'a> {
     /// The headings of all routines.
     #[tactic(auto, using(crate::proofs::SymbolLists::routines_step, crate::proofs::SymbolLists::routines_none))]
     pub fn routine_symbols(&self, alloc: Global) -> Result<Vec<RoutineSymbol>, AllocError>
-        ensures { IfOk result (λ v. map routine_seen v.items ≡ map routine_named (map heading_seen self.now.headings.items)) }
+        ensures { IfOk result (λ v. map routine_seen v.items ≡ map name_of_routine (map heading_seen self.now.headings.items)) }
     {
         let mut symbols = Vec::new(alloc);
         for heading in &self.headings {
@@ -90,7 +90,7 @@ impl<'a> Surroundings<'a> {
     /// The system types.
     #[tactic(auto, using(crate::proofs::SymbolLists::systems_step, crate::proofs::SymbolLists::systems_none))]
     pub fn system_symbols(&self, alloc: Global) -> Result<Vec<SystemSymbol>, AllocError>
-        ensures { IfOk result (λ v. v.items ≡ map system_named (map system_seen self.now.systems.items)) }
+        ensures { IfOk result (λ v. v.items ≡ map symbol_of_system (map system_seen self.now.systems.items)) }
     {
         let mut symbols = Vec::new(alloc);
         for system in &self.systems {

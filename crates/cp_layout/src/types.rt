@@ -35,7 +35,7 @@ fn opposite_number(number: i16) -> i16
 }
 
 fn number_with_sign(sign: Option<Sign>, number: i16) -> i16
-    ensures { result ≡ spec.signed_number sign number }
+    ensures { result ≡ spec.number_with_sign sign number }
 {
     match sign {
         Some(Sign::Minus) => opposite_number(number),
@@ -212,7 +212,7 @@ impl<'a> Layouter<'a> {
         base: CellBase,
         constants: &'a [Identifier],
     ) -> Result<(), AllocError>
-        ensures { Leads (spec.enumerated (layer_seen self.old) base 0 constants.now) (layer_seen self.new) result }
+        ensures { Leads (spec.enumerate (layer_seen self.old) base 0 constants.now) (layer_seen self.new) result }
     {
         for (number, identifier) in constants.iter().enumerate() {
             let meaning = LayoutMeaning::Constant(base, integer_of(number));

@@ -65,7 +65,7 @@ pub fn place_at(alloc: Global, origin: PlaceOrigin) -> Place
 
 /// The value of a variable.
 pub fn load(place: Place, value_type: CellType) -> Value
-    ensures { value_seen result ≡ spec.loaded (place_seen place) value_type }
+    ensures { value_seen result ≡ spec.value_loaded_from (place_seen place) value_type }
 {
     match value_type {
         CellType::Ordinal(range) => Value::Ordinal(OrdinalExpression::Load(place), range.base),
@@ -108,7 +108,7 @@ pub fn set_expression(value: Value) -> SetExpression
 
 /// `not` of a value.
 pub fn negation_of(alloc: Global, value: Value) -> Result<Value, AllocError>
-    ensures { IfOk result (λ v. value_seen v ≡ spec.negated (value_seen value)) }
+    ensures { IfOk result (λ v. value_seen v ≡ spec.negation_of (value_seen value)) }
 {
     let inner = Box::new(alloc, ordinal(value))?;
     Ok(Value::Ordinal(OrdinalExpression::Not(inner), CellBase::Boolean))
@@ -166,7 +166,7 @@ fn combined_sets(
     left: Value,
     right: Value,
 ) -> Result<Value, AllocError>
-    ensures { IfOk result (λ v. value_seen v ≡ spec.combined operation (value_seen left) (value_seen right)) }
+    ensures { IfOk result (λ v. value_seen v ≡ spec.combination_of operation (value_seen left) (value_seen right)) }
 {
     let (left, right) = in_two_boxes(alloc, set_expression(left), set_expression(right))?;
     Ok(Value::Set(SetExpression::Combine(operation, left, right)))
@@ -179,7 +179,7 @@ pub fn sum_of(
     left: Value,
     right: Value,
 ) -> Result<Value, AllocError>
-    ensures { IfOk result (λ v. value_seen v ≡ spec.added operation (value_seen left) (value_seen right)) }
+    ensures { IfOk result (λ v. value_seen v ≡ spec.sum_of operation (value_seen left) (value_seen right)) }
 {
     match (operation, &left) {
         (Addition::Plus, _) => arithmetic(alloc, Arithmetic::Add, left, right),
@@ -202,7 +202,7 @@ pub fn product_of(
     left: Value,
     right: Value,
 ) -> Result<Value, AllocError>
-    ensures { IfOk result (λ v. value_seen v ≡ spec.multiplied operation (value_seen left) (value_seen right)) }
+    ensures { IfOk result (λ v. value_seen v ≡ spec.product_of operation (value_seen left) (value_seen right)) }
 {
     match (operation, &left) {
         (Multiplication::Times, _) => arithmetic(alloc, Arithmetic::Multiply, left, right),
@@ -238,7 +238,7 @@ fn comparison(
     left: Value,
     right: Value,
 ) -> Result<Value, AllocError>
-    ensures { IfOk result (λ v. value_seen v ≡ spec.compared relation (value_seen left) (value_seen right)) }
+    ensures { IfOk result (λ v. value_seen v ≡ spec.comparison_value relation (value_seen left) (value_seen right)) }
 {
     let (left, right) = in_two_boxes(alloc, ordinal(left), ordinal(right))?;
     Ok(Value::Ordinal(
@@ -254,7 +254,7 @@ pub fn comparison_of(
     left: Value,
     right: Value,
 ) -> Result<Value, AllocError>
-    ensures { IfOk result (λ v. value_seen v ≡ spec.related relation (value_seen left) (value_seen right)) }
+    ensures { IfOk result (λ v. value_seen v ≡ spec.comparison_of relation (value_seen left) (value_seen right)) }
 {
     match (relation, &left) {
         (Relation::In, _) => member(alloc, left, right),
@@ -275,7 +275,7 @@ pub fn standard_value(
     function: PredeclaredRoutine,
     value: Value,
 ) -> Result<Value, AllocError>
-    ensures { IfOk result (λ v. value_seen v ≡ spec.applied function (value_seen value)) }
+    ensures { IfOk result (λ v. value_seen v ≡ spec.standard_value function (value_seen value)) }
 {
     let (inner, base) = match value {
         Value::Ordinal(inner, base) => (inner, base),

@@ -2,7 +2,7 @@
 use Rattle.std.proofs.Common.{◌≡◌, ℕ, ◌+◌, ◌<◌, ◌≤◌, Bool, true, false, if◌then◌else◌, List, [], ◌∷◌, ◌++◌, length, Option, Some, None, slice_get, ◌==◌, refl, sym, ap, subst, ◌∙◌, ◌⊎◌, inl, inr, append_assoc, append-nil, arith, length-append}
 use Rattle.cp_legend_laws.proofs.Words.{eq-eqb, eqb-true, slice_get_within, Contained, Compounds, Noted, Layer, System, own_system, nothing_laid, Each, last_or_before}
 use Rattle.cp_tree.specs.Syntax as syntax
-use Rattle.cp_layout.specs.LaidDeclarations.{Parameters, type_named, initial_statement, entered, system_groups, system_inside, system_of, system, definition, system_definition, system_definitions, program_part, program_parts, program, routines}
+use Rattle.cp_layout.specs.LaidDeclarations.{Parameters, with_type_name, initial_statement, enter_system, system_groups, system_inside, system_of, system, definition, system_definition, system_definitions, program_part, program_parts, program, routines}
 use Rattle.cp_legend_laws.proofs.Noting.{all_contents, contents_append, Noting, noting_trans, noting_name}
 use Rattle.cp_legend_laws.proofs.NotingDeclarations.{type_notes, constants_note, variables_note}
 use Rattle.cp_legend_laws.proofs.NotingRoutines.{initial_notes, routines_note, inside_notes}
@@ -123,7 +123,7 @@ lined_noting l m n h =
 pub lined_system : (l : Layer) (s : syntax.System) → Lined l → Lined (system l s).1
 unfolding system
 lined_system l s h =
-    let e : Layer = (entered l).1 in
+    let e : Layer = (enter_system l).1 in
     let x : Parameters × Layer = system_groups e [] s.parameters in
     let b : Layer = system_inside x.1 s in
     let m : Layer = initial_statement b x.0 s.body in
@@ -172,10 +172,10 @@ lined_system l s h =
 
 -- ---- the whole program
 
-pub type_name_notes : (l : Layer) (x : List ℕ) (d : syntax.Definition) → Lined (definition l d).1 → Lined (type_named x (definition l d))
+pub type_name_notes : (l : Layer) (x : List ℕ) (d : syntax.Definition) → Lined (definition l d).1 → Lined (with_type_name x (definition l d))
 type_name_notes l x d h =
     let m : Layer = (definition l d).1 in
-    lined_noting m (type_named x (definition l d)) (noting_name m x _ m.owned m.frame (λ ts. refl) refl) h
+    lined_noting m (with_type_name x (definition l d)) (noting_name m x _ m.owned m.frame (λ ts. refl) refl) h
 
 pub lined_definition : (l : Layer) (d : syntax.Definition) → Lined l → Lined (definition l d).1
 lined_definition l (syntax.type_definition t) h = lined_noting l (definition l (syntax.type_definition t)).1 (type_notes l t) h

@@ -4,7 +4,7 @@ use Rattle.cp_legend_laws.proofs.Words.{◌-◌, length-map, slice_get_within, T
 use Rattle.cp_symbols.specs.declared.symbols.SystemSymbol.{SystemSymbol}
 use Rattle.cp_symbols.specs.declared.symbols.Symbols as code_symbols
 use Rattle.cp_layout.specs.Laid.{laid, whole, tables_laid}
-use Rattle.cp_layout.specs.Symbols.{AreSymbolsOf, system_named}
+use Rattle.cp_layout.specs.Symbols.{AreSymbolsOf, symbol_of_system}
 use Rattle.cp_legend.specs.Names.{Source, source_seen, parts_of}
 use Rattle.cp_legend_laws.specs.Statements.{ComponentsLineUp, ComponentsLaw}
 use Rattle.cp_legend_laws.proofs.Lined.{AreBelow, Lined, lined_program, home_contents}
@@ -22,7 +22,7 @@ module _ (t : Tree) (y : code_symbols.Symbols) (is : AreSymbolsOf y (whole t)) w
   lined = lined_program t.lines t.program
 
   pub count : length source.systems ≡ length end.systems
-  count = ap (λ (xs : List SystemSymbol). length xs) is.systems ∙ length-map end.systems system_named
+  count = ap (λ (xs : List SystemSymbol). length xs) is.systems ∙ length-map end.systems symbol_of_system
 
   pub below : AreBelow (length source.systems) source.declared
   below = subst (λ n. AreBelow n source.declared) (sym count) (subst (AreBelow (length end.systems)) (sym is.declared) lined.below)

@@ -12,7 +12,7 @@ use Rattle.cp_symbols.specs.declared.names.LayoutMeaning.TheVariants as meaning
 use Rattle.cp_layout.specs.Laid.{whole}
 use Rattle.cp_layout.specs.Layers.{Names, Heading, find, is_open, seen_inside, with_name}
 use Rattle.cp_layout.specs.LaidTypes.{with_constant}
-use Rattle.cp_layout.specs.LaidDeclarations.{Parameters, body, definition, entered, heading_with, initial_statement, opened, program, program_part, program_parts, routine, routines, system, system_definition, system_definitions, system_groups, system_parameter, type_named, variable_with}
+use Rattle.cp_layout.specs.LaidDeclarations.{Parameters, body, definition, enter_system, heading_with, initial_statement, open_routine, program, program_part, program_parts, routine, routines, system, system_definition, system_definitions, system_groups, system_parameter, with_type_name, variable_with}
 use Rattle.cp_legend.specs.Names as legend
 use Rattle.cp_legend.specs.Names.{local_meant, local_named, parameter_meant, parameter_named}
 use Rattle.cp_legend.specs.declared.legend.LegendParameter.{LegendParameter}
@@ -212,7 +212,7 @@ routine_spans : (l : Layer) (r : syntax.Routine) → Spans l (routine l r)
 routine_spans l r =
     let m : Layer = routine l r in
     let n : Noted = note l r.name.name (meaning.Routine (length l.routines)) in
-    let i : Inner (opened l r.name.name).1 (routine_begun l r) = routine_inner l r in
+    let i : Inner (open_routine l r.name.name).1 (routine_begun l r) = routine_inner l r in
     let count : length m.routines ≡ suc (length l.routines) = routine_count l r in
     record {
       names = n ∷ i.names;
@@ -249,7 +249,7 @@ initial_spans l ps b =
 
 parts_span : (l : Layer) (s : syntax.System) → Spans l (parts_begun l s)
 parts_span l s =
-    let e : Layer = (entered l).1 in
+    let e : Layer = (enter_system l).1 in
     let y : Layer = (system_groups e [] s.parameters).1 in
     let a : Spans l e = spans_clear l e refl refl (none_inside l.names) in
     spans_trans l y (parts_begun l s) (spans_trans l e y a (system_groups_lead spans_types spans_systems e [] s.parameters tt)) (permanent_parts_lead spans_types spans_systems y s.parts tt)
@@ -267,8 +267,8 @@ definition_spans : (l : Layer) (v : syntax.Definition) → Spans l (definition l
 definition_spans l (syntax.type_definition t) = (type_leads spans_types l t tt).0
 definition_spans l (syntax.system_definition s) = system_spans l s
 
-named_spans : (l : Layer) (x : List ℕ) (v : syntax.Definition) → Spans (definition l v).1 (type_named x (definition l v))
-named_spans l x v = spans_note (definition l v).1 (type_named x (definition l v)) x (meaning.Kind (definition l v).0) refl refl refl refl
+named_spans : (l : Layer) (x : List ℕ) (v : syntax.Definition) → Spans (definition l v).1 (with_type_name x (definition l v))
+named_spans l x v = spans_note (definition l v).1 (with_type_name x (definition l v)) x (meaning.Kind (definition l v).0) refl refl refl refl
 
 definitions_span : (l : Layer) (ns : List syntax.SystemDefinition) → Spans l (system_definitions l ns)
 unfolding system_definitions
@@ -356,7 +356,7 @@ module _ (end : Layer) where
       let k : Layer = routine_begun l r in
       let n : ℕ = length l.routines in
       let d : Noted = note l r.name.name (meaning.Routine n) in
-      let i : Inner (opened l r.name.name).1 k = routine_inner l r in
+      let i : Inner (open_routine l r.name.name).1 k = routine_inner l r in
       let x : RoutineLists l r (routine_in (with_routine s r) r) = routine_lists l s r in
       let count : length m.routines ≡ suc n = routine_count l r in
       let all : end.noted ≡ ((l.noted ++ d ∷ []) ++ i.names) ++ a.spans.names = a.spans.noted ∙ ap (λ (ds : List Noted). ds ++ a.spans.names) (routine_notes l r) in
@@ -384,9 +384,9 @@ module _ (end : Layer) where
         headings = longer_trans k.headings m.headings end.headings e.headings a.headings;
       }
     where
-      go : (i : Inner (opened l r.name.name).1 (routine_begun l r)) (x : RoutineLists l r (routine_in (with_routine s r) r)) (z : Name) (q : LayoutMeaning) → is_held q ≡ true → IsNotedAs z q (routine_inner l r).names ⊎ (find z (opened l r.name.name).1.names ≡ Some q) → IsNotedAs z q (x.first ++ x.second)
+      go : (i : Inner (open_routine l r.name.name).1 (routine_begun l r)) (x : RoutineLists l r (routine_in (with_routine s r) r)) (z : Name) (q : LayoutMeaning) → is_held q ≡ true → IsNotedAs z q (routine_inner l r).names ⊎ (find z (open_routine l r.name.name).1.names ≡ Some q) → IsNotedAs z q (x.first ++ x.second)
       go i x z q f (inl h) = subst (λ (hs : List Noted). IsNotedAs z q hs) x.are (noted_held z q (routine_inner l r).names f h)
-      go i x z q f (inr h) = absurd (none_found z q (opened l r.name.name).1.names (refl, b.clear) f h)
+      go i x z q f (inr h) = absurd (none_found z q (open_routine l r.name.name).1.names (refl, b.clear) f h)
 
   routines_given : (l : Layer) (s : Scope) (owner : ℕ) (rs : List syntax.Routine) → Before l → After (routines l rs) → AreGiven (routines_begun l rs) (routine_openings owner s rs)
   unfolding routines

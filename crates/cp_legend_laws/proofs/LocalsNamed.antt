@@ -13,7 +13,7 @@ use Rattle.cp_symbols.specs.Symbols.{RoutineName}
 use Rattle.cp_layout.specs.Laid.{whole}
 use Rattle.cp_layout.specs.Layers as layers
 use Rattle.cp_layout.specs.Layers.{Heading, own_result, result_slot}
-use Rattle.cp_layout.specs.Symbols.{routine_named}
+use Rattle.cp_layout.specs.Symbols.{name_of_routine}
 use Rattle.cp_lawful.specs.Accepted.{IsAccepted}
 use Rattle.cp_legend.specs.Names as legend
 use Rattle.cp_legend.specs.Names.{RoutineNames, Source, bare_routine, local_meant, local_named, parameter_meant, parameter_named, routine_names_seen, routine_of, routines_from, source_seen, with_result_if}
@@ -344,7 +344,7 @@ module _ (t : Tree) (read : IsRead t.program) (ok : IsAccepted t) (n : ℕ) (l :
   abbrev bare : RoutineNames
   bare = record { name = h.name; parameters = all_parameters first; variables = all_locals first ++ all_locals second; result = None }
 
-  bare_is : (s : Source) → s.declared ≡ end.noted → bare_routine s n (routine_named h) ≡ bare
+  bare_is : (s : Source) → s.declared ≡ end.noted → bare_routine s n (name_of_routine h) ≡ bare
   bare_is s same =
       let vs : flat_map (local_named n) s.declared ≡ all_locals first ++ all_locals second = ap (flat_map (local_named n)) same ∙ (picked.locals ∙ locals_append first second) in
       let ps : take (length h.parameters) (flat_map (parameter_named n) s.declared) ≡ all_parameters first = ap (λ (ds : List Noted). take (length h.parameters) (flat_map (parameter_named n) ds)) same ∙ (ap (take (length h.parameters)) picked.parameters ∙ given.taken) in
@@ -392,11 +392,11 @@ module _ (t : Tree) (read : IsRead t.program) (ok : IsAccepted t) (n : ℕ) (l :
 
   -- ---- the legend
 
-  pub told_as : (s : Source) (q : RoutineNames) → s.declared ≡ end.noted → s.routines ≡ map routine_named end.headings → slice_get (routines_from s 0 s.routines) n ≡ Some q → RoutineIsTold t end.types n q
+  pub told_as : (s : Source) (q : RoutineNames) → s.declared ≡ end.noted → s.routines ≡ map name_of_routine end.headings → slice_get (routines_from s 0 s.routines) n ≡ Some q → RoutineIsTold t end.types n q
   told_as s q noted routines at_number =
       let w = from_there s 0 s.routines n q at_number in
-      let own : slice_get s.routines n ≡ Some (routine_named h) = ap (λ (rs : List RoutineName). slice_get rs n) routines ∙ map_there routine_named end.headings n h heading_last in
-      let same : w.0 ≡ routine_named h = same_Some w.0 (routine_named h) (sym w.1 ∙ own) in
+      let own : slice_get s.routines n ≡ Some (name_of_routine h) = ap (λ (rs : List RoutineName). slice_get rs n) routines ∙ map_there name_of_routine end.headings n h heading_last in
+      let same : w.0 ≡ name_of_routine h = same_Some w.0 (name_of_routine h) (sym w.1 ∙ own) in
       let first_is : q ≡ routine_of s n w.0 = w.2 ∙ ap (λ (i : ℕ). routine_of s i w.0) (let z : 0 + n ≡ n = omega arith in z) in
       let whole_is : q ≡ with_result_if bare h.result = first_is ∙ (ap (routine_of s n) same ∙ ap (λ (v : RoutineNames). with_result_if v h.result) (bare_is s noted)) in
       subst (λ (v : RoutineNames). RoutineIsTold t end.types n v) (sym whole_is) routine_told

@@ -7,8 +7,8 @@ use Rattle.cp_slots.specs.declared.place.PlaceOrigin.TheVariants as origin
 use Rattle.cp_symbols.specs.declared.names.LayoutMeaning.TheVariants as meaning
 use Rattle.cp_layout.specs.Layers.{find, with_name}
 use Rattle.cp_layout.specs.Layers as layers
-use Rattle.cp_layout.specs.LaidTypes.{named_type, with_constant, written_type}
-use Rattle.cp_layout.specs.LaidDeclarations.{Parameters, constant_group, constant_groups, constant_parameter, constant_parameters_of, constants, heading, local, local_group, local_part, local_parts, local_variables, locals_of, opened, parameter_group, parameter_groups, type_definitions, var_group, var_parameter, var_parameters_of, with_heading, with_local}
+use Rattle.cp_layout.specs.LaidTypes.{type_of_name, with_constant, written_type}
+use Rattle.cp_layout.specs.LaidDeclarations.{Parameters, constant_group, constant_groups, constant_parameter, constant_parameters_of, constants, heading, local, local_group, local_part, local_parts, local_variables, locals_of, open_routine, parameter_group, parameter_groups, type_definitions, var_group, var_parameter, var_parameters_of, with_heading, with_local}
 use Rattle.cp_meaning.specs.Types.{Ty}
 use Rattle.cp_meaning.specs.Scopes.{Scope, local_variable}
 use Rattle.cp_meaning.specs.Declarations as meant
@@ -123,9 +123,9 @@ inner_frames =
     }
 
 -- from its name to its statements
-pub routine_inner : (l : Layer) (r : syntax.Routine) → Inner (opened l r.name.name).1 (routine_begun l r)
+pub routine_inner : (l : Layer) (r : syntax.Routine) → Inner (open_routine l r.name.name).1 (routine_begun l r)
 routine_inner l r =
-    let x : Layer = (opened l r.name.name).1 in
+    let x : Layer = (open_routine l r.name.name).1 in
     let h : layers.Heading × Layer = heading x r.name.name r.kind in
     let k : Layer = with_heading h.1 h.0 in
     let a : Inner x k = inner_trans x h.1 k (heading_leads inner_types inner_frames x r.name.name r.kind tt) (inner_same h.1 k refl refl refl) in
@@ -270,8 +270,8 @@ vars_of_take l ps t v (y ∷ ys) =
     takes_trans l ps x (var_parameters_of x.1 x.0 v ys) (one y.name t true ∷ []) (parameters_named (names_of ys) t true) (a, length-append ps _) (vars_of_take x.1 x.0 t v ys)
 
 group_takes : (b : Bool) (l : Layer) (ps : Parameters) (t : Ty) (g : syntax.Group) → Takes l ps (if b then var_group l ps g else constant_group l ps g) (parameters_named (names_of g.names) t b)
-group_takes true l ps t g = vars_of_take l ps t (named_type l g.type_name.name) g.names
-group_takes false l ps t g = constants_of_take l ps t (named_type l g.type_name.name) g.names
+group_takes true l ps t g = vars_of_take l ps t (type_of_name l g.type_name.name) g.names
+group_takes false l ps t g = constants_of_take l ps t (type_of_name l g.type_name.name) g.names
 
 record TakesMore (l : Layer) (ps : Parameters) (x : Parameters × Layer) (before after : List Parameter) : Type 0 where
   parameters : List Parameter
@@ -351,12 +351,12 @@ pub record RoutineLists (l : Layer) (r : syntax.Routine) (m : RoutineMeaning) : 
   pub are : held (routine_inner l r).names ≡ first ++ second
   pub heads : InOrder m.parameters first
   pub locals : InOrder (as_values m.variables) second
-  pub count : length (heading (opened l r.name.name).1 r.name.name r.kind).0.parameters ≡ length m.parameters
+  pub count : length (heading (open_routine l r.name.name).1 r.name.name r.kind).0.parameters ≡ length m.parameters
   pub values : AreValuesIf m.result m.parameters
 
 pub routine_lists : (l : Layer) (s : Scope) (r : syntax.Routine) → RoutineLists l r (routine_in (with_routine s r) r)
 routine_lists l s r =
-    let x : Layer = (opened l r.name.name).1 in
+    let x : Layer = (open_routine l r.name.name).1 in
     let h : layers.Heading × Layer = heading x r.name.name r.kind in
     let k : Layer = with_heading h.1 h.0 in
     let p : Layer = routine_begun l r in

@@ -4,8 +4,8 @@ use Rattle.cp_legend_laws.proofs.Words.{none-some, Identifier, CellType, Contain
 use Rattle.cp_tree.specs.Syntax as syntax
 use Rattle.cp_symbols.specs.declared.kinds.CellType.TheVariants as types
 use Rattle.cp_symbols.specs.declared.names.LayoutMeaning.TheVariants as meaning
-use Rattle.cp_layout.specs.LaidTypes.{named_type, written_type}
-use Rattle.cp_layout.specs.LaidDeclarations.{Parameters, components_of, variable, variable_with, variables_of, variable_group, variables, constants, type_definitions, permanent_part, permanent_parts, entered, system_parameter, system_parameters_of, system_group, system_groups, initial_statement, routines, heading_with, with_new_frame, with_heading}
+use Rattle.cp_layout.specs.LaidTypes.{type_of_name, written_type}
+use Rattle.cp_layout.specs.LaidDeclarations.{Parameters, components_of, variable, variable_with, variables_of, variable_group, variables, constants, type_definitions, permanent_part, permanent_parts, enter_system, system_parameter, system_parameters_of, system_group, system_groups, initial_statement, routines, heading_with, with_new_frame, with_heading}
 use Rattle.cp_meaning.specs.Types.{Ty, has_components}
 use Rattle.cp_meaning.specs.Scopes as scopes
 use Rattle.cp_meaning.specs.Scopes.{Scope}
@@ -223,7 +223,7 @@ module _ (k : Numbering) where
   groups_contained : (l : Layer) (ps : Parameters) (gs : List syntax.Group) → (system_groups l ps gs).1.owned.contained ≡ l.owned.contained
   unfolding system_groups
   groups_contained l ps [] = refl
-  groups_contained l ps (g ∷ gs) = let x = system_group l ps g in groups_contained x.1 x.0 gs ∙ parameters_contained l ps (named_type l g.type_name.name) g.names
+  groups_contained l ps (g ∷ gs) = let x = system_group l ps g in groups_contained x.1 x.0 gs ∙ parameters_contained l ps (type_of_name l g.type_name.name) g.names
 
   pub routines_gain : (l : Layer) (rs : List syntax.Routine) → Gains l (routines l rs) []
   routines_gain l rs = gains_nothing l (routines l rs) (routines_note l rs) (ap (λ o. o.contained) (routines_owned l rs))
@@ -233,10 +233,10 @@ module _ (k : Numbering) where
 
   -- from its parameters to its initial statement
   pub system_gains : (l : Layer) (s : Scope) (d : syntax.System) → Each IsSmallPart d.parts → AreParameters (record { parameters = []; scope = scopes.seen_inside s }) d.parameters → AreOuter s → AreNumbered k.firsts (length l.constants) (each_in in_part d.parts) → InStep k l.types l.names s →
-      Gains (entered l).1 (initial_statement (system_begun l d) (parameters_of l d) d.body)
+      Gains (enter_system l).1 (initial_statement (system_begun l d) (parameters_of l d) d.body)
       (meant.parts_in scopes.permanent_variable (record { variables = []; scope = (meant.with_groups scopes.permanent_variable (record { parameters = []; scope = scopes.seen_inside s }) d.parameters).scope }) d.parts).variables
   system_gains l s d h f g n i =
-      let x : Layer = (entered l).1 in
+      let x : Layer = (enter_system l).1 in
       let y : Layer = (system_groups x [] d.parameters).1 in
       let z : Layer = parts_begun l d in
       let b : Layer = system_begun l d in

@@ -8,8 +8,8 @@ use Rattle.cp_symbols.specs.declared.symbols.FunctionResult.{FunctionResult}
 use Rattle.cp_symbols.specs.Symbols.{RoutineName}
 use Rattle.cp_layout.specs.Layers.{Heading}
 use Rattle.cp_layout.specs.Laid.{PlainTables, laid, whole, tables_laid}
-use Rattle.cp_layout.specs.LaidDeclarations.{Parameters, heading_with, with_new_frame, with_heading, routine, routines, initial_statement, entered, system_groups, system, definition, system_definition, system_definitions, constants, variables, program_part, program_parts, program}
-use Rattle.cp_layout.specs.Symbols.{routine_named}
+use Rattle.cp_layout.specs.LaidDeclarations.{Parameters, heading_with, with_new_frame, with_heading, routine, routines, initial_statement, enter_system, system_groups, system, definition, system_definition, system_definitions, constants, variables, program_part, program_parts, program}
+use Rattle.cp_layout.specs.Symbols.{name_of_routine}
 use Rattle.cp_legend.specs.Names.{Source, RoutineNames, bare_routine, routines_from, source_seen, with_result_if}
 use Rattle.cp_meaning.specs.Scopes.{Scope, seen_inside}
 use Rattle.cp_meaning.specs.Systems.{SystemMeaning, system_in, Declared, program_part_in, definition_in, declared, own_meaning, program_system}
@@ -70,13 +70,13 @@ initial_adds l ps b owner m =
 
 parts_same : (l : Layer) (s : syntax.System) → (parts_begun l s).headings ≡ l.headings
 parts_same l s =
-    let y : Layer = (system_groups (entered l).1 [] s.parameters).1 in
-    ap (λ (j : Layer). j.headings) (permanent_parts_declare y s.parts).same ∙ ap (λ (j : Layer). j.headings) (system_groups_declare (entered l).1 [] s.parameters).same
+    let y : Layer = (system_groups (enter_system l).1 [] s.parameters).1 in
+    ap (λ (j : Layer). j.headings) (permanent_parts_declare y s.parts).same ∙ ap (λ (j : Layer). j.headings) (system_groups_declare (enter_system l).1 [] s.parameters).same
 
 system_adds : (l : Layer) (owner : ℕ) (s : Scope) (d : syntax.System) → Adds l (system l d).1 (system_openings owner s d)
 unfolding system
 system_adds l owner s d =
-    let x = system_groups (entered l).1 [] d.parameters in
+    let x = system_groups (enter_system l).1 [] d.parameters in
     let z : Layer = parts_begun l d in
     let b : Layer = system_begun l d in
     let m : Layer = initial_statement b x.0 d.body in
@@ -131,7 +131,7 @@ unfolding routines_from
 legend_names s n [] = refl
 legend_names s n (r ∷ rs) = ap (λ (x : List ℕ). x ∷ map (λ (q : RoutineNames). q.name) (routines_from s (n + 1) rs)) (still_named (bare_routine s n r) r.result) ∙ ap (λ (xs : List (List ℕ)). r.name ∷ xs) (legend_names s (n + 1) rs)
 
-heading_names : (hs : List Heading) → map (λ (r : RoutineName). r.name) (map routine_named hs) ≡ map (λ (h : Heading). h.name) hs
+heading_names : (hs : List Heading) → map (λ (r : RoutineName). r.name) (map name_of_routine hs) ≡ map (λ (h : Heading). h.name) hs
 heading_names [] = refl
 heading_names (h ∷ hs) = ap (λ (xs : List (List ℕ)). h.name ∷ xs) (heading_names hs)
 

@@ -2,7 +2,7 @@
 use Rattle.std.proofs.Common.{◌≡◌, ℕ, ◌<◌, false, List, [], ◌∷◌, ◌++◌, length, Option, Some, None, slice_get, refl, sym, ap, subst, ◌∙◌, ◌⊎◌, inl, inr, append-nil, arith}
 use Rattle.cp_legend_laws.proofs.Words.{eq-eqb, none-some, slice_get_within, Compounds, Noted, Layer, nothing_laid, Block, Numbering}
 use Rattle.cp_tree.specs.Syntax as syntax
-use Rattle.cp_layout.specs.LaidDeclarations.{type_named, constants, variables, entered, initial_statement, routines, system, definition, system_definition, system_definitions, program_part, program_parts, program}
+use Rattle.cp_layout.specs.LaidDeclarations.{with_type_name, constants, variables, enter_system, initial_statement, routines, system, definition, system_definition, system_definitions, program_part, program_parts, program}
 use Rattle.cp_meaning.specs.Scopes as scopes
 use Rattle.cp_meaning.specs.Systems.{SystemMeaning, system_in, Declared, definition_in, definitions_in, program_part_in, program_parts_in, declared, program_system, own_meaning, or_own, system_of}
 use Rattle.cp_resolved.specs.Begun.{system_begun, parameters_of}
@@ -63,7 +63,7 @@ module _ (k : Numbering) where
   told_system l d n s h f e i w t =
       let m : Layer = initial_statement (system_begun l s) (parameters_of l s) s.body in
       let made : SystemMeaning = system_in (scopes.seen_inside d.scope) s in
-      let g : Gains k (entered l).1 m made.variables = system_gains k l d.scope s h.0 f i.outer e i.names in
+      let g : Gains k (enter_system l).1 m made.variables = system_gains k l d.scope s h.0 f i.outer e i.names in
       let all : m.noted ≡ l.noted ++ g.noting.names = g.noting.noted in
       let grown : m.types ≡ l.types ++ g.noting.types = g.noting.grown in
       let mine : Each (λ (x : Noted). x.system ≡ Some (length l.systems)) g.noting.names = g.noting.own in
@@ -99,24 +99,24 @@ module _ (k : Numbering) where
 
   -- ---- the declarations of the program
 
-  name_gains : (l : Layer) (x : List ℕ) (v : syntax.Definition) → Gains k (definition l v).1 (type_named x (definition l v)) []
+  name_gains : (l : Layer) (x : List ℕ) (v : syntax.Definition) → Gains k (definition l v).1 (with_type_name x (definition l v)) []
   name_gains l x v =
       let m : Layer = (definition l v).1 in
-      gains_nothing k m (type_named x (definition l v)) (noting_name m x _ m.owned m.frame (λ ts. refl) refl) refl
+      gains_nothing k m (with_type_name x (definition l v)) (noting_name m x _ m.owned m.frame (λ ts. refl) refl) refl
 
   told_definition : (l : Layer) (d : Declared) (n : syntax.SystemDefinition) (v : syntax.Definition) → IsSmallDefinition v → IsFitDefinition d v → AreNumbered k.firsts (length l.constants) (in_definition v) → Standing k l d → Lined l → Told l d →
-      Told (type_named n.name.name (definition l v)) (definition_in d n v)
+      Told (with_type_name n.name.name (definition l v)) (definition_in d n v)
   told_definition l d n (syntax.type_definition t) h f e i w o =
       let v : syntax.Definition = syntax.type_definition t in
       let x : Layer = (definition l v).1 in
       let a : Gains k l x [] = gains_nothing k l x (type_notes l t) (ap (λ o. o.contained) (type_owned l t)) in
-      told_more l (type_named n.name.name (definition l v)) d (definition_in d n v) refl (more_nothing k l (type_named n.name.name (definition l v)) d.variables (gains_trans k l x (type_named n.name.name (definition l v)) [] [] a (name_gains l n.name.name v))) w o
+      told_more l (with_type_name n.name.name (definition l v)) d (definition_in d n v) refl (more_nothing k l (with_type_name n.name.name (definition l v)) d.variables (gains_trans k l x (with_type_name n.name.name (definition l v)) [] [] a (name_gains l n.name.name v))) w o
   told_definition l d n (syntax.system_definition s) h f e i w o =
       let v : syntax.Definition = syntax.system_definition s in
       let x : Layer = (definition l v).1 in
       let c : Declared = definition_in d n v in
       let a : Told x c = told_system l d n s h f (numbered_left k (length l.constants) (each_in in_part s.parts) (each_in in_routine s.routines) e) i w o in
-      told_more x (type_named n.name.name (definition l v)) c c refl (more_nothing k x (type_named n.name.name (definition l v)) c.variables (name_gains l n.name.name v)) (lined_definition l v w) a
+      told_more x (with_type_name n.name.name (definition l v)) c c refl (more_nothing k x (with_type_name n.name.name (definition l v)) c.variables (name_gains l n.name.name v)) (lined_definition l v w) a
 
   told_definitions : (l : Layer) (d : Declared) (ns : List syntax.SystemDefinition) → Each (λ n. IsSmallDefinition n.value) ns → AreFitDefinitions d ns → AreNumbered k.firsts (length l.constants) (each_in (λ n. in_definition n.value) ns) → AreOpened k.routines (length l.routines) (definitions_openings d ns) → Standing k l d → Lined l → Told l d →
       Told (system_definitions l ns) (definitions_in d ns)

@@ -7,18 +7,18 @@ use Rattle.cp_symbols.specs.declared.kinds.CellType.TheVariants as types
 use Rattle.cp_symbols.specs.declared.names.LayoutMeaning.TheVariants as meaning
 use Rattle.cp_layout.specs.Kinds.{Fields, no_fields}
 use Rattle.cp_layout.specs.LaidExpressions.{as_integer}
-use Rattle.cp_layout.specs.LaidTypes.{named_type, simple_type, enumerated, enumeration_base, with_constant, written_type, field_groups, field_group}
+use Rattle.cp_layout.specs.LaidTypes.{type_of_name, simple_type, enumerate, enumeration_base, with_constant, written_type, field_groups, field_group}
 use Rattle.cp_layout.specs.LaidDeclarations.{constant, constants, type_definition, type_definitions, components_of, variable, variable_with, variables_of, variable_group, variables, local, locals_of, local_group, local_variables, permanent_part, permanent_parts, local_part, local_parts, Parameters, constant_parameter, constant_parameters_of, constant_group, constant_groups, var_parameter, var_parameters_of, var_group, parameter_group, parameter_groups, heading, system_parameter, system_parameters_of, system_group, system_groups}
 use Rattle.cp_legend_laws.proofs.Noting.{Noting, noting_trans, noting_none, noting_same, noting_name, noting_component, noting_types}
 
 -- ---- types
 
-enumerated_notes : (l : Layer) (b : CellBase) (n : ℕ) (is : List Identifier) → Noting l (enumerated l b n is)
-unfolding enumerated
+enumerated_notes : (l : Layer) (b : CellBase) (n : ℕ) (is : List Identifier) → Noting l (enumerate l b n is)
+unfolding enumerate
 enumerated_notes l b n [] = noting_none l
 enumerated_notes l b n (i ∷ is) =
     let m : Layer = with_constant l i.name (meaning.Constant b (as_integer n)) in
-    noting_trans l m (enumerated m b (n + 1) is) (noting_same l m refl refl refl refl refl) (enumerated_notes m b (n + 1) is)
+    noting_trans l m (enumerate m b (n + 1) is) (noting_same l m refl refl refl refl refl) (enumerated_notes m b (n + 1) is)
 
 pub simple_notes : (l : Layer) (s : syntax.Simple) → Noting l (simple_type l s).1
 unfolding simple_type
@@ -136,7 +136,7 @@ unfolding constant_groups
 constant_groups_note l ps [] = noting_none l
 constant_groups_note l ps (g ∷ gs) =
     let x : Parameters × Layer = constant_group l ps g in
-    noting_trans l x.1 (constant_groups x.1 x.0 gs).1 (constant_parameters_note l ps (named_type l g.type_name.name) g.names) (constant_groups_note x.1 x.0 gs)
+    noting_trans l x.1 (constant_groups x.1 x.0 gs).1 (constant_parameters_note l ps (type_of_name l g.type_name.name) g.names) (constant_groups_note x.1 x.0 gs)
 
 pub var_parameters_note : (l : Layer) (ps : Parameters) (t : CellType) (is : List Identifier) → Noting l (var_parameters_of l ps t is).1
 unfolding var_parameters_of
@@ -146,8 +146,8 @@ var_parameters_note l ps t (i ∷ is) =
     noting_trans l x.1 (var_parameters_of x.1 x.0 t is).1 (noting_name l i.name _ l.owned _ (λ ts. refl) refl) (var_parameters_note x.1 x.0 t is)
 
 pub either_group_notes : (b : Bool) (l : Layer) (ps : Parameters) (g : syntax.Group) → Noting l (if b then var_group l ps g else constant_group l ps g).1
-either_group_notes true l ps g = var_parameters_note l ps (named_type l g.type_name.name) g.names
-either_group_notes false l ps g = constant_parameters_note l ps (named_type l g.type_name.name) g.names
+either_group_notes true l ps g = var_parameters_note l ps (type_of_name l g.type_name.name) g.names
+either_group_notes false l ps g = constant_parameters_note l ps (type_of_name l g.type_name.name) g.names
 
 pub parameter_groups_note : (l : Layer) (ps : Parameters) (gs : List syntax.ParameterGroup) → Noting l (parameter_groups l ps gs).1
 unfolding parameter_groups
@@ -182,4 +182,4 @@ unfolding system_groups
 system_groups_note l ps [] = noting_none l
 system_groups_note l ps (g ∷ gs) =
     let x : Parameters × Layer = system_group l ps g in
-    noting_trans l x.1 (system_groups x.1 x.0 gs).1 (system_parameters_note l ps (named_type l g.type_name.name) g.names) (system_groups_note x.1 x.0 gs)
+    noting_trans l x.1 (system_groups x.1 x.0 gs).1 (system_parameters_note l ps (type_of_name l g.type_name.name) g.names) (system_groups_note x.1 x.0 gs)

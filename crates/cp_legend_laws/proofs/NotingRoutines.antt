@@ -2,7 +2,7 @@
 use Rattle.std.proofs.Common.{Bool, true, List, [], ◌∷◌, None, ap, refl}
 use Rattle.cp_tree.specs.Syntax as syntax
 use Rattle.cp_layout.specs.Layers.{Layer, Heading, no_frame}
-use Rattle.cp_layout.specs.LaidDeclarations.{Parameters, heading, heading_with, body, with_new_frame, with_heading, opened, local_parts, permanent_parts, routine, routines, initial_statement, entered, system_groups, system_inside}
+use Rattle.cp_layout.specs.LaidDeclarations.{Parameters, heading, heading_with, body, with_new_frame, with_heading, open_routine, local_parts, permanent_parts, routine, routines, initial_statement, enter_system, system_groups, system_inside}
 use Rattle.cp_resolved.proofs.laid.Grown.{body_grew}
 use Rattle.cp_legend_laws.proofs.Noting.{Noting, noting_trans, noting_none, noting_same, noting_name}
 use Rattle.cp_legend_laws.proofs.NotingDeclarations.{heading_notes, local_parts_note, permanent_parts_note, system_groups_note}
@@ -19,7 +19,7 @@ initial_notes l ps b =
 
 routine_notes : (l : Layer) (r : syntax.Routine) → Noting l (routine l r)
 routine_notes l r =
-    let x : Layer = (opened l r.name.name).1 in
+    let x : Layer = (open_routine l r.name.name).1 in
     let h : Heading × Layer = heading x r.name.name r.kind in
     let k : Layer = with_heading h.1 h.0 in
     let p : Layer = local_parts k r.parts in
@@ -35,9 +35,9 @@ routines_note l (r ∷ rs) = noting_trans l (routine l r) (routines (routine l r
 
 -- a system type, from its parameters to its initial statement
 pub inside_notes : (l : Layer) (s : syntax.System) →
-    Noting (entered l).1 (initial_statement (system_inside (system_groups (entered l).1 [] s.parameters).1 s) (system_groups (entered l).1 [] s.parameters).0 s.body)
+    Noting (enter_system l).1 (initial_statement (system_inside (system_groups (enter_system l).1 [] s.parameters).1 s) (system_groups (enter_system l).1 [] s.parameters).0 s.body)
 inside_notes l s =
-    let e : Layer = (entered l).1 in
+    let e : Layer = (enter_system l).1 in
     let x : Parameters × Layer = system_groups e [] s.parameters in
     let y : Layer = permanent_parts x.1 s.parts in
     let z : Layer = routines y s.routines in

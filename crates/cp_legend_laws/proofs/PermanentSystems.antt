@@ -3,7 +3,7 @@ use Rattle.std.proofs.Common.{◌≡◌, ℕ, ◌<◌, false, List, [], ◌∷�
 use Rattle.cp_legend_laws.proofs.Words.{eq-eqb, none-some, slice_get_within, Compounds, Noted, Layer, Variable, nothing_laid, Block, Numbering}
 use Rattle.cp_tree.specs.Syntax as syntax
 use Rattle.cp_symbols.specs.declared.names.LayoutMeaning.TheVariants as meaning
-use Rattle.cp_layout.specs.LaidDeclarations.{type_named, constants, variables, initial_statement, routines, system, definition, system_definition, system_definitions, program_part, program_parts, program}
+use Rattle.cp_layout.specs.LaidDeclarations.{with_type_name, constants, variables, initial_statement, routines, system, definition, system_definition, system_definitions, program_part, program_parts, program}
 use Rattle.cp_meaning.specs.Scopes as scopes
 use Rattle.cp_meaning.specs.Systems.{SystemMeaning, system_in, Declared, definition_in, definitions_in, program_part_in, program_parts_in, declared, program_system, own_meaning, or_own, system_of}
 use Rattle.cp_resolved.specs.Begun.{system_begun, parameters_of}
@@ -114,24 +114,24 @@ module _ (k : Numbering) where
 
   -- ---- the declarations of the program
 
-  name_gains : (l : Layer) (x : List ℕ) (v : syntax.Definition) → Gains k (definition l v).1 (type_named x (definition l v)) []
+  name_gains : (l : Layer) (x : List ℕ) (v : syntax.Definition) → Gains k (definition l v).1 (with_type_name x (definition l v)) []
   name_gains l x v =
       let m : Layer = (definition l v).1 in
-      gains_nothing k m (type_named x (definition l v)) (noting_name m x _ m.owned m.frame (λ ts. refl) refl) (quiet_note m (type_named x (definition l v)) x (meaning.Kind (definition l v).0) refl refl) refl
+      gains_nothing k m (with_type_name x (definition l v)) (noting_name m x _ m.owned m.frame (λ ts. refl) refl) (quiet_note m (with_type_name x (definition l v)) x (meaning.Kind (definition l v).0) refl refl) refl
 
   told_definition : (l : Layer) (d : Declared) (n : syntax.SystemDefinition) (v : syntax.Definition) → IsSmallDefinition v → IsFitDefinition d v → AreNumbered k.firsts (length l.constants) (in_definition v) → Standing k l d → Lined l → Laid l d →
-      Laid (type_named n.name.name (definition l v)) (definition_in d n v)
+      Laid (with_type_name n.name.name (definition l v)) (definition_in d n v)
   told_definition l d n (syntax.type_definition t) h f e i w o =
       let v : syntax.Definition = syntax.type_definition t in
       let x : Layer = (definition l v).1 in
       let a : Gains k l x [] = gains_nothing k l x (type_notes l t) (type_quiet l t) (ap (λ o. o.cells) (type_owned l t)) in
-      told_more l (type_named n.name.name (definition l v)) d (definition_in d n v) refl (more_nothing k l (type_named n.name.name (definition l v)) d.variables (gains_trans k l x (type_named n.name.name (definition l v)) [] [] a (name_gains l n.name.name v))) w o
+      told_more l (with_type_name n.name.name (definition l v)) d (definition_in d n v) refl (more_nothing k l (with_type_name n.name.name (definition l v)) d.variables (gains_trans k l x (with_type_name n.name.name (definition l v)) [] [] a (name_gains l n.name.name v))) w o
   told_definition l d n (syntax.system_definition s) h f e i w o =
       let v : syntax.Definition = syntax.system_definition s in
       let x : Layer = (definition l v).1 in
       let c : Declared = definition_in d n v in
       let a : Laid x c = told_system l d n s h f (numbered_left k (length l.constants) (each_in in_part s.parts) (each_in in_routine s.routines) e) i w o in
-      told_more x (type_named n.name.name (definition l v)) c c refl (more_nothing k x (type_named n.name.name (definition l v)) c.variables (name_gains l n.name.name v)) (lined_definition l v w) a
+      told_more x (with_type_name n.name.name (definition l v)) c c refl (more_nothing k x (with_type_name n.name.name (definition l v)) c.variables (name_gains l n.name.name v)) (lined_definition l v w) a
 
   told_definitions : (l : Layer) (d : Declared) (ns : List syntax.SystemDefinition) → Each (λ n. IsSmallDefinition n.value) ns → AreFitDefinitions d ns → AreNumbered k.firsts (length l.constants) (each_in (λ n. in_definition n.value) ns) → AreOpened k.routines (length l.routines) (definitions_openings d ns) → Standing k l d → Lined l → Laid l d →
       Laid (system_definitions l ns) (definitions_in d ns)

@@ -6,8 +6,8 @@ use Rattle.cp_tree.specs.Syntax as syntax
 use Rattle.cp_symbols.specs.declared.kinds.CellType.TheVariants as types
 use Rattle.cp_symbols.specs.Kinds as kinds
 use Rattle.cp_symbols.specs.Kinds.{most, plus}
-use Rattle.cp_layout.specs.LaidTypes.{named_type, written_type}
-use Rattle.cp_layout.specs.LaidDeclarations.{Parameters, components_of, cell_variable, variable, variable_with, variables_of, variable_group, variables, constants, type_definitions, permanent_part, permanent_parts, entered, system_parameter, system_parameters_of, system_group, system_groups, initial_statement, routines, heading_with, with_new_frame, with_heading}
+use Rattle.cp_layout.specs.LaidTypes.{type_of_name, written_type}
+use Rattle.cp_layout.specs.LaidDeclarations.{Parameters, components_of, cell_variable, variable, variable_with, variables_of, variable_group, variables, constants, type_definitions, permanent_part, permanent_parts, enter_system, system_parameter, system_parameters_of, system_group, system_groups, initial_statement, routines, heading_with, with_new_frame, with_heading}
 use Rattle.cp_legend.specs.Names as legend
 use Rattle.cp_meaning.specs.Types as named
 use Rattle.cp_meaning.specs.Types.{Ty, has_components}
@@ -309,7 +309,7 @@ module _ (k : Numbering) where
       let c : Heading = meant.with_group scopes.permanent_variable false j g in
       let t : Ty = meant.type_named j.scope g.type_name.name in
       let xs : List Name = names_of g.names in
-      let v : CellType = named_type l g.type_name.name in
+      let v : CellType = type_of_name l g.type_name.name in
       let belongs : TypeIs k l.types t v = named_type_same k l j.scope g.type_name.name i in
       let a : Reached k l x.1 c.scope [] = system_parameters_reached k l j.scope ps t v g.names p.0 belongs i in
       let e : parameter_variables c.parameters ≡ parameter_variables j.parameters ++ named_variables xs t = variables_append j.parameters (parameters_named xs t false) ∙ ap (λ us. parameter_variables j.parameters ++ us) (named_parameters xs t false) in
@@ -330,14 +330,14 @@ module _ (k : Numbering) where
   Fits m = Firsts k [] (parameter_variables m.parameters) × Follow k (parameter_variables m.parameters) m.variables
 
   pub record SystemLies (l : Layer) (d : syntax.System) (made : SystemMeaning) : Type 0 where
-    pub noting : Noting (entered l).1 (initial_statement (system_begun l d) (parameters_of l d) d.body)
+    pub noting : Noting (enter_system l).1 (initial_statement (system_begun l d) (parameters_of l d) d.body)
     pub lies : Fits made → Lie (initial_statement (system_begun l d) (parameters_of l d) d.body).types [] (owners made) (all_permanents noting.names)
 
   pub system_lies : (l : Layer) (s : Scope) (d : syntax.System) → Each IsSmallPart d.parts → AreParameters (record { parameters = []; scope = scopes.seen_inside s }) d.parameters → AreOuter s → AreNumbered k.firsts (length l.constants) (each_in in_part d.parts) → InStep k l.types l.names s →
       SystemLies l d (system_in (scopes.seen_inside s) d)
   unfolding noting_trans
   system_lies l s d h f g n i =
-      let x : Layer = (entered l).1 in
+      let x : Layer = (enter_system l).1 in
       let y : Layer = (system_groups x [] d.parameters).1 in
       let z : Layer = parts_begun l d in
       let b : Layer = system_begun l d in

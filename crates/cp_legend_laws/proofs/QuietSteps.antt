@@ -6,7 +6,7 @@ use Rattle.cp_slots.specs.declared.place.PlaceOrigin.TheVariants as origin
 use Rattle.cp_symbols.specs.declared.names.LayoutMeaning.TheVariants as meaning
 use Rattle.cp_layout.specs.Layers.{Heading, with_name}
 use Rattle.cp_layout.specs.LaidTypes.{with_constant, written_type}
-use Rattle.cp_layout.specs.LaidDeclarations.{Parameters, body, constants, heading, heading_with, initial_statement, local, local_parts, opened, routine, routines, type_definitions, var_parameter, with_heading, with_local, with_new_frame}
+use Rattle.cp_layout.specs.LaidDeclarations.{Parameters, body, constants, heading, heading_with, initial_statement, local, local_parts, open_routine, routine, routines, type_definitions, var_parameter, with_heading, with_local, with_new_frame}
 use Rattle.cp_legend.specs.Names.{Variable, permanent_meant}
 use Rattle.cp_resolved.proofs.laid.Declaring.{TypeSteps, FrameSteps, plain_types, type_leads, constants_lead, definitions_lead, local_parts_lead, heading_leads}
 use Rattle.cp_resolved.proofs.laid.Grown.{body_grew}
@@ -77,7 +77,7 @@ initial_quiet l ps b =
 
 routine_quiet : (l : Layer) (r : syntax.Routine) → Quiet l (routine l r)
 routine_quiet l r =
-    let x : Layer = (opened l r.name.name).1 in
+    let x : Layer = (open_routine l r.name.name).1 in
     let h : Heading × Layer = heading x r.name.name r.kind in
     let k : Layer = with_heading h.1 h.0 in
     let p : Layer = local_parts k r.parts in

@@ -5,7 +5,7 @@ use Rattle.cp_legend_laws.proofs.Words.{eq-eqb, eqb-false, eqb-true, length-map,
 use Rattle.cp_tree.specs.declared.declaration.SystemKind.{SystemKind}
 use Rattle.cp_tree.specs.declared.declaration.SystemKind.TheVariants as system_kind
 use Rattle.cp_slots.specs.declared.tables.ComponentKind.{ComponentKind}
-use Rattle.cp_layout.specs.LaidComponents.{Listing, nothing_listed, contents_least, next_kind, with_component, component_with, again_and_again, contained_by, owned_by, system_by, listed_below, program_listed}
+use Rattle.cp_layout.specs.LaidComponents.{Listing, empty_listing, contents_least, next_kind, with_component, component_with, again_and_again, add_contained, add_owned, system_by, add_below, components_of_program}
 use Rattle.cp_resolved.proofs.names.Entries.{there, still_there, last_entry}
 use Rattle.cp_legend.specs.Names.{Source, Part, Named, Naming, at_each, inside, named, monitor_of, parts_of, parts_by, next_by, parts_at, named_below, components_of}
 use Rattle.cp_legend_laws.specs.Called.{Called, Calling, called_parts, called_at, called_below, all_called, called_in_legend, tabled}
@@ -26,11 +26,11 @@ unfolding again_and_again repeated
 repeated_each one zero n c = refl
 repeated_each one (suc count) n c = ap (one n) (repeated_each one count n c) ∙ sym (one_each_append one (repeated count n) (n ∷ []) c)
 
-contained_each : (one : ℕ → Listing → Listing) (cs : List Contained) (c : Listing) → contained_by one cs c ≡ one_each one (spread cs) c
-unfolding contained_by
+contained_each : (one : ℕ → Listing → Listing) (cs : List Contained) (c : Listing) → add_contained one cs c ≡ one_each one (spread cs) c
+unfolding add_contained
 contained_each one [] c = refl
 contained_each one (k ∷ cs) c =
-    ap (contained_by one cs) (repeated_each one k.count k.system c) ∙ contained_each one cs (one_each one (repeated k.count k.system) c)
+    ap (add_contained one cs) (repeated_each one k.count k.system c) ∙ contained_each one cs (one_each one (repeated k.count k.system) c)
     ∙ sym (one_each_append one (repeated k.count k.system) (spread cs) c)
 
 -- ---- listings grow
@@ -61,24 +61,24 @@ begun_component ts c k initial o n =
     let d : Component = component_with (next_kind c k initial).0 (length (next_kind c k initial).1.permanents) n in
     (d, refl, ap (λ cs. cs ++ d ∷ []) (kind_components c k initial))
 
-owned_grows : (ts : Compounds) (one : ℕ → Listing → Listing) → ((n : ℕ) (c : Listing) → Grows c (one n c)) → (c : Listing) (k : SystemKind) (initial : ℕ) (o : Owned) (n : ℕ) → Grows c (owned_by ts one (next_kind c k initial) o n)
+owned_grows : (ts : Compounds) (one : ℕ → Listing → Listing) → ((n : ℕ) (c : Listing) → Grows c (one n c)) → (c : Listing) (k : SystemKind) (initial : ℕ) (o : Owned) (n : ℕ) → Grows c (add_owned ts one (next_kind c k initial) o n)
 owned_grows ts one g c k initial o n =
     let d : Listing = begun ts (next_kind c k initial) o n in
     let b = begun_component ts c k initial o n in
     let r : Grows d (one_each one (spread o.contained) d) = each_grows one g (spread o.contained) d in
-    grows_trans c d (owned_by ts one (next_kind c k initial) o n) (b.0 ∷ [], b.2) (r.0, ap (λ (e : Listing). e.components) (contained_each one o.contained d) ∙ r.1)
+    grows_trans c d (add_owned ts one (next_kind c k initial) o n) (b.0 ∷ [], b.2) (r.0, ap (λ (e : Listing). e.components) (contained_each one o.contained d) ∙ r.1)
 
 module _ (ts : Compounds) (ss : List System) where
-  system_grows : (bound : ℕ) → ((n : ℕ) (c : Listing) → Grows c (listed_below ts ss bound n c)) → (q : Option System) (n : ℕ) (c : Listing) → Grows c (system_by ts (listed_below ts ss bound) q n c)
+  system_grows : (bound : ℕ) → ((n : ℕ) (c : Listing) → Grows c (add_below ts ss bound n c)) → (q : Option System) (n : ℕ) (c : Listing) → Grows c (system_by ts (add_below ts ss bound) q n c)
   system_grows bound g None n c = grows_same c
-  system_grows bound g (Some s) n c = owned_grows ts (listed_below ts ss bound) g c s.kind s.initial s.owned n
+  system_grows bound g (Some s) n c = owned_grows ts (add_below ts ss bound) g c s.kind s.initial s.owned n
 
-  pub below_grows : (bound n : ℕ) (c : Listing) → Grows c (listed_below ts ss bound n c)
-  unfolding listed_below
+  pub below_grows : (bound n : ℕ) (c : Listing) → Grows c (add_below ts ss bound n c)
+  unfolding add_below
   below_grows zero n c = grows_same c
   below_grows (suc bound) n c = go (n == bound) (λ m d. below_grows bound m d)
     where
-      go : (b : Bool) → ((m : ℕ) (d : Listing) → Grows d (listed_below ts ss bound m d)) → Grows c (if b then system_by ts (listed_below ts ss bound) (slice_get ss bound) bound c else listed_below ts ss bound n c)
+      go : (b : Bool) → ((m : ℕ) (d : Listing) → Grows d (add_below ts ss bound m d)) → Grows c (if b then system_by ts (add_below ts ss bound) (slice_get ss bound) bound c else add_below ts ss bound n c)
       go true inner = system_grows bound inner (slice_get ss bound) bound c
       go false inner = inner n c
 
@@ -134,13 +134,13 @@ module _ (all : List Component) where
 
   -- the next component of the tables, and its parts
   owned_goes : (ts : Compounds) (naming : Naming) (one : ℕ → Listing → Listing) (calling : Calling) → ((n : ℕ) (c : Listing) → Grows c (one n c)) → Goes naming one calling →
-      (k : SystemKind) (initial : ℕ) (o : Owned) (n : ℕ) (ps : List Part) → systems_of ps ≡ spread o.contained → (path : List ℕ) (outer : Option ℕ) (cs : List Named) (c : Listing) → map tabled cs ≡ c.components → IsPrefix (owned_by ts one (next_kind c k initial) o n) all →
-      Walked all cs (next_by naming (slice_get all (length cs)) ps path outer cs) (owned_by ts one (next_kind c k initial) o n) (called_at path n ∷ called_parts calling path ps)
+      (k : SystemKind) (initial : ℕ) (o : Owned) (n : ℕ) (ps : List Part) → systems_of ps ≡ spread o.contained → (path : List ℕ) (outer : Option ℕ) (cs : List Named) (c : Listing) → map tabled cs ≡ c.components → IsPrefix (add_owned ts one (next_kind c k initial) o n) all →
+      Walked all cs (next_by naming (slice_get all (length cs)) ps path outer cs) (add_owned ts one (next_kind c k initial) o n) (called_at path n ∷ called_parts calling path ps)
   owned_goes ts naming one calling grows goes k initial o n ps systems path outer cs c same is =
       let d : Listing = begun ts (next_kind c k initial) o n in
       let b = begun_component ts c k initial o n in
       let made : Component = b.0 in
-      let whole : contained_by one o.contained d ≡ one_each one (systems_of ps) d = contained_each one o.contained d ∙ ap (λ ns. one_each one ns d) (sym systems) in
+      let whole : add_contained one o.contained d ≡ one_each one (systems_of ps) d = contained_each one o.contained d ∙ ap (λ ns. one_each one ns d) (sym systems) in
       let is' : IsPrefix (one_each one (systems_of ps) d) all = subst (λ (e : Listing). IsPrefix e all) whole is in
       let p : IsPrefix d all = prefix_before d (one_each one (systems_of ps) d) all (each_grows one grows (systems_of ps) d) is' in
       let many : length cs ≡ length c.components = sym (length-map cs tabled) ∙ ap (λ (xs : List Component). length xs) same in
@@ -151,7 +151,7 @@ module _ (all : List Component) where
       let same' : map tabled es ≡ d.components = map-append tabled cs (one_more ∷ []) ∙ ap (λ xs. xs ++ made ∷ []) same ∙ sym b.2 in
       let w : Walked all es (parts_by naming ps path (monitor_of made.kind outer) es) (one_each one (systems_of ps) d) (called_parts calling path ps) = parts_go naming one calling grows goes ps path (monitor_of made.kind outer) es d same' is' in
       let first : map called_in_legend es ≡ map called_in_legend cs ++ called_at path n ∷ [] = map-append called_in_legend cs (one_more ∷ []) ∙ ap (λ j. map called_in_legend cs ++ called_at path j ∷ []) b.1 in
-      subst (λ q. Walked all cs (next_by naming q ps path outer cs) (owned_by ts one (next_kind c k initial) o n) (called_at path n ∷ called_parts calling path ps)) (sym here) (record {
+      subst (λ q. Walked all cs (next_by naming q ps path outer cs) (add_owned ts one (next_kind c k initial) o n) (called_at path n ∷ called_parts calling path ps)) (sym here) (record {
         tables = w.tables ∙ ap (λ (e : Listing). e.components) (sym whole);
         declared = w.declared ∙ ap (λ xs. xs ++ called_parts calling path ps) first ∙ append_assoc (map called_in_legend cs) (called_at path n ∷ []) (called_parts calling path ps);
       })
@@ -163,22 +163,22 @@ module _ (all : List Component) where
     parts_there : (n : ℕ) → n < length s.systems + 1 → parts_at parts n ≡ parts_of s n
     parts_there n h = ap (λ (q : Option (List Part)). unwrap_or q []) (each_there (parts_of s) (length s.systems + 1) n h)
 
-    below_goes : (bound : ℕ) → bound ≤ length ss → Goes (named_below all parts bound) (listed_below ts ss bound) (called_below s bound)
-    unfolding named_below listed_below called_below
+    below_goes : (bound : ℕ) → bound ≤ length ss → Goes (named_below all parts bound) (add_below ts ss bound) (called_below s bound)
+    unfolding named_below add_below called_below
     below_goes zero le n path outer cs c same is = record { tables = same; declared = sym (append-nil (map called_in_legend cs)) }
     below_goes (suc bound) le n path outer cs c same is = go (n == bound) (λ m p o xs d e i. below_goes bound (omega (arith, le)) m p o xs d e i) is
       where
-        here : Goes (named_below all parts bound) (listed_below ts ss bound) (called_below s bound) → (q : Option System) → slice_get ss bound ≡ q → IsPrefix (system_by ts (listed_below ts ss bound) q bound c) all →
-            Walked all cs (next_by (named_below all parts bound) (slice_get all (length cs)) (parts_at parts bound) path outer cs) (system_by ts (listed_below ts ss bound) q bound c) (called_at path bound ∷ called_parts (called_below s bound) path (parts_of s bound))
+        here : Goes (named_below all parts bound) (add_below ts ss bound) (called_below s bound) → (q : Option System) → slice_get ss bound ≡ q → IsPrefix (system_by ts (add_below ts ss bound) q bound c) all →
+            Walked all cs (next_by (named_below all parts bound) (slice_get all (length cs)) (parts_at parts bound) path outer cs) (system_by ts (add_below ts ss bound) q bound c) (called_at path bound ∷ called_parts (called_below s bound) path (parts_of s bound))
         here inner None e p = absurd (let y = there ss bound (omega (arith, le)) in cc)
         here inner (Some y) e p =
             let own : parts_at parts bound ≡ parts_of s bound = parts_there bound (omega (arith, le, count)) in
-            subst (λ ps. Walked all cs (next_by (named_below all parts bound) (slice_get all (length cs)) ps path outer cs) (owned_by ts (listed_below ts ss bound) (next_kind c y.kind y.initial) y.owned bound) (called_at path bound ∷ called_parts (called_below s bound) path (parts_of s bound))) (sym own)
-            (owned_goes ts (named_below all parts bound) (listed_below ts ss bound) (called_below s bound) (below_grows ts ss bound) inner y.kind y.initial y.owned bound (parts_of s bound) (systems bound y e) path outer cs c same p)
+            subst (λ ps. Walked all cs (next_by (named_below all parts bound) (slice_get all (length cs)) ps path outer cs) (add_owned ts (add_below ts ss bound) (next_kind c y.kind y.initial) y.owned bound) (called_at path bound ∷ called_parts (called_below s bound) path (parts_of s bound))) (sym own)
+            (owned_goes ts (named_below all parts bound) (add_below ts ss bound) (called_below s bound) (below_grows ts ss bound) inner y.kind y.initial y.owned bound (parts_of s bound) (systems bound y e) path outer cs c same p)
 
-        go : (b : Bool) → Goes (named_below all parts bound) (listed_below ts ss bound) (called_below s bound) → IsPrefix (if b then system_by ts (listed_below ts ss bound) (slice_get ss bound) bound c else listed_below ts ss bound n c) all →
+        go : (b : Bool) → Goes (named_below all parts bound) (add_below ts ss bound) (called_below s bound) → IsPrefix (if b then system_by ts (add_below ts ss bound) (slice_get ss bound) bound c else add_below ts ss bound n c) all →
             Walked all cs (if b then next_by (named_below all parts bound) (slice_get all (length cs)) (parts_at parts bound) path outer cs else named_below all parts bound n path outer cs)
-            (if b then system_by ts (listed_below ts ss bound) (slice_get ss bound) bound c else listed_below ts ss bound n c)
+            (if b then system_by ts (add_below ts ss bound) (slice_get ss bound) bound c else add_below ts ss bound n c)
             (if b then called_at path bound ∷ called_parts (called_below s bound) path (parts_of s bound) else called_below s bound n path)
         go true inner p = here inner (slice_get ss bound) refl p
         go false inner p = inner n path outer cs c same p
@@ -192,15 +192,15 @@ module _ (all : List Component) where
     called_top n = ap (λ b. if b then called_at [] n ∷ called_parts (called_below s n) [] (parts_of s n) else called_below s n n []) (eq-eqb n n refl)
 
     -- the whole program
-    pub program_goes : (o : Owned) (initial : ℕ) → systems_of (parts_of s (length ss)) ≡ spread o.contained → IsPrefix (program_listed ts ss o initial) all →
-        Walked all [] (components_of s all) (program_listed ts ss o initial) (all_called s)
-    unfolding program_listed components_of all_called
+    pub program_goes : (o : Owned) (initial : ℕ) → systems_of (parts_of s (length ss)) ≡ spread o.contained → IsPrefix (components_of_program ts ss o initial) all →
+        Walked all [] (components_of s all) (components_of_program ts ss o initial) (all_called s)
+    unfolding components_of_program components_of all_called
     program_goes o initial own is =
         let n : ℕ = length ss in
         let one : length s.systems + 1 ≡ suc n = omega (arith, count) in
         let ps : parts_at parts n ≡ parts_of s n = parts_there n (omega (arith, count)) in
-        let w : Walked all [] (next_by (named_below all parts n) (slice_get all 0) (parts_of s n) [] None []) (program_listed ts ss o initial) (called_at [] n ∷ called_parts (called_below s n) [] (parts_of s n)) =
-        owned_goes ts (named_below all parts n) (listed_below ts ss n) (called_below s n) (below_grows ts ss n) (below_goes n (omega arith)) system_kind.Process initial o n (parts_of s n) own [] None [] nothing_listed refl is in
+        let w : Walked all [] (next_by (named_below all parts n) (slice_get all 0) (parts_of s n) [] None []) (components_of_program ts ss o initial) (called_at [] n ∷ called_parts (called_below s n) [] (parts_of s n)) =
+        owned_goes ts (named_below all parts n) (add_below ts ss n) (called_below s n) (below_grows ts ss n) (below_goes n (omega arith)) system_kind.Process initial o n (parts_of s n) own [] None [] empty_listing refl is in
         let names : components_of s all ≡ next_by (named_below all parts n) (slice_get all 0) (parts_of s n) [] None [] =
         ap (λ b. named_below all parts b (length s.systems) [] None []) one ∙ ap (λ j. named_below all parts (suc n) j [] None []) count ∙ named_top n ∙ ap (λ qs. next_by (named_below all parts n) (slice_get all 0) qs [] None []) ps in
         let called : all_called s ≡ called_at [] n ∷ called_parts (called_below s n) [] (parts_of s n) = ap (λ b. called_below s b (length s.systems) []) one ∙ ap (λ j. called_below s (suc n) j []) count ∙ called_top n in

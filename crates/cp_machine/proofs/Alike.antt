@@ -1,7 +1,7 @@
 -- Two machines that differ in what they displayed before some moment alone, and that is as much, take the same steps:
 -- a step, or an admission, leaves them so, and the events are the same. Only `display` looks at the output, at how long it is.
 use Rattle.std.proofs.Common.{◌≡◌, ℕ, ◌+◌, ◌∙◌, List, [], ◌∷◌, ◌++◌, length, Option, Some, None, if◌then◌else◌, Bool, true, false, refl, sym, subst, ap}
-use Rattle.cp_machine.proofs.Words.{◌==◌, Tables, Entry, MOST_SHOWN, admitted, admitted_at, Stepped, step_at, append_assoc, length-append, Shown, show}
+use Rattle.cp_machine.proofs.Words.{◌==◌, Tables, Entry, MOST_SHOWN, admit_waiting, admit_at, Stepped, step_at, append_assoc, length-append, Shown, show}
 use Rattle.cp_machine.proofs.StepKeeps.{step_twins}
 use Rattle.cp_machine.specs.Alike.{AreAlike}
 use Rattle.cp_machine.specs.Machine.{Machine, is_ready, is_pending, in_line, waits, with_stack, with_output}
@@ -17,9 +17,9 @@ module _ (before other : List Shown) (m n : Machine) (a : AreAlike before other 
   still_alike : (k : Machine) → k.output ≡ m.output → AreAlike before other k (with_output k n.output)
   still_alike k e = record { same = refl; since = a.since; mine = e ∙ a.mine; theirs = a.theirs }
 
-  admitted_at_alike : (pending : Option ℕ) (pid : ℕ) → AreAlike before other (admitted_at pending m pid) (admitted_at pending (with_output m n.output) pid)
+  admitted_at_alike : (pending : Option ℕ) (pid : ℕ) → AreAlike before other (admit_at pending m pid) (admit_at pending (with_output m n.output) pid)
   admitted_at_alike None pid = still_alike m refl
-  admitted_at_alike (Some monitor) pid = still_alike (admitted_at (Some monitor) m pid) refl
+  admitted_at_alike (Some monitor) pid = still_alike (admit_at (Some monitor) m pid) refl
 
   -- ---- display
 
@@ -67,9 +67,9 @@ pub step_event_alike : (r : Tables) (before other : List Shown) (m n : Machine) 
 step_event_alike r before other m n pid long a = (steps_alike r before other m n pid long a).1
 
 -- after an admission they are alike
-pub admitted_alike : (before other : List Shown) (m n : Machine) (pid : ℕ) → AreAlike before other m n → AreAlike before other (admitted m pid) (admitted n pid)
+pub admitted_alike : (before other : List Shown) (m n : Machine) (pid : ℕ) → AreAlike before other m n → AreAlike before other (admit_waiting m pid) (admit_waiting n pid)
 admitted_alike before other m n pid a =
-    subst (λ k. AreAlike before other (admitted m pid) (admitted k pid)) (sym a.same) (admitted_at_alike before other m n a m.pending pid)
+    subst (λ k. AreAlike before other (admit_waiting m pid) (admit_waiting k pid)) (sym a.same) (admitted_at_alike before other m n a m.pending pid)
 
 -- the same processes are ready
 pub ready_alike : (before other : List Shown) (m n : Machine) (p : ℕ) → AreAlike before other m n → is_ready n p ≡ is_ready m p

@@ -2,14 +2,14 @@
 use Rattle.std.proofs.Common.{◌≡◌, ◌∙◌, ℕ, ◌<◌, ◌∷◌, Bool, true, false, not, if◌then◌else◌, List, length, Option, None, Result, Ok, Err, IfOk, refl, ap, sym, arith}
 use Rattle.cp_machine.proofs.Words.{ℤ, pos, slice_set, slice_index_or, length-map, length-set, Tables, component_at, ResolvedArm, Argument, ComponentPlace}
 use Rattle.cp_machine.proofs.Words.{OrdinalExpression, Place, Bound, ErrorName, Address, is_true, Entry, Kernel, InitEnd, Rest, Phase, Initialised}
-use Rattle.cp_machine.proofs.Words.{Initialising, Uninitialised, State, delayed, address_of, arguments_of, component_of, parameters_bound, value_of, rest_of}
+use Rattle.cp_machine.proofs.Words.{Initialising, Uninitialised, State, delay_caller, address_of, arguments_of, component_of, parameters_bound, value_of, rest_of}
 use Rattle.std.specs.Result.{IsErrAnd}
 use denote.Enum.Bare.{sameb}
 use Rattle.cp_slots.specs.declared.tables.ComponentKind.TheVariants as kind
 use Rattle.cp_store.specs.declared.error.ErrorName.TheVariants.{InitTwice, NotInit, QueueInUse}
 use Rattle.cp_machine.specs.declared.event.Kernel.TheVariants.{Delay}
 use Rattle.cp_machine.specs.contracts.state.Phase.{the_type as phase_type}
-use Rattle.cp_machine.specs.Calls.{call, called, called_by, called_in, continue, continue_at, delay, delay_at, delayed_in, opened, start, start_inside, started}
+use Rattle.cp_machine.specs.Calls.{call, open_call, call_by, call_in, continue, continue_at, delay, delay_at, delay_in, open_frame, start, start_inside, start_by}
 use Rattle.cp_machine.specs.Machine.{Machine, Thread, is_initialised, is_uninitialised, machine_of, monitor_of, phase_at, thread_at, thread_of, with_phase, with_stack}
 use Rattle.cp_slots.specs.declared.item.Said.{Said}
 use Rattle.cp_machine.specs.Statements.{Stepped, arm_for, assert_that, branch, broken, case_of, fault, local, until, while_do, with_value}
@@ -107,39 +107,39 @@ module _ (m : Machine) (pid line : ℕ) (selector : OrdinalExpression) (arms : L
 
 module _ (r : Tables) (m : Machine) (pid line routine : ℕ) (place : ComponentPlace) (is_entry : Bool) (arguments : List Argument) (result : Option ℕ) (rest : List Entry) where
   pub call_component_fails : (x : ErrorName) → component_of m pid place ≡ Err x → call r m pid line routine place is_entry arguments result rest ≡ fault m pid line x
-  call_component_fails x e = value_fails (fault m pid line) (λ component. with_value (arguments_of m pid arguments) (fault m pid line) (λ bounds. called_by r m pid line is_entry routine component arguments bounds result rest)) e
+  call_component_fails x e = value_fails (fault m pid line) (λ component. with_value (arguments_of m pid arguments) (fault m pid line) (λ bounds. call_by r m pid line is_entry routine component arguments bounds result rest)) e
 
-  given_to : (component : ℕ) → component_of m pid place ≡ Ok component → call r m pid line routine place is_entry arguments result rest ≡ with_value (arguments_of m pid arguments) (fault m pid line) (λ bounds. called_by r m pid line is_entry routine component arguments bounds result rest)
-  given_to component e = value_goes (fault m pid line) (λ component. with_value (arguments_of m pid arguments) (fault m pid line) (λ bounds. called_by r m pid line is_entry routine component arguments bounds result rest)) e
+  given_to : (component : ℕ) → component_of m pid place ≡ Ok component → call r m pid line routine place is_entry arguments result rest ≡ with_value (arguments_of m pid arguments) (fault m pid line) (λ bounds. call_by r m pid line is_entry routine component arguments bounds result rest)
+  given_to component e = value_goes (fault m pid line) (λ component. with_value (arguments_of m pid arguments) (fault m pid line) (λ bounds. call_by r m pid line is_entry routine component arguments bounds result rest)) e
 
   pub call_arguments_fail : (component : ℕ) (x : ErrorName) → component_of m pid place ≡ Ok component → arguments_of m pid arguments ≡ Err x → call r m pid line routine place is_entry arguments result rest ≡ fault m pid line x
-  call_arguments_fail component x found fails = given_to component found ∙ value_fails (fault m pid line) (λ bounds. called_by r m pid line is_entry routine component arguments bounds result rest) fails
+  call_arguments_fail component x found fails = given_to component found ∙ value_fails (fault m pid line) (λ bounds. call_by r m pid line is_entry routine component arguments bounds result rest) fails
 
-  pub call_goes : (component : ℕ) (bounds : List Bound) → component_of m pid place ≡ Ok component → arguments_of m pid arguments ≡ Ok bounds → call r m pid line routine place is_entry arguments result rest ≡ called_by r m pid line is_entry routine component arguments bounds result rest
-  call_goes component bounds found given = given_to component found ∙ value_goes (fault m pid line) (λ bounds. called_by r m pid line is_entry routine component arguments bounds result rest) given
+  pub call_goes : (component : ℕ) (bounds : List Bound) → component_of m pid place ≡ Ok component → arguments_of m pid arguments ≡ Ok bounds → call r m pid line routine place is_entry arguments result rest ≡ call_by r m pid line is_entry routine component arguments bounds result rest
+  call_goes component bounds found given = given_to component found ∙ value_goes (fault m pid line) (λ bounds. call_by r m pid line is_entry routine component arguments bounds result rest) given
 
 -- with evaluated arguments
 module _ (r : Tables) (m : Machine) (pid line routine component : ℕ) (arguments : List Argument) (bounds : List Bound) (result : Option ℕ) (rest : List Entry) where
-  pub called_inside : (is_entry : Bool) → is_entry ≡ false → called_by r m pid line is_entry routine component arguments bounds result rest ≡ local (called r m pid routine component arguments bounds result None rest)
-  called_inside is_entry e = ap (λ b. called_by r m pid line b routine component arguments bounds result rest) e
+  pub called_inside : (is_entry : Bool) → is_entry ≡ false → call_by r m pid line is_entry routine component arguments bounds result rest ≡ local (open_call r m pid routine component arguments bounds result None rest)
+  called_inside is_entry e = ap (λ b. call_by r m pid line b routine component arguments bounds result rest) e
 
-  pub called_entry : (is_entry b : Bool) → is_entry ≡ true → is_initialised (phase_at m component) ≡ b → called_by r m pid line is_entry routine component arguments bounds result rest ≡ (if b then called_in r m pid (component_at r component).kind routine component arguments bounds result rest else fault m pid line NotInit)
-  called_entry is_entry b e is = ap (λ k. called_by r m pid line k routine component arguments bounds result rest) e ∙ ap (λ b. if b then called_in r m pid (component_at r component).kind routine component arguments bounds result rest else fault m pid line NotInit) is
+  pub called_entry : (is_entry b : Bool) → is_entry ≡ true → is_initialised (phase_at m component) ≡ b → call_by r m pid line is_entry routine component arguments bounds result rest ≡ (if b then call_in r m pid (component_at r component).kind routine component arguments bounds result rest else fault m pid line NotInit)
+  called_entry is_entry b e is = ap (λ k. call_by r m pid line k routine component arguments bounds result rest) e ∙ ap (λ b. if b then call_in r m pid (component_at r component).kind routine component arguments bounds result rest else fault m pid line NotInit) is
 
 -- ---- starts
 
 module _ (r : Tables) (m : Machine) (pid line : ℕ) (place : ComponentPlace) (routine : ℕ) (arguments : List Argument) (rest : List Entry) where
   pub start_component_fails : (x : ErrorName) → component_of m pid place ≡ Err x → start r m pid line place routine arguments rest ≡ fault m pid line x
-  start_component_fails x e = value_fails (fault m pid line) (λ component. with_value (arguments_of m pid arguments) (fault m pid line) (λ bounds. started r m pid line (component_at r component).kind routine component arguments bounds rest)) e
+  start_component_fails x e = value_fails (fault m pid line) (λ component. with_value (arguments_of m pid arguments) (fault m pid line) (λ bounds. start_by r m pid line (component_at r component).kind routine component arguments bounds rest)) e
 
-  start_of : (component : ℕ) → component_of m pid place ≡ Ok component → start r m pid line place routine arguments rest ≡ with_value (arguments_of m pid arguments) (fault m pid line) (λ bounds. started r m pid line (component_at r component).kind routine component arguments bounds rest)
-  start_of component e = value_goes (fault m pid line) (λ component. with_value (arguments_of m pid arguments) (fault m pid line) (λ bounds. started r m pid line (component_at r component).kind routine component arguments bounds rest)) e
+  start_of : (component : ℕ) → component_of m pid place ≡ Ok component → start r m pid line place routine arguments rest ≡ with_value (arguments_of m pid arguments) (fault m pid line) (λ bounds. start_by r m pid line (component_at r component).kind routine component arguments bounds rest)
+  start_of component e = value_goes (fault m pid line) (λ component. with_value (arguments_of m pid arguments) (fault m pid line) (λ bounds. start_by r m pid line (component_at r component).kind routine component arguments bounds rest)) e
 
   pub start_arguments_fail : (component : ℕ) (x : ErrorName) → component_of m pid place ≡ Ok component → arguments_of m pid arguments ≡ Err x → start r m pid line place routine arguments rest ≡ fault m pid line x
-  start_arguments_fail component x found fails = start_of component found ∙ value_fails (fault m pid line) (λ bounds. started r m pid line (component_at r component).kind routine component arguments bounds rest) fails
+  start_arguments_fail component x found fails = start_of component found ∙ value_fails (fault m pid line) (λ bounds. start_by r m pid line (component_at r component).kind routine component arguments bounds rest) fails
 
-  pub start_goes : (component : ℕ) (bounds : List Bound) → component_of m pid place ≡ Ok component → arguments_of m pid arguments ≡ Ok bounds → start r m pid line place routine arguments rest ≡ started r m pid line (component_at r component).kind routine component arguments bounds rest
-  start_goes component bounds found given = start_of component found ∙ value_goes (fault m pid line) (λ bounds. started r m pid line (component_at r component).kind routine component arguments bounds rest) given
+  pub start_goes : (component : ℕ) (bounds : List Bound) → component_of m pid place ≡ Ok component → arguments_of m pid arguments ≡ Ok bounds → start r m pid line place routine arguments rest ≡ start_by r m pid line (component_at r component).kind routine component arguments bounds rest
+  start_goes component bounds found given = start_of component found ∙ value_goes (fault m pid line) (λ bounds. start_by r m pid line (component_at r component).kind routine component arguments bounds rest) given
 
 -- ---- delay and continue
 
@@ -158,10 +158,10 @@ module _ (r : Tables) (m : Machine) (pid line : ℕ) (place : Place) where
 
 -- in a monitor
 module _ (m : Machine) (pid line cell monitor : ℕ) (rest : List Entry) where
-  pub delayed_if : (b : Bool) → is_true (slice_index_or m.permanents cell (pos 0)) ≡ b → delayed_in m pid line cell (kind.Monitor monitor) rest ≡ (if b then fault m pid line QueueInUse else record { machine = delayed (with_stack m pid rest) pid monitor cell; event = Kernel Delay })
-  delayed_if b is = ap (λ b. if b then fault m pid line QueueInUse else record { machine = delayed (with_stack m pid rest) pid monitor cell; event = Kernel Delay }) is
+  pub delayed_if : (b : Bool) → is_true (slice_index_or m.permanents cell (pos 0)) ≡ b → delay_in m pid line cell (kind.Monitor monitor) rest ≡ (if b then fault m pid line QueueInUse else record { machine = delay_caller (with_stack m pid rest) pid monitor cell; event = Kernel Delay })
+  delayed_if b is = ap (λ b. if b then fault m pid line QueueInUse else record { machine = delay_caller (with_stack m pid rest) pid monitor cell; event = Kernel Delay }) is
 
 -- a class or monitor begins, and its initial statement stands above its end
 module _ (r : Tables) (m : Machine) (pid line routine component : ℕ) (arguments : List Argument) (bounds : List Bound) (rest : List Entry) where
-  pub begins_if : (b : Bool) → is_uninitialised (phase_at m component) ≡ b → start_inside r m pid line routine component arguments bounds rest ≡ (if b then local (with_phase (parameters_bound (opened r m pid routine component (InitEnd (thread_at m.threads pid).frame component) rest) pid (component_at r component).base arguments bounds) component Initialising) else fault m pid line InitTwice)
-  begins_if b is = ap (λ b. if b then local (with_phase (parameters_bound (opened r m pid routine component (InitEnd (thread_at m.threads pid).frame component) rest) pid (component_at r component).base arguments bounds) component Initialising) else fault m pid line InitTwice) is
+  pub begins_if : (b : Bool) → is_uninitialised (phase_at m component) ≡ b → start_inside r m pid line routine component arguments bounds rest ≡ (if b then local (with_phase (parameters_bound (open_frame r m pid routine component (InitEnd (thread_at m.threads pid).frame component) rest) pid (component_at r component).base arguments bounds) component Initialising) else fault m pid line InitTwice)
+  begins_if b is = ap (λ b. if b then local (with_phase (parameters_bound (open_frame r m pid routine component (InitEnd (thread_at m.threads pid).frame component) rest) pid (component_at r component).base arguments bounds) component Initialising) else fault m pid line InitTwice) is

@@ -1,9 +1,9 @@
 -- What the crates above need of the machine.
 use Rattle.std.proofs.Common.{◌≡◌, ◌∙◌, ℕ, ◌<◌, ◌≤◌, Bool, true, false, List, length, is_some as std_is_some, Option, None, Some, refl, sym, ap, arith, filter}
-use Rattle.cp_machine.proofs.Words.{range_with_len, Tables, Discipline, State, Status, Ready, admitted_at, still, unstarted_thread}
+use Rattle.cp_machine.proofs.Words.{range_with_len, Tables, Discipline, State, Status, Ready, admit_at, still, unstarted_thread}
 use Rattle.std.proofs.lemmas.List.{length-map, get_or-set_same}
 use Rattle.cp_machine.specs.Machine.{thread_of, Thread, thread_at, no_thread, is_at_gate, is_ready_status, in_line_of, is_some}
-use Rattle.cp_machine.specs.System.{Machine, machine_of, opening, is_ready, in_line, waiting_of, is_pending, admitted, IsStateOf}
+use Rattle.cp_machine.specs.System.{Machine, machine_of, opening, is_ready, in_line, waiting_of, is_pending, admit_waiting, IsStateOf}
 use Rattle.cp_machine.proofs.ListLemmas.{passes_within}
 use Rattle.cp_machine.proofs.lines.KernelLines.{gate_within, pending_at_gate}
 pub use Rattle.cp_machine.proofs.LocalReady.{local_ready}
@@ -33,18 +33,18 @@ pub line_pending : (m : Machine) (monitor : ℕ) → m.pending ≡ Some monitor 
 line_pending m monitor e = ap (λ o. filter (λ pid. in_line_of o (thread_at m.threads pid).status) (range_with_len 0 (length m.threads))) (sym e)
 
 -- after an admission its process is ready, and nothing is pending
-admitted_at_ready : (pending : Option ℕ) (m : Machine) (p : ℕ) → p < length m.threads → in_line_of pending (thread_at m.threads p).status ≡ true → is_ready (admitted_at pending m p) p ≡ true
+admitted_at_ready : (pending : Option ℕ) (m : Machine) (p : ℕ) → p < length m.threads → in_line_of pending (thread_at m.threads p).status ≡ true → is_ready (admit_at pending m p) p ≡ true
 admitted_at_ready None m p lt h = absurd (cc)
 admitted_at_ready (Some monitor) m p lt h = ap (λ t. is_ready_status t.status) (get_or-set_same m.threads p (record (thread_at m.threads p) { status = Ready }) no_thread lt)
 
-admitted_at_free : (pending : Option ℕ) (m : Machine) (p : ℕ) (status : Status) → in_line_of pending status ≡ true → is_pending (admitted_at pending m p) ≡ false
+admitted_at_free : (pending : Option ℕ) (m : Machine) (p : ℕ) (status : Status) → in_line_of pending status ≡ true → is_pending (admit_at pending m p) ≡ false
 admitted_at_free None m p status h = absurd (cc)
 admitted_at_free (Some monitor) m p status h = refl
 
-pub admitted_ready : (m n : Machine) (p : ℕ) → in_line m p ≡ true → n ≡ admitted m p → is_ready n p ≡ true
+pub admitted_ready : (m n : Machine) (p : ℕ) → in_line m p ≡ true → n ≡ admit_waiting m p → is_ready n p ≡ true
 admitted_ready m n p h e = ap (λ x. is_ready x p) e ∙ admitted_at_ready m.pending m p (in_line_within m.pending m.threads p h) h
 
-pub admitted_free : (m n : Machine) (p : ℕ) → in_line m p ≡ true → n ≡ admitted m p → is_pending n ≡ false
+pub admitted_free : (m n : Machine) (p : ℕ) → in_line m p ≡ true → n ≡ admit_waiting m p → is_pending n ≡ false
 admitted_free m n p h e = ap is_pending e ∙ admitted_at_free m.pending m p (thread_at m.threads p).status h
 
 -- in the opening state process 0 is ready

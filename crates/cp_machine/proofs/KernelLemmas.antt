@@ -1,12 +1,12 @@
 -- Monitors that are read, queues that are searched, and lines by their length.
 use Rattle.cp_machine.proofs.Words.{◌≡◌, ℕ, ◌<◌, ◌≤◌, ◌∙◌, List, [], ◌∷◌, Bool, Some, length, map, ap, sym, refl, arith, position, slice_index_or, position_or_len}
-use Rattle.cp_machine.proofs.Words.{get_or-map, length-map, Gate, first_in, one_in, freed, Machine, monitor_of, no_monitor, with_pending}
+use Rattle.cp_machine.proofs.Words.{get_or-map, length-map, Gate, first_in, one_in, free, Machine, monitor_of, no_monitor, with_pending}
 
 pub guard_read : (gs : List Gate) (monitor : ℕ) (g : Gate) → monitor < length gs → g ≡ slice_index_or gs monitor g → slice_index_or (map monitor_of gs) monitor no_monitor ≡ monitor_of g
 guard_read gs monitor g h e = get_or-map monitor_of gs monitor g no_monitor h ∙ ap monitor_of (sym e)
 
 -- a line of more than one
-pub one_in_many : (m : Machine) (monitor : ℕ) (line : List ℕ) → 1 < length line → one_in m monitor line ≡ with_pending (freed m monitor line) (Some monitor)
+pub one_in_many : (m : Machine) (monitor : ℕ) (line : List ℕ) → 1 < length line → one_in m monitor line ≡ with_pending (free m monitor line) (Some monitor)
 one_in_many m monitor (p ∷ q ∷ line) h = refl
 one_in_many m monitor _ h = absurd (omega arith)
 

@@ -1,9 +1,9 @@
 -- A statement of a frequent kind is done by a local step, or leaves the machine as it was.
 use Rattle.std.proofs.Common.{◌≡◌, ◌∙◌, ℕ, ◌<◌, List, length, Option, Result, Ok, Err, Bool, true, false, refl, ap, sym, subst, if◌then◌else◌}
-use Rattle.cp_machine.proofs.Words.{ℤ, int_eq, Tables, Action, For, Item, OrdinalExpression, Place, ErrorName, ranged, Event, Entry, State, Machine, is_pending, is_ready}
+use Rattle.cp_machine.proofs.Words.{ℤ, int_eq, Tables, Action, For, Item, OrdinalExpression, Place, ErrorName, check_range, Event, Entry, State, Machine, is_pending, is_ready}
 use Rattle.cp_machine.proofs.Words.{is_some, machine_of, value_of, address_of, Reaches, IsReserved, IsStateOf, LinesFit, MachineFits, is_local, step_at}
 use Rattle.cp_machine.specs.declared.event.Event.TheVariants.{Local, Kernel, Ended, Fault, OutputFull}
-use Rattle.cp_machine.specs.Statements.{Stepped, with_value, outcome, local, assign, branch, while_do, until, next_value, succeeded}
+use Rattle.cp_machine.specs.Statements.{Stepped, with_value, outcome, local, assign, branch, while_do, until, next_value, successor_step}
 use Rattle.cp_machine.proofs.rooms.KeepingAct.{step_fits}
 use Rattle.cp_machine.proofs.LocalReady.{local_ready}
 use Rattle.cp_machine.proofs.frames.ReachingKept.{step_reaches}
@@ -28,7 +28,7 @@ pub assign_calm : (m : Machine) (pid line : ℕ) (target : Place) (value : Ordin
 assign_calm m pid line target value low high rest =
     value_calm m (value_of m pid value) _ _ (λ e. (λ h. refl, refl)) (λ v.
     value_calm m (address_of m pid target) _ _ (λ e. (λ h. refl, refl)) (λ p.
-    value_calm m (ranged low high v) _ _ (λ e. (λ h. refl, refl)) (λ w. done m _ refl)))
+    value_calm m (check_range low high v) _ _ (λ e. (λ h. refl, refl)) (λ w. done m _ refl)))
 
 pub branch_calm : (m : Machine) (pid line : ℕ) (test : OrdinalExpression) (list other : Option ℕ) (rest : List Entry) → Calm m (branch m pid line test list other rest)
 branch_calm m pid line test list other rest = value_calm m (value_of m pid test) _ _ (λ e. (λ h. refl, refl)) (λ v. done m _ refl)
@@ -39,7 +39,7 @@ while_calm m pid line test list again next es = value_calm m (value_of m pid tes
 pub until_calm : (m : Machine) (pid line : ℕ) (test : OrdinalExpression) (list : Option ℕ) (again : ℕ) (next : Option ℕ) (es : List Entry) → Calm m (until m pid line test list again next es)
 until_calm m pid line test list again next es = value_calm m (value_of m pid test) _ _ (λ e. (λ h. refl, refl)) (λ v. done m _ refl)
 
-pub succeeded_calm : (m : Machine) (pid at : ℕ) (item : Item) (a : Action) (es : List Entry) (z last : ℤ) → Calm m (succeeded m pid at item a es z last)
+pub succeeded_calm : (m : Machine) (pid at : ℕ) (item : Item) (a : Action) (es : List Entry) (z last : ℤ) → Calm m (successor_step m pid at item a es z last)
 succeeded_calm m pid at item (For variable low high first end down list) es z last =
     either_calm m (int_eq z last) _ _ (done m _ refl) (value_calm m (next_value down low high z) _ _ (λ e. (λ h. refl, refl)) (λ v. done m _ refl))
 succeeded_calm m pid at item a es z last = done m _ refl

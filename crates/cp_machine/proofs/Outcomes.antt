@@ -1,10 +1,10 @@
 -- What a statement comes to, by what its parts answer.
 use Rattle.std.proofs.Common.{◌≡◌, ◌∙◌, ℕ, ◌<◌, Bool, true, false, if◌then◌else◌, List, length, Option, Result, Ok, Err, ap, sym, subst, arith, get_or-set_same}
-use Rattle.cp_machine.proofs.Words.{ℤ, int_eq, length-map, length-set, OrdinalExpression, PlaceOrigin, Place, ErrorName, Address, Memory, ranged, Entry, State, HasCells}
+use Rattle.cp_machine.proofs.Words.{ℤ, int_eq, length-map, length-set, OrdinalExpression, PlaceOrigin, Place, ErrorName, Address, Memory, check_range, Entry, State, HasCells}
 use Rattle.cp_machine.proofs.Words.{rest_of, address_of, cells_put, memory_at, number_put, value_of}
 use Rattle.cp_store.specs.Inside as store
 use Rattle.cp_machine.specs.Machine.{Machine, Thread, machine_of, no_thread, thread_at, thread_of, with_stack}
-use Rattle.cp_machine.specs.Statements.{assign, assigned, copy, fault, for_from, gone_on, is_beyond, local, next_turn, next_value, with_value}
+use Rattle.cp_machine.specs.Statements.{assign, assign_number, copy, fault, for_from, gone_on, is_beyond, local, next_turn, next_value, with_value}
 
 -- ---- a process whose control stack alone changed
 
@@ -28,16 +28,16 @@ replaced_has s t pid es at cells after lt h =
 -- ---- assignments
 
 module _ (m : Machine) (pid line : ℕ) (target : Place) (value : OrdinalExpression) (low high : ℤ) (rest : List Entry) where
-  right_is : {o p : Result ℤ ErrorName} → o ≡ p → with_value o (fault m pid line) (λ v. with_value (address_of m pid target) (fault m pid line) (assigned m pid line low high rest v)) ≡ with_value p (fault m pid line) (λ v. with_value (address_of m pid target) (fault m pid line) (assigned m pid line low high rest v))
-  right_is e = ap (λ o. with_value o (fault m pid line) (λ v. with_value (address_of m pid target) (fault m pid line) (assigned m pid line low high rest v))) e
+  right_is : {o p : Result ℤ ErrorName} → o ≡ p → with_value o (fault m pid line) (λ v. with_value (address_of m pid target) (fault m pid line) (assign_number m pid line low high rest v)) ≡ with_value p (fault m pid line) (λ v. with_value (address_of m pid target) (fault m pid line) (assign_number m pid line low high rest v))
+  right_is e = ap (λ o. with_value o (fault m pid line) (λ v. with_value (address_of m pid target) (fault m pid line) (assign_number m pid line low high rest v))) e
 
-  left_is : (v : ℤ) {o p : Result Address ErrorName} → o ≡ p → with_value o (fault m pid line) (assigned m pid line low high rest v) ≡ with_value p (fault m pid line) (assigned m pid line low high rest v)
-  left_is v e = ap (λ o. with_value o (fault m pid line) (assigned m pid line low high rest v)) e
+  left_is : (v : ℤ) {o p : Result Address ErrorName} → o ≡ p → with_value o (fault m pid line) (assign_number m pid line low high rest v) ≡ with_value p (fault m pid line) (assign_number m pid line low high rest v)
+  left_is v e = ap (λ o. with_value o (fault m pid line) (assign_number m pid line low high rest v)) e
 
   range_is : (a : Address) {o p : Result ℤ ErrorName} → o ≡ p → with_value o (fault m pid line) (λ w. local (number_put (with_stack m pid rest) pid a w)) ≡ with_value p (fault m pid line) (λ w. local (number_put (with_stack m pid rest) pid a w))
   range_is a e = ap (λ o. with_value o (fault m pid line) (λ w. local (number_put (with_stack m pid rest) pid a w))) e
 
-  pub assign_done : (v : ℤ) (a : Address) (w : ℤ) → value_of m pid value ≡ Ok v → address_of m pid target ≡ Ok a → ranged low high v ≡ Ok w → assign m pid line target value low high rest ≡ local (number_put (with_stack m pid rest) pid a w)
+  pub assign_done : (v : ℤ) (a : Address) (w : ℤ) → value_of m pid value ≡ Ok v → address_of m pid target ≡ Ok a → check_range low high v ≡ Ok w → assign m pid line target value low high rest ≡ local (number_put (with_stack m pid rest) pid a w)
   assign_done v a w right left range = right_is right ∙ left_is v left ∙ range_is a range
 
   pub assign_right_fails : (x : ErrorName) → value_of m pid value ≡ Err x → assign m pid line target value low high rest ≡ fault m pid line x
@@ -46,7 +46,7 @@ module _ (m : Machine) (pid line : ℕ) (target : Place) (value : OrdinalExpress
   pub assign_left_fails : (v : ℤ) (x : ErrorName) → value_of m pid value ≡ Ok v → address_of m pid target ≡ Err x → assign m pid line target value low high rest ≡ fault m pid line x
   assign_left_fails v x right left = right_is right ∙ left_is v left
 
-  pub assign_range_fails : (v : ℤ) (a : Address) (x : ErrorName) → value_of m pid value ≡ Ok v → address_of m pid target ≡ Ok a → ranged low high v ≡ Err x → assign m pid line target value low high rest ≡ fault m pid line x
+  pub assign_range_fails : (v : ℤ) (a : Address) (x : ErrorName) → value_of m pid value ≡ Ok v → address_of m pid target ≡ Ok a → check_range low high v ≡ Err x → assign m pid line target value low high rest ≡ fault m pid line x
   assign_range_fails v a x right left range = right_is right ∙ left_is v left ∙ range_is a range
 
 -- an array or a record
@@ -87,10 +87,10 @@ module _ (m : Machine) (pid line at : ℕ) (variable : PlaceOrigin) (list next :
     turn_fails x e is = for_is (next_value down low high z) e ∙ going_is is
 
     pub for_none : is_beyond down z last ≡ true → for_from m pid line at variable low high down list next es z last ≡ local (with_stack m pid (rest_of next es))
-    for_none e = for_is (ranged low high z) e
+    for_none e = for_is (check_range low high z) e
 
-    pub for_goes : (v : ℤ) → is_beyond down z last ≡ false → ranged low high z ≡ Ok v → for_from m pid line at variable low high down list next es z last ≡ local (gone_on m pid at variable list es last v)
-    for_goes v e is = for_is (ranged low high z) e ∙ going_is is
+    pub for_goes : (v : ℤ) → is_beyond down z last ≡ false → check_range low high z ≡ Ok v → for_from m pid line at variable low high down list next es z last ≡ local (gone_on m pid at variable list es last v)
+    for_goes v e is = for_is (check_range low high z) e ∙ going_is is
 
-    pub for_fails : (x : ErrorName) → is_beyond down z last ≡ false → ranged low high z ≡ Err x → for_from m pid line at variable low high down list next es z last ≡ fault m pid line x
-    for_fails x e is = for_is (ranged low high z) e ∙ going_is is
+    pub for_fails : (x : ErrorName) → is_beyond down z last ≡ false → check_range low high z ≡ Err x → for_from m pid line at variable low high down list next es z last ≡ fault m pid line x
+    for_fails x e is = for_is (check_range low high z) e ∙ going_is is

@@ -9,7 +9,7 @@ use Rattle.cp_machine.specs.declared.discipline.Gates.{Gates}
 use Rattle.cp_machine.specs.declared.discipline.Signals.{Signals}
 use Rattle.cp_machine.specs.declared.discipline.Signals.TheVariants as signals
 use Rattle.cp_machine.specs.Machine.{is_delayed_at, no_thread}
-use Rattle.cp_machine.specs.Kernel.{first_in, one_in, let_in, let_in_by, entered_by, delayed, resumed, waits_in, signalled_by, signalled}
+use Rattle.cp_machine.specs.Kernel.{first_in, one_in, let_in, let_in_by, enter_by, delay_caller, go_on_inside, waits_in, signal_by, signal}
 use Rattle.std.proofs.lemmas.List.Quantifiers.{position-Some}
 use Rattle.cp_machine.proofs.Stepping.{Does, Calls, Walking, step_blind, show_either}
 
@@ -29,7 +29,7 @@ pub record Keeping (P : Property) (pid : ℕ) : Type 0 where
   -- it waits or has ended; whatever process is ready; one of a line has to be admitted
   pub settled : (m : Machine) (status : Status) → is_unstarted status ≡ false → Kept P m → Kept P (with_status m pid status)
   pub readied : (m : Machine) (p : ℕ) → Kept P m → Kept P (with_status m p Ready)
-  -- who was delayed comes to a gate
+  -- who was delay_caller comes to a gate
   pub gated : (m : Machine) (p cell monitor : ℕ) → is_delayed_at cell (thread_at m.threads p).status ≡ true → Kept P m → Kept P (with_status m p (AtGate monitor))
   pub wanted : (m : Machine) (monitor : ℕ) → m.discipline.gates ≡ Any → Kept P m → Kept P (with_pending m (Some monitor))
 
@@ -51,26 +51,26 @@ module _ (P : Property) (pid : ℕ) (keep : Keeping P pid) (o : List Shown) (S :
   let_in_both : (k : KernelCall) (m : Machine) (monitor : ℕ) → Kept P m → Calls S o k (λ x. let_in x monitor) m
   let_in_both k m monitor h = let_in_by_both k m.discipline.gates m monitor (monitor_at m monitor).line refl h
 
-  entered_by_both : (holder : Option ℕ) (m : Machine) (monitor : ℕ) → Kept P m → Calls S o call.Enter (λ x. entered_by holder x pid monitor) m
+  entered_by_both : (holder : Option ℕ) (m : Machine) (monitor : ℕ) → Kept P m → Calls S o call.Enter (λ x. enter_by holder x pid monitor) m
   entered_by_both None m monitor h = done _ _ h
   entered_by_both (Some q) m monitor h = done _ _ (keep.settled m (AtGate monitor) refl h)
 
-  delayed_both : (m : Machine) (monitor cell : ℕ) → Kept P m → Calls S o call.Delay (λ x. delayed x pid monitor cell) m
+  delayed_both : (m : Machine) (monitor cell : ℕ) → Kept P m → Calls S o call.Delay (λ x. delay_caller x pid monitor cell) m
   delayed_both m monitor cell h =
       let marked : Machine = with_permanents m (slice_set m.permanents cell (pos 1)) in
       let_in_both call.Delay (with_status marked pid (Delayed cell)) monitor (keep.settled marked (Delayed cell) refl h)
 
-  resumed_both : (waiter : Option ℕ) (m : Machine) (monitor : ℕ) → Kept P m → Calls S o call.Continue (λ x. resumed waiter x monitor) m
+  resumed_both : (waiter : Option ℕ) (m : Machine) (monitor : ℕ) → Kept P m → Calls S o call.Continue (λ x. go_on_inside waiter x monitor) m
   resumed_both None m monitor h = let_in_both call.Continue m monitor h
   resumed_both (Some q) m monitor h = done _ _ (keep.readied m q h)
 
-  signalled_by_both : (signals : Signals) (waiter : Option ℕ) (m : Machine) (monitor cell : ℕ) → ((q : ℕ) → waiter ≡ Some q → is_delayed_at cell (thread_at m.threads q).status ≡ true) → Kept P m → Calls S o call.Continue (λ x. signalled_by signals waiter x pid monitor) m
+  signalled_by_both : (signals : Signals) (waiter : Option ℕ) (m : Machine) (monitor cell : ℕ) → ((q : ℕ) → waiter ≡ Some q → is_delayed_at cell (thread_at m.threads q).status ≡ true) → Kept P m → Calls S o call.Continue (λ x. signal_by signals waiter x pid monitor) m
   signalled_by_both signals None m monitor cell found h = done _ _ h
   signalled_by_both signals.Wait (Some q) m monitor cell found h = done _ _ (keep.readied (with_status m pid (AtGate monitor)) q (keep.settled m (AtGate monitor) refl h))
   signalled_by_both signals.Return (Some q) m monitor cell found h = done _ _ (keep.gated m q cell monitor (found q refl) h)
   signalled_by_both signals.Continue (Some q) m monitor cell found h = done _ _ (keep.gated m q cell monitor (found q refl) h)
 
-  signalled_both : (m : Machine) (monitor cell : ℕ) → Kept P m → Calls S o call.Continue (λ x. signalled x pid monitor cell) m
+  signalled_both : (m : Machine) (monitor cell : ℕ) → Kept P m → Calls S o call.Continue (λ x. signal x pid monitor cell) m
   signalled_both m monitor cell h =
       signalled_by_both m.discipline.signals (waits_in m cell) (with_permanents m (slice_set m.permanents cell (pos 0))) monitor cell (λ q e. (position-Some (λ (t : Thread). is_delayed_at cell t.status) m.threads q no_thread e).1) h
 

@@ -1,6 +1,6 @@
 -- A step changes the body of the process that takes it alone; the others change their status at most.
 use Rattle.std.proofs.Common.{◌≡◌, ℕ, ◌∙◌, ◌⊎◌, inl, inr, List, length, Option, Some, None, Bool, true, false, refl, sym, ap, get_or-set_other}
-use Rattle.cp_machine.proofs.Words.{slice_set, cases_eq, length-set, Tables, Discipline, Status, Ready, AtGate, admitted, admitted_at, step_at, Machine, Thread, thread_at, no_thread}
+use Rattle.cp_machine.proofs.Words.{slice_set, cases_eq, length-set, Tables, Discipline, Status, Ready, AtGate, admit_waiting, admit_at, step_at, Machine, Thread, thread_at, no_thread}
 use Rattle.cp_machine.proofs.ListLemmas.{set_related}
 use Rattle.cp_machine.proofs.StepKeeps.{step_keeps}
 use Rattle.cp_machine.specs.Bodies.{body_of, body_at, KeepBodies}
@@ -42,16 +42,16 @@ step_others r m pid = step_keeps (λ discipline pending ts. ThreadsKeep pid m.th
 
 -- ---- admission
 
-admitted_at_count : (pending : Option ℕ) (m : Machine) (pid : ℕ) → length (admitted_at pending m pid).threads ≡ length m.threads
+admitted_at_count : (pending : Option ℕ) (m : Machine) (pid : ℕ) → length (admit_at pending m pid).threads ≡ length m.threads
 admitted_at_count None m pid = refl
 admitted_at_count (Some monitor) m pid = length-set m.threads pid (record (thread_at m.threads pid) { status = Ready })
 
-admitted_at_bodies : (pending : Option ℕ) (m : Machine) (pid q : ℕ) → body_at (admitted_at pending m pid) q ≡ body_at m q
+admitted_at_bodies : (pending : Option ℕ) (m : Machine) (pid q : ℕ) → body_at (admit_at pending m pid) q ≡ body_at m q
 admitted_at_bodies None m pid q = refl
 admitted_at_bodies (Some monitor) m pid q = status_body m.threads pid Ready q
 
--- an admission changes no body, that of the admitted process neither
-pub admitted_keeps : (m : Machine) (pid : ℕ) → (length (admitted m pid).threads ≡ length m.threads) × ((q : ℕ) → body_at (admitted m pid) q ≡ body_at m q)
+-- an admission changes no body, that of the admit_waiting process neither
+pub admitted_keeps : (m : Machine) (pid : ℕ) → (length (admit_waiting m pid).threads ≡ length m.threads) × ((q : ℕ) → body_at (admit_waiting m pid) q ≡ body_at m q)
 admitted_keeps m pid = (admitted_at_count m.pending m pid, admitted_at_bodies m.pending m pid)
 
 -- ---- many steps: the processes that did not move have the bodies that they had
@@ -77,7 +77,7 @@ keep_more moved new before m pid h others this = record { count = h.count; bodie
     go q not (inl e) = absurd (cc)
     go q not (inr ne) = h.bodies q (sym (others q ne) ∙ not)
 
-pub keep_admitted : (moved : ℕ → Bool) (before m : Machine) (pid : ℕ) → KeepBodies moved before m → KeepBodies moved before (admitted m pid)
+pub keep_admitted : (moved : ℕ → Bool) (before m : Machine) (pid : ℕ) → KeepBodies moved before m → KeepBodies moved before (admit_waiting m pid)
 keep_admitted moved before m pid h =
     let k = admitted_keeps m pid in
     record { count = k.0 ∙ h.count; bodies = λ q not. k.1 q ∙ h.bodies q not }

@@ -24,32 +24,32 @@ pub use Rattle.cp_slots.specs.declared.place.Place.{Place}
 pub use Rattle.cp_slots.specs.declared.place.PlaceOrigin.{PlaceOrigin}
 pub use Rattle.cp_slots.specs.declared.tables.ComponentKind.{ComponentKind}
 pub use Rattle.cp_store.proofs.Reaches.{and_left, and_right}
-pub use Rattle.cp_store.specs.Arguments.{bindings_after, bound_in_component, bound_in_frame, bounds_or, put_in_frame, put_value}
+pub use Rattle.cp_store.specs.Arguments.{bindings_after, bind_component, bind_frame, bounds_or, put_in_frame, put_value}
 pub use Rattle.cp_store.specs.Inside.{AllFitComponent, Covers, FindsComponent}
-pub use Rattle.cp_store.specs.Memory.{Memory, cell_at, memory_of, moved, nowhere, onward, put_copy, put_number}
-pub use Rattle.cp_store.specs.Places.{address_at, origin_address, referred}
-pub use Rattle.cp_store.specs.Values.{is_true, ranged, then_with}
+pub use Rattle.cp_store.specs.Memory.{Memory, cell_at, memory_of, address_onward, nowhere, onward, put_copy, put_number}
+pub use Rattle.cp_store.specs.Places.{address_at, origin_address, reference_at}
+pub use Rattle.cp_store.specs.Values.{is_true, check_range, then_with}
 pub use Rattle.cp_store.specs.declared.argument.Bound.{Bound}
 pub use Rattle.cp_store.specs.declared.error.ErrorName.{ErrorName}
 pub use Rattle.cp_store.specs.declared.memory.Address.{Address}
 pub use Rattle.cp_store.specs.declared.memory.Address.TheVariants.{Local, Permanent}
 pub use Rattle.cp_store.specs.declared.memory.Frame.{Frame}
 pub use Rattle.cp_store.specs.declared.set.SetValue.{SetValue}
-pub use Rattle.cp_machine.specs.Calls.{call, called, called_by, called_in, continued_from, frame_behind, left, opened, start, started}
+pub use Rattle.cp_machine.specs.Calls.{call, open_call, call_by, call_in, continue_from, frame_behind, leave_frame, open_frame, start, start_by}
 pub use Rattle.cp_machine.specs.Fits.{AreFirstKnown, EntryFits, Follows, FrameFits, HasCallRoom, HasRoom, HaveCells, HaveGateRoom, HaveReferences, HaveStacks, IsBusy}
 pub use Rattle.cp_machine.specs.Fits.{IsFirstKnown, IsReserved, IsStateOf, IsTaken, LinesFit, MachineFits, StackFits, ThreadFits, size_of}
-pub use Rattle.cp_machine.specs.Kernel.{continued, delayed, entered, entered_by, first_in, freed, goes_in, let_in, let_in_by, one_in, resumed, waits_in}
+pub use Rattle.cp_machine.specs.Kernel.{resume, delay_caller, enter_caller, enter_by, first_in, free, goes_in, let_in, let_in_by, one_in, go_on_inside, waits_in}
 pub use Rattle.cp_machine.specs.Machine.{Machine, Monitor, Thread, in_line, is_at_gate, is_delayed_at, is_initialised, is_pending, is_ready, is_ready_status, is_some}
 pub use Rattle.cp_machine.specs.Machine.{is_uninitialised, is_unstarted, machine_of, monitor_at, monitor_of, no_monitor, no_thread, phase_at, readiness_of, thread_at}
 pub use Rattle.cp_machine.specs.Machine.{thread_of, under, with_bindings, with_output, with_pending, with_permanents, with_phase, with_stack, with_status, with_thread}
-pub use Rattle.cp_machine.specs.Memory.{address_of, arguments_of, cells_put, component_of, frame_opened, memory_at, number_put, origin_of, parameters_bound, set_of}
+pub use Rattle.cp_machine.specs.Memory.{address_of, arguments_of, cells_put, component_of, add_frame, memory_at, number_put, origin_of, parameters_bound, set_of}
 pub use Rattle.cp_machine.specs.Memory.{value_of, with_memory}
 unfoldable pub use Rattle.cp_machine.specs.Memory.{set_written}
-pub use Rattle.cp_machine.specs.Opening.{admitted, admitted_at, opening, still, unstarted_thread, without}
+pub use Rattle.cp_machine.specs.Opening.{admit_waiting, admit_at, opening, still, unstarted_thread, without}
 pub use Rattle.cp_machine.specs.Reach.{AreBound, CanCall, CanStart, EndsBegun, Executes, ExecutesAs, FitsComponent, FitsNew, FitsOwn, FrameReaches, HasBegunAs, HasCells}
 pub use Rattle.cp_machine.specs.Reach.{IsBehind, Reaches, ResultReaches, StackExecutes, StackReaches, ThreadReaches, frame_at}
 pub use Rattle.cp_machine.specs.Stack.{above, from_end, is_inner, rest_of, top_first}
-pub use Rattle.cp_machine.specs.Statements.{Stepped, arm_for, assign, branch, case_of, fault, gone_on, is_beyond, local, next_turn, next_value, outcome, show, succeeded}
+pub use Rattle.cp_machine.specs.Statements.{Stepped, arm_for, assign, branch, case_of, fault, gone_on, is_beyond, local, next_turn, next_value, outcome, show, successor_step}
 pub use Rattle.cp_machine.specs.Statements.{until, while_do, with_value}
 pub use Rattle.cp_machine.specs.Step.{act, is_local, step_at, take_top}
 pub use Rattle.cp_machine.specs.declared.event.Event.{Event}

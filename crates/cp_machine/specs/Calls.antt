@@ -21,9 +21,9 @@ use Rattle.cp_machine.specs.declared.process.Entry.{Entry}
 use Rattle.cp_machine.specs.declared.process.Entry.TheVariants.{Return, InitEnd}
 use Rattle.cp_machine.specs.declared.process.Status.TheVariants.{Ready}
 use Rattle.cp_machine.specs.declared.state.Phase.TheVariants.{Initialising, Initialised}
-use Rattle.cp_machine.specs.Kernel.{let_in, entered, delayed, continued, signalled}
+use Rattle.cp_machine.specs.Kernel.{let_in, enter_caller, delay_caller, resume, signal}
 use Rattle.cp_machine.specs.Machine.{Machine, Thread, thread_at, phase_at, is_initialised, is_uninitialised, is_unstarted, with_thread, with_stack, with_status, with_phase}
-use Rattle.cp_machine.specs.Memory.{component_of, arguments_of, frame_opened, frame_bound, parameters_bound, address_of}
+use Rattle.cp_machine.specs.Memory.{component_of, arguments_of, add_frame, frame_bound, parameters_bound, address_of}
 use Rattle.cp_machine.specs.Stack.{rest_of, from_end}
 use Rattle.cp_machine.specs.Statements.{Stepped, local, fault, with_value}
 
@@ -41,10 +41,10 @@ frame_behind r t routine component =
     }
 
 -- a frame for a routine in a component, whose statements stand above their end
-abbrev pub opened : Tables → Machine → (pid routine component : ℕ) → Entry → List Entry → Machine
-opened r m pid routine component end rest =
+abbrev pub open_frame : Tables → Machine → (pid routine component : ℕ) → Entry → List Entry → Machine
+open_frame r m pid routine component end rest =
     let t = thread_at m.threads pid in
-    with_thread m pid (frame_opened (record t { frame = frame_behind r t routine component; stack = rest_of (routine_at r routine).body (end ∷ rest) }) (routine_at r routine))
+    with_thread m pid (add_frame (record t { frame = frame_behind r t routine component; stack = rest_of (routine_at r routine).body (end ∷ rest) }) (routine_at r routine))
 
 -- the result is put in its place
 abbrev pub with_result : Option ℕ → ℤ → Frame → List ℤ → List ℤ
@@ -52,8 +52,8 @@ with_result None z caller cells = cells
 with_result (Some slot) z caller cells = slice_set cells (onward caller.base slot) z
 
 -- the innermost frame is given up, and the process goes on in the caller's; a function's result is taken from a cell of the frame
-abbrev pub given_up_from : Thread → Frame → (from : ℕ) → Option ℕ → List Entry → Thread
-given_up_from t caller from result es =
+abbrev pub give_up_from : Thread → Frame → (from : ℕ) → Option ℕ → List Entry → Thread
+give_up_from t caller from result es =
     record t {
       frame = caller;
       stack = es;
@@ -61,38 +61,38 @@ given_up_from t caller from result es =
       references = take t.frame.references t.references;
     }
 
-abbrev pub given_up : Tables → Thread → Frame → Option ℕ → List Entry → Thread
-given_up r t caller result es = given_up_from t caller (routine_at r t.frame.routine).result result es
+abbrev pub give_up_frame : Tables → Thread → Frame → Option ℕ → List Entry → Thread
+give_up_frame r t caller result es = give_up_from t caller (routine_at r t.frame.routine).result result es
 
-abbrev pub left : Tables → Machine → (pid : ℕ) → Frame → Option ℕ → List Entry → Machine
-left r m pid caller result es = with_thread m pid (given_up r (thread_at m.threads pid) caller result es)
+abbrev pub leave_frame : Tables → Machine → (pid : ℕ) → Frame → Option ℕ → List Entry → Machine
+leave_frame r m pid caller result es = with_thread m pid (give_up_frame r (thread_at m.threads pid) caller result es)
 
 -- ---- calls: the component's place comes first, then the arguments, then whether the component is initialised
 
 -- in a component; the end leaves the monitor, if there is one
-abbrev pub called : Tables → Machine → (pid routine component : ℕ) → List Argument → List Bound → (result monitor : Option ℕ) → List Entry → Machine
-called r m pid routine component arguments bounds result monitor rest =
-    frame_bound (opened r m pid routine component (Return (thread_at m.threads pid).frame result monitor) rest) pid arguments bounds
+abbrev pub open_call : Tables → Machine → (pid routine component : ℕ) → List Argument → List Bound → (result monitor : Option ℕ) → List Entry → Machine
+open_call r m pid routine component arguments bounds result monitor rest =
+    frame_bound (open_frame r m pid routine component (Return (thread_at m.threads pid).frame result monitor) rest) pid arguments bounds
 
 -- an entry of a monitor begins with the kernel's enter; a process has no entries
-abbrev pub called_in : Tables → Machine → (pid : ℕ) → ComponentKind → (routine component : ℕ) → List Argument → List Bound → Option ℕ → List Entry → Stepped
-called_in r m pid (kind.Monitor monitor) routine component arguments bounds result rest =
-    record { machine = entered (called r m pid routine component arguments bounds result (Some monitor) rest) pid monitor; event = Kernel Enter }
-called_in r m pid kind.Class routine component arguments bounds result rest = local (called r m pid routine component arguments bounds result None rest)
-called_in r m pid (kind.Process number) routine component arguments bounds result rest = local (with_stack m pid rest)
+abbrev pub call_in : Tables → Machine → (pid : ℕ) → ComponentKind → (routine component : ℕ) → List Argument → List Bound → Option ℕ → List Entry → Stepped
+call_in r m pid (kind.Monitor monitor) routine component arguments bounds result rest =
+    record { machine = enter_caller (open_call r m pid routine component arguments bounds result (Some monitor) rest) pid monitor; event = Kernel Enter }
+call_in r m pid kind.Class routine component arguments bounds result rest = local (open_call r m pid routine component arguments bounds result None rest)
+call_in r m pid (kind.Process number) routine component arguments bounds result rest = local (with_stack m pid rest)
 
-abbrev pub called_by : Tables → Machine → (pid line : ℕ) → (is_entry : Bool) → (routine component : ℕ) → List Argument → List Bound → Option ℕ → List Entry → Stepped
-called_by r m pid line false routine component arguments bounds result rest = local (called r m pid routine component arguments bounds result None rest)
-called_by r m pid line true routine component arguments bounds result rest =
+abbrev pub call_by : Tables → Machine → (pid line : ℕ) → (is_entry : Bool) → (routine component : ℕ) → List Argument → List Bound → Option ℕ → List Entry → Stepped
+call_by r m pid line false routine component arguments bounds result rest = local (open_call r m pid routine component arguments bounds result None rest)
+call_by r m pid line true routine component arguments bounds result rest =
     if is_initialised (phase_at m component)
-    then called_in r m pid (component_at r component).kind routine component arguments bounds result rest
+    then call_in r m pid (component_at r component).kind routine component arguments bounds result rest
     else fault m pid line NotInit
 
 abbrev pub call : Tables → Machine → (pid line routine : ℕ) → ComponentPlace → (is_entry : Bool) → List Argument → Option ℕ → List Entry → Stepped
 call r m pid line routine place is_entry arguments result rest =
     with_value (component_of m pid place) (fault m pid line)
     (λ component. with_value (arguments_of m pid arguments) (fault m pid line)
-    (λ bounds. called_by r m pid line is_entry routine component arguments bounds result rest))
+    (λ bounds. call_by r m pid line is_entry routine component arguments bounds result rest))
 
 -- ---- starts, in the same order
 
@@ -107,63 +107,63 @@ start_process r m pid line q component arguments bounds rest =
 abbrev pub start_inside : Tables → Machine → (pid line routine component : ℕ) → List Argument → List Bound → List Entry → Stepped
 start_inside r m pid line routine component arguments bounds rest =
     if is_uninitialised (phase_at m component)
-    then local (with_phase (parameters_bound (opened r m pid routine component (InitEnd (thread_at m.threads pid).frame component) rest) pid (component_at r component).base arguments bounds) component Initialising)
+    then local (with_phase (parameters_bound (open_frame r m pid routine component (InitEnd (thread_at m.threads pid).frame component) rest) pid (component_at r component).base arguments bounds) component Initialising)
     else fault m pid line InitTwice
 
-abbrev pub started : Tables → Machine → (pid line : ℕ) → ComponentKind → (routine component : ℕ) → List Argument → List Bound → List Entry → Stepped
-started r m pid line (kind.Process q) routine component arguments bounds rest = start_process r m pid line q component arguments bounds rest
-started r m pid line (kind.Monitor monitor) routine component arguments bounds rest = start_inside r m pid line routine component arguments bounds rest
-started r m pid line kind.Class routine component arguments bounds rest = start_inside r m pid line routine component arguments bounds rest
+abbrev pub start_by : Tables → Machine → (pid line : ℕ) → ComponentKind → (routine component : ℕ) → List Argument → List Bound → List Entry → Stepped
+start_by r m pid line (kind.Process q) routine component arguments bounds rest = start_process r m pid line q component arguments bounds rest
+start_by r m pid line (kind.Monitor monitor) routine component arguments bounds rest = start_inside r m pid line routine component arguments bounds rest
+start_by r m pid line kind.Class routine component arguments bounds rest = start_inside r m pid line routine component arguments bounds rest
 
 abbrev pub start : Tables → Machine → (pid line : ℕ) → ComponentPlace → (routine : ℕ) → List Argument → List Entry → Stepped
 start r m pid line place routine arguments rest =
     with_value (component_of m pid place) (fault m pid line)
     (λ component. with_value (arguments_of m pid arguments) (fault m pid line)
-    (λ bounds. started r m pid line (component_at r component).kind routine component arguments bounds rest))
+    (λ bounds. start_by r m pid line (component_at r component).kind routine component arguments bounds rest))
 
 -- ---- ends
 
 -- the end of a call: that of a monitor's entry is the kernel's leave
-abbrev pub returned : Tables → Machine → (pid : ℕ) → Frame → (result monitor : Option ℕ) → List Entry → Stepped
-returned r m pid caller result None es = local (left r m pid caller result es)
-returned r m pid caller result (Some monitor) es = record { machine = let_in (left r m pid caller result es) monitor; event = Kernel Leave }
+abbrev pub return_to : Tables → Machine → (pid : ℕ) → Frame → (result monitor : Option ℕ) → List Entry → Stepped
+return_to r m pid caller result None es = local (leave_frame r m pid caller result es)
+return_to r m pid caller result (Some monitor) es = record { machine = let_in (leave_frame r m pid caller result es) monitor; event = Kernel Leave }
 
 -- the end of an initial statement: the component is initialised
-abbrev pub init_ended : Tables → Machine → (pid : ℕ) → Frame → (component : ℕ) → List Entry → Stepped
-init_ended r m pid caller component es = local (with_phase (left r m pid caller None es) component Initialised)
+abbrev pub end_init : Tables → Machine → (pid : ℕ) → Frame → (component : ℕ) → List Entry → Stepped
+end_init r m pid caller component es = local (with_phase (leave_frame r m pid caller None es) component Initialised)
 
 -- ---- delay and continue, in a monitor; what no accepted program does is passed over
 
-abbrev pub delayed_in : Machine → (pid line cell : ℕ) → ComponentKind → List Entry → Stepped
-delayed_in m pid line cell (kind.Monitor monitor) rest =
+abbrev pub delay_in : Machine → (pid line cell : ℕ) → ComponentKind → List Entry → Stepped
+delay_in m pid line cell (kind.Monitor monitor) rest =
     if is_true (slice_index_or m.permanents cell (pos 0)) then fault m pid line QueueInUse
-    else record { machine = delayed (with_stack m pid rest) pid monitor cell; event = Kernel Delay }
-delayed_in m pid line cell kind.Class rest = local (with_stack m pid rest)
-delayed_in m pid line cell (kind.Process number) rest = local (with_stack m pid rest)
+    else record { machine = delay_caller (with_stack m pid rest) pid monitor cell; event = Kernel Delay }
+delay_in m pid line cell kind.Class rest = local (with_stack m pid rest)
+delay_in m pid line cell (kind.Process number) rest = local (with_stack m pid rest)
 
 abbrev pub delay_at : Tables → Machine → (pid line : ℕ) → List Entry → Address → Stepped
-delay_at r m pid line rest (address.Permanent cell) = delayed_in m pid line cell (component_at r (thread_at m.threads pid).frame.component).kind rest
+delay_at r m pid line rest (address.Permanent cell) = delay_in m pid line cell (component_at r (thread_at m.threads pid).frame.component).kind rest
 delay_at r m pid line rest (address.Local cell) = local (with_stack m pid rest)
 
 abbrev pub delay : Tables → Machine → (pid line : ℕ) → Place → List Entry → Stepped
 delay r m pid line place rest = with_value (address_of m pid place) (fault m pid line) (delay_at r m pid line rest)
 
 -- the end of the entry is on top: it returns, and the kernel goes on
-abbrev pub continued_from : Tables → Machine → (pid cell : ℕ) → List Entry → Stepped
-continued_from r m pid cell (Return caller result (Some monitor) ∷ es) =
-    record { machine = continued (left r m pid caller result es) monitor cell; event = Kernel Continue }
-continued_from r m pid cell _ = local m
+abbrev pub continue_from : Tables → Machine → (pid cell : ℕ) → List Entry → Stepped
+continue_from r m pid cell (Return caller result (Some monitor) ∷ es) =
+    record { machine = resume (leave_frame r m pid caller result es) monitor cell; event = Kernel Continue }
+continue_from r m pid cell _ = local m
 
 -- the statement alone is removed, and the kernel goes on
-abbrev pub continued_in : Machine → (pid cell : ℕ) → ComponentKind → List Entry → Stepped
-continued_in m pid cell (kind.Monitor monitor) rest = record { machine = signalled (with_stack m pid rest) pid monitor cell; event = Kernel Continue }
-continued_in m pid cell kind.Class rest = local (with_stack m pid rest)
-continued_in m pid cell (kind.Process number) rest = local (with_stack m pid rest)
+abbrev pub continue_in : Machine → (pid cell : ℕ) → ComponentKind → List Entry → Stepped
+continue_in m pid cell (kind.Monitor monitor) rest = record { machine = signal (with_stack m pid rest) pid monitor cell; event = Kernel Continue }
+continue_in m pid cell kind.Class rest = local (with_stack m pid rest)
+continue_in m pid cell (kind.Process number) rest = local (with_stack m pid rest)
 
 -- by the discipline: the rest of the entry is removed, or the statement alone
 abbrev pub continue_by : Signals → Tables → Machine → (pid cell : ℕ) → (next : Option ℕ) → List Entry → Stepped
-continue_by signals.Return r m pid cell next es = continued_from r (with_stack m pid (from_end es)) pid cell (from_end es)
-continue_by _ r m pid cell next es = continued_in m pid cell (component_at r (thread_at m.threads pid).frame.component).kind (rest_of next es)
+continue_by signals.Return r m pid cell next es = continue_from r (with_stack m pid (from_end es)) pid cell (from_end es)
+continue_by _ r m pid cell next es = continue_in m pid cell (component_at r (thread_at m.threads pid).frame.component).kind (rest_of next es)
 
 abbrev pub continue_at : Tables → Machine → (pid : ℕ) → (next : Option ℕ) → List Entry → Address → Stepped
 continue_at r m pid next es (address.Permanent cell) = continue_by m.discipline.signals r m pid cell next es

@@ -11,7 +11,7 @@ use Rattle.cp_store.specs.declared.argument.Bound.{Bound}
 use Rattle.cp_store.specs.declared.error.ErrorName.{ErrorName}
 use Rattle.cp_store.specs.declared.memory.Address.{Address}
 use Rattle.cp_store.specs.declared.set.SetValue.{SetValue}
-use Rattle.cp_store.specs.Arguments.{bounds_at, bound_in_frame, bound_in_component, bindings_after}
+use Rattle.cp_store.specs.Arguments.{bounds_at, bind_frame, bind_component, bindings_after}
 use Rattle.cp_store.specs.Components as components
 use Rattle.cp_store.specs.Memory.{Memory, nowhere, put_number, put_copy}
 use Rattle.cp_store.specs.Places.{value_at, set_at, address_at, origin_address}
@@ -63,17 +63,17 @@ cells_put m pid to from size = with_memory m pid (put_copy (memory_at m pid) to 
 -- ---- frames and parameters
 
 -- a frame more for a routine
-abbrev pub frame_opened : Thread → RoutineView → Thread
-frame_opened t routine = record t { cells = t.cells ++ routine.image; references = t.references ++ replicate routine.references nowhere }
+abbrev pub add_frame : Thread → RoutineView → Thread
+add_frame t routine = record t { cells = t.cells ++ routine.image; references = t.references ++ replicate routine.references nowhere }
 
 -- the parameters of the frame that the process executes are bound
 abbrev pub frame_bound : Machine → ℕ → List Argument → List Bound → Machine
-frame_bound m pid arguments bounds = with_memory m pid (bound_in_frame (memory_at m pid) (thread_at m.threads pid).frame arguments bounds)
+frame_bound m pid arguments bounds = with_memory m pid (bind_frame (memory_at m pid) (thread_at m.threads pid).frame arguments bounds)
 
 -- the parameters of a component are bound, whose permanent cells begin at base
 abbrev pub parameters_bound : Machine → ℕ → (base : ℕ) → List Argument → List Bound → Machine
 parameters_bound m pid base arguments bounds =
-    with_bindings (with_memory m pid (bound_in_component (memory_at m pid) base arguments bounds)) (bindings_after m.bindings base arguments bounds)
+    with_bindings (with_memory m pid (bind_component (memory_at m pid) base arguments bounds)) (bindings_after m.bindings base arguments bounds)
 
 -- no parameter is bound to a component
 abbrev pub no_bindings : ℕ → List ℕ

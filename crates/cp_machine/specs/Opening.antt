@@ -6,14 +6,14 @@ use Rattle.cp_machine.specs.declared.discipline.Discipline.{Discipline}
 use Rattle.cp_machine.specs.declared.process.Status.TheVariants.{Unstarted, Ready}
 use Rattle.cp_machine.specs.declared.state.Phase.TheVariants.{Uninitialised}
 use Rattle.cp_machine.specs.Machine.{Machine, Thread, monitor_at, no_monitor, with_status, with_monitor, with_pending}
-use Rattle.cp_machine.specs.Memory.{frame_opened, no_bindings}
+use Rattle.cp_machine.specs.Memory.{add_frame, no_bindings}
 use Rattle.cp_machine.specs.Stack.{rest_of}
 
 -- ---- the opening state
 
 abbrev pub unstarted_thread : Tables → slots.Process → Thread
 unstarted_thread r p =
-    frame_opened
+    add_frame
     (record {
       status = Unstarted;
       frame = record { routine = p.routine; component = p.component; own = (component_at r p.component).base; base = 0; references = 0 };
@@ -50,10 +50,10 @@ remove_at (Some place) line = remove line place
 abbrev pub without : ℕ → List ℕ → List ℕ
 without pid line = remove_at (position (λ q. q == pid) line) line
 
-abbrev pub admitted_at : Option ℕ → Machine → ℕ → Machine
-admitted_at None m pid = m
-admitted_at (Some monitor) m pid = with_pending (with_monitor (with_status m pid Ready) monitor (record { holder = Some pid; line = without pid (monitor_at m monitor).line })) None
+abbrev pub admit_at : Option ℕ → Machine → ℕ → Machine
+admit_at None m pid = m
+admit_at (Some monitor) m pid = with_pending (with_monitor (with_status m pid Ready) monitor (record { holder = Some pid; line = without pid (monitor_at m monitor).line })) None
 
 -- a process of the pending monitor's line goes in and is ready, and nothing is pending
-abbrev pub admitted : Machine → ℕ → Machine
-admitted m pid = admitted_at m.pending m pid
+abbrev pub admit_waiting : Machine → ℕ → Machine
+admit_waiting m pid = admit_at m.pending m pid

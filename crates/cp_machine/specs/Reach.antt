@@ -16,8 +16,8 @@ use Rattle.cp_store.specs.declared.memory.Address.TheVariants.{Permanent, Local}
 use Rattle.cp_store.specs.declared.memory.Frame.{Frame}
 use Rattle.cp_store.specs.declared.argument.Bound.{Bound}
 use Rattle.cp_store.specs.Inside as store
-use Rattle.cp_store.specs.Memory.{opened}
-use Rattle.cp_store.specs.Places.{referred}
+use Rattle.cp_store.specs.Memory.{open_frame}
+use Rattle.cp_store.specs.Places.{reference_at}
 use Rattle.cp_machine.specs.declared.process.Entry.{Entry}
 use Rattle.cp_machine.specs.declared.process.Entry.TheVariants.{Rest, Successor, Return, InitEnd}
 use Rattle.cp_machine.specs.Calls.{frame_behind}
@@ -40,7 +40,7 @@ pub record FrameReaches (r : Tables) (references : List Address) (f : Frame) : T
   pub component : IsOf r (routine_at r f.routine).system f.component
   pub own : f.own ≡ (component_at r f.component).base
   pub behind : (k : ℕ) → k < length (routine_at r f.routine).extents →
-      IsBehind r f (referred references (f.references + k)) (slice_index_or (routine_at r f.routine).extents k 0)
+      IsBehind r f (reference_at references (f.references + k)) (slice_index_or (routine_at r f.routine).extents k 0)
 
 -- a function's result is a cell of its frame, and is put into a cell of its caller's
 abbrev pub ResultReaches : Tables → (f caller : Frame) → Option ℕ → Type 0
@@ -153,7 +153,7 @@ FitsOwn m pid arguments bounds = store.AllFitFrame (memory_at m pid) (frame_at m
 -- those of a frame that it opens for a routine
 abbrev pub FitsNew : Tables → Machine → (pid routine component : ℕ) → List Argument → List Bound → Type 0
 FitsNew r m pid routine component arguments bounds =
-    store.AllFitFrame (opened (memory_at m pid) (routine_at r routine).image (routine_at r routine).references) (frame_behind r (thread_at m.threads pid) routine component) arguments bounds
+    store.AllFitFrame (open_frame (memory_at m pid) (routine_at r routine).image (routine_at r routine).references) (frame_behind r (thread_at m.threads pid) routine component) arguments bounds
 
 -- those of a component
 abbrev pub FitsComponent : Tables → Machine → (pid component : ℕ) → List Argument → List Bound → Type 0

@@ -19,7 +19,7 @@ use Rattle.cp_store.specs.declared.error.ErrorName.TheVariants.{NoCase, Assertio
 use Rattle.cp_store.specs.declared.memory.Address.{Address}
 use Rattle.cp_store.specs.declared.set.SetValue.{SetValue}
 use Rattle.cp_store.specs.Sets as sets
-use Rattle.cp_store.specs.Values.{is_true, ranged, successor, predecessor}
+use Rattle.cp_store.specs.Values.{is_true, check_range, successor, predecessor}
 use Rattle.cp_machine.specs.declared.event.Event.{Event}
 use Rattle.cp_machine.specs.declared.event.Event.TheVariants.{Local, Kernel, Fault, OutputFull}
 use Rattle.cp_machine.specs.declared.event.Kernel.TheVariants.{Display}
@@ -56,21 +56,21 @@ with_value (Err e) failed go = failed e
 
 -- ---- assignments: the right side first, then the place, and the range last. `rest` is what follows
 
-abbrev pub assigned : Machine → (pid line : ℕ) → (low high : ℤ) → List Entry → ℤ → Address → Stepped
-assigned m pid line low high rest v a = with_value (ranged low high v) (fault m pid line) (λ w. local (number_put (with_stack m pid rest) pid a w))
+abbrev pub assign_number : Machine → (pid line : ℕ) → (low high : ℤ) → List Entry → ℤ → Address → Stepped
+assign_number m pid line low high rest v a = with_value (check_range low high v) (fault m pid line) (λ w. local (number_put (with_stack m pid rest) pid a w))
 
 abbrev pub assign : Machine → (pid line : ℕ) → Place → OrdinalExpression → (low high : ℤ) → List Entry → Stepped
 assign m pid line target value low high rest =
     with_value (value_of m pid value) (fault m pid line)
-    (λ v. with_value (address_of m pid target) (fault m pid line) (assigned m pid line low high rest v))
+    (λ v. with_value (address_of m pid target) (fault m pid line) (assign_number m pid line low high rest v))
 
-abbrev pub set_assigned : Machine → (pid line : ℕ) → (low high : ℕ) → List Entry → SetValue → Address → Stepped
-set_assigned m pid line low high rest v a = with_value (sets.ranged low high v) (fault m pid line) (λ w. local (set_put (with_stack m pid rest) pid a w))
+abbrev pub assign_set_value : Machine → (pid line : ℕ) → (low high : ℕ) → List Entry → SetValue → Address → Stepped
+assign_set_value m pid line low high rest v a = with_value (sets.check_members low high v) (fault m pid line) (λ w. local (set_put (with_stack m pid rest) pid a w))
 
 abbrev pub assign_set : Machine → (pid line : ℕ) → Place → SetExpression → (low high : ℕ) → List Entry → Stepped
 assign_set m pid line target value low high rest =
     with_value (set_of m pid value) (fault m pid line)
-    (λ v. with_value (address_of m pid target) (fault m pid line) (set_assigned m pid line low high rest v))
+    (λ v. with_value (address_of m pid target) (fault m pid line) (assign_set_value m pid line low high rest v))
 
 -- an array or a record
 abbrev pub copy : Machine → (pid line : ℕ) → (target source : Place) → (size : ℕ) → List Entry → Stepped
@@ -142,7 +142,7 @@ next_value down low high z = if down then predecessor low z else successor high 
 abbrev pub for_from : Machine → (pid line at : ℕ) → PlaceOrigin → (low high : ℤ) → Bool → (list next : Option ℕ) → List Entry → (first last : ℤ) → Stepped
 for_from m pid line at variable low high down list next es first last =
     if is_beyond down first last then local (with_stack m pid (rest_of next es))
-    else with_value (ranged low high first) (fault m pid line) (λ v. local (gone_on m pid at variable list es last v))
+    else with_value (check_range low high first) (fault m pid line) (λ v. local (gone_on m pid at variable list es last v))
 
 abbrev pub for_do : Machine → (pid line at : ℕ) → PlaceOrigin → (low high : ℤ) → (first last : OrdinalExpression) → Bool → (list next : Option ℕ) → List Entry → Stepped
 for_do m pid line at variable low high first last down list next es =
@@ -156,10 +156,10 @@ next_turn m pid line at variable low high down list next es z last =
     else with_value (next_value down low high z) (fault m pid line) (λ v. local (gone_on m pid at variable list es last v))
 
 -- the item of a successor is a `for`; another one is passed over
-abbrev pub succeeded : Machine → (pid at : ℕ) → Item → Action → List Entry → (z last : ℤ) → Stepped
-succeeded m pid at item (For variable low high first end down list) es z last =
+abbrev pub successor_step : Machine → (pid at : ℕ) → Item → Action → List Entry → (z last : ℤ) → Stepped
+successor_step m pid at item (For variable low high first end down list) es z last =
     next_turn m pid item.line at variable low high down list item.next es z last
-succeeded m pid at item _ es z last = local (with_stack m pid (rest_of item.next es))
+successor_step m pid at item _ es z last = local (with_stack m pid (rest_of item.next es))
 
 -- ---- display
 

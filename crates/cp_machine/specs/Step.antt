@@ -9,10 +9,10 @@ use Rattle.cp_machine.specs.declared.event.Event.TheVariants.{Local, Ended as Ov
 use Rattle.cp_machine.specs.declared.process.Entry.{Entry}
 use Rattle.cp_machine.specs.declared.process.Entry.TheVariants.{Rest, Successor, Return, InitEnd}
 use Rattle.cp_machine.specs.declared.process.Status.TheVariants.{Ended}
-use Rattle.cp_machine.specs.Calls.{call, start, delay, continue, returned, init_ended}
+use Rattle.cp_machine.specs.Calls.{call, start, delay, continue, return_to, end_init}
 use Rattle.cp_machine.specs.Machine.{Machine, thread_at, with_stack, with_status}
 use Rattle.cp_machine.specs.Stack.{rest_of}
-use Rattle.cp_machine.specs.Statements.{Stepped, local, assign, assign_set, copy, branch, case_of, assert_that, while_do, until, for_do, succeeded, display}
+use Rattle.cp_machine.specs.Statements.{Stepped, local, assign, assign_set, copy, branch, case_of, assert_that, while_do, until, for_do, successor_step, display}
 
 -- an item is taken: `at` is its number, and `es` stands below it
 abbrev pub act : Tables → Machine → (pid at : ℕ) → Item → Action → List Entry → Stepped
@@ -55,11 +55,11 @@ abbrev pub take_top : Tables → Machine → (pid : ℕ) → List Entry → Step
 take_top r m pid [] = record { machine = with_status m pid Ended; event = Over }
 take_top r m pid (Rest at ∷ es) = act r m pid at (item_at r at) (item_at r at).action es
 -- successor of a value
-take_top r m pid (Successor at z last ∷ es) = succeeded m pid at (item_at r at) (item_at r at).action es z last
+take_top r m pid (Successor at z last ∷ es) = successor_step m pid at (item_at r at) (item_at r at).action es z last
 -- return
-take_top r m pid (Return caller result monitor ∷ es) = returned r m pid caller result monitor es
+take_top r m pid (Return caller result monitor ∷ es) = return_to r m pid caller result monitor es
 -- init end
-take_top r m pid (InitEnd caller component ∷ es) = init_ended r m pid caller component es
+take_top r m pid (InitEnd caller component ∷ es) = end_init r m pid caller component es
 
 -- one step of a process
 abbrev pub step_at : Tables → Machine → ℕ → Stepped

@@ -4,7 +4,7 @@ ghost use Rattle.std.specs.Prelude.{◌≡◌, ◌<◌, ◌==◌, IfSome, length
 ghost use Rattle.cp_slots.specs.Tables.{Tables};
 ghost use Rattle.cp_machine.specs.Fits.{IsReserved};
 ghost use Rattle.cp_machine.specs.Machine.{machine_of, monitor_of};
-ghost use Rattle.cp_machine.specs.Opening.{admitted, without};
+ghost use Rattle.cp_machine.specs.Opening.{admit_waiting, without};
 
 use crate::memory::set_status;
 use crate::process::Status;
@@ -15,7 +15,7 @@ use arrayvec::ArrayVec;
 pub fn admit_process(state: &mut State, pid: u8)
     requires pid { pid < length state.old.processes.items }
     requires gate { IfSome state.old.pending (λ monitor. monitor < length state.old.guards.items) }
-    ensures after { machine_of state.new ≡ admitted (machine_of state.old) pid }
+    ensures after { machine_of state.new ≡ admit_waiting (machine_of state.old) pid }
     ensures reserved { (r : Tables) → IsReserved r state.old → IsReserved r state.new }
 {
     if let Some(monitor) = state.pending {

@@ -46,7 +46,7 @@ fn open_call(
     requires count { length state.old.bounds.items ≡ length arguments.now }
     requires fit { FitsNew program.now (machine_of state.old) pid callee.routine component arguments.now state.old.bounds.items }
     requires there { component < length program.now.components }
-    ensures after { machine_of state.new ≡ spec.called program.now (machine_of state.old) pid callee.routine component arguments.now state.old.bounds.items callee.result monitor (rest_of item.now.next (under (machine_of state.old) pid)) }
+    ensures after { machine_of state.new ≡ spec.open_call program.now (machine_of state.old) pid callee.routine component arguments.now state.old.bounds.items callee.result monitor (rest_of item.now.next (under (machine_of state.old) pid)) }
     ensures reserved { (r : Tables) → IsReserved r state.old → IsReserved r state.new }
 {
     let end = Entry::Return(frame_of(state, pid), callee.result, monitor);
@@ -82,7 +82,7 @@ fn call_monitor(
     requires monitor { monitor < length state.old.guards.items }
     requires line { HaveGateRoom (machine_of state.old) }
     requires there { component < length program.now.components }
-    ensures after { spec.called_in program.now (machine_of state.old) pid (ComponentKind.Monitor monitor) callee.routine component arguments.now state.old.bounds.items callee.result (rest_of item.now.next (under (machine_of state.old) pid)) ≡ record { machine = machine_of state.new; event = result } }
+    ensures after { spec.call_in program.now (machine_of state.old) pid (ComponentKind.Monitor monitor) callee.routine component arguments.now state.old.bounds.items callee.result (rest_of item.now.next (under (machine_of state.old) pid)) ≡ record { machine = machine_of state.new; event = result } }
     ensures reserved { (r : Tables) → IsReserved r state.old → IsReserved r state.new }
 {
     open_call(
@@ -119,7 +119,7 @@ fn call_entry(
     requires sound { IsSound program.now }
     requires line { HaveGateRoom (machine_of state.old) }
     requires there { component < length program.now.components }
-    ensures after { spec.called_in program.now (machine_of state.old) pid (component_at program.now component).kind callee.routine component arguments.now state.old.bounds.items callee.result (rest_of item.now.next (under (machine_of state.old) pid)) ≡ record { machine = machine_of state.new; event = result } }
+    ensures after { spec.call_in program.now (machine_of state.old) pid (component_at program.now component).kind callee.routine component arguments.now state.old.bounds.items callee.result (rest_of item.now.next (under (machine_of state.old) pid)) ≡ record { machine = machine_of state.new; event = result } }
     ensures reserved { (r : Tables) → IsReserved r state.old → IsReserved r state.new }
 {
     match program.component(component).kind {
@@ -179,7 +179,7 @@ fn call_by(
     requires sound { IsSound program.now }
     requires line { HaveGateRoom (machine_of state.old) }
     requires there { component < length program.now.components }
-    ensures after { spec.called_by program.now (machine_of state.old) pid item.now.line callee.is_entry callee.routine component arguments.now state.old.bounds.items callee.result (rest_of item.now.next (under (machine_of state.old) pid)) ≡ statements.outcome result (machine_of state.new) pid item.now.line }
+    ensures after { spec.call_by program.now (machine_of state.old) pid item.now.line callee.is_entry callee.routine component arguments.now state.old.bounds.items callee.result (rest_of item.now.next (under (machine_of state.old) pid)) ≡ statements.outcome result (machine_of state.new) pid item.now.line }
     ensures reserved { (r : Tables) → IsReserved r state.old → IsReserved r state.new }
 {
     if !callee.is_entry {

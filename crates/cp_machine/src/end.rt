@@ -31,7 +31,7 @@ pub fn return_to(
     requires result { HasResult (thread_at (machine_of state.old).threads pid) caller (routine_at program.now (thread_at (machine_of state.old).threads pid).frame.routine).result slot }
     requires monitor { IfSome monitor (λ number. number < length state.old.guards.items) }
     requires lines { AreFirstKnown (machine_of state.old) }
-    ensures after { spec.returned program.now (machine_of state.old) pid caller slot monitor (under (machine_of state.old) pid) ≡ record { machine = machine_of state.new; event = result } }
+    ensures after { spec.return_to program.now (machine_of state.old) pid caller slot monitor (under (machine_of state.old) pid) ≡ record { machine = machine_of state.new; event = result } }
     ensures reserved { (r : Tables) → IsReserved r state.old → IsReserved r state.new }
 {
     leave(program, state, pid, caller, slot);
@@ -50,7 +50,7 @@ pub fn end_init(program: &Resolved, state: &mut State, pid: u8, caller: Frame, c
     requires pid { pid < length state.old.processes.items }
     requires routine { (thread_at (machine_of state.old).threads pid).frame.routine < length program.now.routines }
     requires known { component < length state.old.phases.items }
-    ensures after { spec.init_ended program.now (machine_of state.old) pid caller component (under (machine_of state.old) pid) ≡ statements.local (machine_of state.new) }
+    ensures after { spec.end_init program.now (machine_of state.old) pid caller component (under (machine_of state.old) pid) ≡ statements.local (machine_of state.new) }
     ensures reserved { (r : Tables) → IsReserved r state.old → IsReserved r state.new }
 {
     leave(program, state, pid, caller, None);

@@ -31,7 +31,7 @@ pub fn open(
     requires routine { routine < length program.now.routines }
     requires room { HasCallRoom program.now state.old.processes.items pid routine }
     requires there { component < length program.now.components }
-    ensures after { machine_of state.new ≡ spec.opened program.now (machine_of state.old) pid routine component end (rest_of next (under (machine_of state.old) pid)) }
+    ensures after { machine_of state.new ≡ spec.open_frame program.now (machine_of state.old) pid routine component end (rest_of next (under (machine_of state.old) pid)) }
     ensures bounds { state.new.bounds ≡ state.old.bounds }
     ensures reserved { (r : Tables) → IsReserved r state.old → IsReserved r state.new }
 {
@@ -65,7 +65,7 @@ fn close_with_result(room: &mut Room, frame: Frame, from: usize, to: usize)
 // The innermost frame of a process is given up with the end of its call.
 fn give_up(process: &mut ProcessState, caller: Frame, from: usize, slot: Option<usize>)
     requires result { HasResult (thread_of process.old) caller from slot }
-    ensures after { thread_of process.new ≡ spec.given_up_from (thread_of process.old) caller from slot (drop 1 (thread_of process.old).stack) }
+    ensures after { thread_of process.new ≡ spec.give_up_from (thread_of process.old) caller from slot (drop 1 (thread_of process.old).stack) }
     ensures stack { vec_capacity process.old.stack ≤ vec_capacity process.new.stack }
     ensures room { KeepsRoom process.old.room process.new.room }
 {
@@ -83,7 +83,7 @@ pub fn leave(program: &Resolved, state: &mut State, pid: u8, caller: Frame, slot
     requires pid { pid < length state.old.processes.items }
     requires routine { (thread_at (machine_of state.old).threads pid).frame.routine < length program.now.routines }
     requires result { HasResult (thread_at (machine_of state.old).threads pid) caller (routine_at program.now (thread_at (machine_of state.old).threads pid).frame.routine).result slot }
-    ensures after { machine_of state.new ≡ spec.left program.now (machine_of state.old) pid caller slot (under (machine_of state.old) pid) }
+    ensures after { machine_of state.new ≡ spec.leave_frame program.now (machine_of state.old) pid caller slot (under (machine_of state.old) pid) }
     ensures reserved { (r : Tables) → IsReserved r state.old → IsReserved r state.new }
 {
     let callee = program.routine(frame_of(state, pid).routine);

@@ -72,7 +72,7 @@ pub fn enter(state: &mut State, pid: u8, monitor: u8)
     requires pid { pid < length state.old.processes.items }
     requires gate { monitor < length state.old.guards.items }
     requires line { HaveGateRoom (machine_of state.old) }
-    ensures after { machine_of state.new ≡ spec.entered (machine_of state.old) pid monitor }
+    ensures after { machine_of state.new ≡ spec.enter_caller (machine_of state.old) pid monitor }
     ensures reserved { (r : Tables) → IsReserved r state.old → IsReserved r state.new }
 {
     let guard = &mut state.guards[monitor as usize];
@@ -91,7 +91,7 @@ pub fn delay(state: &mut State, pid: u8, monitor: u8, cell: usize)
     requires gate { monitor < length state.old.guards.items }
     requires cell { cell < length state.old.permanents.items }
     requires lines { AreFirstKnown (machine_of state.old) }
-    ensures after { machine_of state.new ≡ spec.delayed (machine_of state.old) pid monitor cell }
+    ensures after { machine_of state.new ≡ spec.delay_caller (machine_of state.old) pid monitor cell }
     ensures reserved { (r : Tables) → IsReserved r state.old → IsReserved r state.new }
 {
     mark_queue(&mut state.permanents, cell, 1);
@@ -104,7 +104,7 @@ pub fn resume(state: &mut State, monitor: u8, cell: usize)
     requires gate { monitor < length state.old.guards.items }
     requires cell { cell < length state.old.permanents.items }
     requires lines { AreFirstKnown (machine_of state.old) }
-    ensures after { machine_of state.new ≡ spec.continued (machine_of state.old) monitor cell }
+    ensures after { machine_of state.new ≡ spec.resume (machine_of state.old) monitor cell }
     ensures reserved { (r : Tables) → IsReserved r state.old → IsReserved r state.new }
 {
     let waiter = waiter_of(state, cell);
@@ -133,7 +133,7 @@ pub fn signal(state: &mut State, pid: u8, monitor: u8, cell: usize)
     requires gate { monitor < length state.old.guards.items }
     requires cell { cell < length state.old.permanents.items }
     requires line { HaveGateRoom (machine_of state.old) }
-    ensures after { machine_of state.new ≡ spec.signalled (machine_of state.old) pid monitor cell }
+    ensures after { machine_of state.new ≡ spec.signal (machine_of state.old) pid monitor cell }
     ensures reserved { (r : Tables) → IsReserved r state.old → IsReserved r state.new }
 {
     let waiter = waiter_of(state, cell);
@@ -149,7 +149,7 @@ fn bring_to_gate(state: &mut State, pid: u8, monitor: u8, resumed: u8)
     requires resumed { resumed < length state.old.processes.items }
     requires gate { monitor < length state.old.guards.items }
     requires line { HaveGateRoom (machine_of state.old) }
-    ensures after { machine_of state.new ≡ spec.signalled_by state.old.discipline.signals (Some resumed) (machine_of state.old) pid monitor }
+    ensures after { machine_of state.new ≡ spec.signal_by state.old.discipline.signals (Some resumed) (machine_of state.old) pid monitor }
     ensures reserved { (r : Tables) → IsReserved r state.old → IsReserved r state.new }
 {
     match state.discipline.signals {
@@ -163,7 +163,7 @@ fn join_line(state: &mut State, monitor: u8, pid: u8)
     requires pid { pid < length state.old.processes.items }
     requires gate { monitor < length state.old.guards.items }
     requires line { HaveGateRoom (machine_of state.old) }
-    ensures after { machine_of state.new ≡ spec.joined (machine_of state.old) monitor pid }
+    ensures after { machine_of state.new ≡ spec.join_line (machine_of state.old) monitor pid }
     ensures reserved { (r : Tables) → IsReserved r state.old → IsReserved r state.new }
 {
     let guard = &mut state.guards[monitor as usize];
@@ -177,7 +177,7 @@ fn change_places(state: &mut State, monitor: u8, caller: u8, resumed: u8)
     requires resumed { resumed < length state.old.processes.items }
     requires gate { monitor < length state.old.guards.items }
     requires line { HaveGateRoom (machine_of state.old) }
-    ensures after { machine_of state.new ≡ spec.changed_places (machine_of state.old) monitor caller resumed }
+    ensures after { machine_of state.new ≡ spec.change_places (machine_of state.old) monitor caller resumed }
     ensures reserved { (r : Tables) → IsReserved r state.old → IsReserved r state.new }
 {
     let guard = &mut state.guards[monitor as usize];

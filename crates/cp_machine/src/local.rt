@@ -4,7 +4,7 @@ ghost use Rattle.std.specs.Prelude.{◌≡◌, ◌+◌, ◌<◌, ◌∷◌, Ok, 
 ghost use Rattle.cp_slots.specs.Tables.{item_at};
 ghost use Rattle.cp_machine.specs.Fits.{IsReserved, IsStateOf, IsTaken};
 ghost use Rattle.cp_machine.specs.Machine.{is_pending, is_ready, machine_of, thread_at, under};
-ghost use Rattle.cp_machine.specs.Statements.{local, succeeded};
+ghost use Rattle.cp_machine.specs.Statements.{local, successor_step};
 ghost use Rattle.cp_machine.specs.Step.{act, step_at};
 ghost use Rattle.cp_machine.specs.declared.event.Event.TheVariants.{Local};
 
@@ -131,7 +131,7 @@ fn take_local_successor(
     requires own { IsStateOf program.now state.old }
     requires pid { pid < length state.old.processes.items }
     requires top { (thread_at (machine_of state.old).threads pid).stack ≡ Entry.Successor at value last ∷ under (machine_of state.old) pid }
-    ensures taken { result ≡ true → succeeded (machine_of state.old) pid at (item_at program.now at) (item_at program.now at).action (under (machine_of state.old) pid) value last ≡ local (machine_of state.new) }
+    ensures taken { result ≡ true → successor_step (machine_of state.old) pid at (item_at program.now at) (item_at program.now at).action (under (machine_of state.old) pid) value last ≡ local (machine_of state.new) }
     ensures same { result ≡ false → machine_of state.new ≡ machine_of state.old }
     ensures pending { (machine_of state.new).pending ≡ (machine_of state.old).pending }
     ensures reserved { IsReserved program.now state.new }

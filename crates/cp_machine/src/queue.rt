@@ -35,7 +35,7 @@ fn delay_in(
     requires cell { cell < length state.old.permanents.items }
     requires monitor { monitor < length state.old.guards.items }
     requires lines { AreFirstKnown (machine_of state.old) }
-    ensures after { spec.delayed_in (machine_of state.old) pid item.now.line cell (ComponentKind.Monitor monitor) (rest_of item.now.next (under (machine_of state.old) pid)) ≡ statements.outcome result (machine_of state.new) pid item.now.line }
+    ensures after { spec.delay_in (machine_of state.old) pid item.now.line cell (ComponentKind.Monitor monitor) (rest_of item.now.next (under (machine_of state.old) pid)) ≡ statements.outcome result (machine_of state.new) pid item.now.line }
     ensures reserved { (r : Tables) → IsReserved r state.old → IsReserved r state.new }
 {
     if is_true(state.permanents[cell]) {
@@ -61,7 +61,7 @@ fn delay_at(
     requires sound { IsSound program.now }
     requires component { (thread_at (machine_of state.old).threads pid).frame.component < length program.now.components }
     requires lines { AreFirstKnown (machine_of state.old) }
-    ensures after { spec.delayed_in (machine_of state.old) pid item.now.line cell (component_at program.now (thread_at (machine_of state.old).threads pid).frame.component).kind (rest_of item.now.next (under (machine_of state.old) pid)) ≡ statements.outcome result (machine_of state.new) pid item.now.line }
+    ensures after { spec.delay_in (machine_of state.old) pid item.now.line cell (component_at program.now (thread_at (machine_of state.old).threads pid).frame.component).kind (rest_of item.now.next (under (machine_of state.old) pid)) ≡ statements.outcome result (machine_of state.new) pid item.now.line }
     ensures reserved { (r : Tables) → IsReserved r state.old → IsReserved r state.new }
 {
     let component = frame_of(state, pid).component;
@@ -152,7 +152,7 @@ fn continue_from(program: &Resolved, state: &mut State, pid: u8, cell: usize) ->
     requires fits { ThreadFits program.now (thread_at (machine_of state.old).threads pid) }
     requires guards { length state.old.guards.items ≡ program.now.monitors }
     requires lines { AreFirstKnown (machine_of state.old) }
-    ensures after { spec.continued_from program.now (machine_of state.old) pid cell (thread_at (machine_of state.old).threads pid).stack ≡ record { machine = machine_of state.new; event = result } }
+    ensures after { spec.continue_from program.now (machine_of state.old) pid cell (thread_at (machine_of state.old).threads pid).stack ≡ record { machine = machine_of state.new; event = result } }
     ensures reserved { (r : Tables) → IsReserved r state.old → IsReserved r state.new }
 {
     match top_of(state, pid) {
@@ -172,7 +172,7 @@ fn continue_in(state: &mut State, pid: u8, item: &Item, cell: usize, monitor: u8
     requires cell { cell < length state.old.permanents.items }
     requires monitor { monitor < length state.old.guards.items }
     requires line { HaveGateRoom (machine_of state.old) }
-    ensures after { spec.continued_in (machine_of state.old) pid cell (ComponentKind.Monitor monitor) (rest_of item.now.next (under (machine_of state.old) pid)) ≡ record { machine = machine_of state.new; event = result } }
+    ensures after { spec.continue_in (machine_of state.old) pid cell (ComponentKind.Monitor monitor) (rest_of item.now.next (under (machine_of state.old) pid)) ≡ record { machine = machine_of state.new; event = result } }
     ensures reserved { (r : Tables) → IsReserved r state.old → IsReserved r state.new }
 {
     replace(state, pid, None, item.next);
@@ -189,7 +189,7 @@ fn continue_on(program: &Resolved, state: &mut State, pid: u8, item: &Item, cell
     requires sound { IsSound program.now }
     requires component { (thread_at (machine_of state.old).threads pid).frame.component < length program.now.components }
     requires line { HaveGateRoom (machine_of state.old) }
-    ensures after { spec.continued_in (machine_of state.old) pid cell (component_at program.now (thread_at (machine_of state.old).threads pid).frame.component).kind (rest_of item.now.next (under (machine_of state.old) pid)) ≡ record { machine = machine_of state.new; event = result } }
+    ensures after { spec.continue_in (machine_of state.old) pid cell (component_at program.now (thread_at (machine_of state.old).threads pid).frame.component).kind (rest_of item.now.next (under (machine_of state.old) pid)) ≡ record { machine = machine_of state.new; event = result } }
     ensures reserved { (r : Tables) → IsReserved r state.old → IsReserved r state.new }
 {
     let component = frame_of(state, pid).component;

@@ -100,7 +100,7 @@ fn start_by(
     requires threads { length state.old.processes.items ≡ length program.now.processes }
     requires sound { IsSound program.now }
     requires there { component < length program.now.components }
-    ensures after { spec.started program.now (machine_of state.old) pid item.now.line (component_at program.now component).kind routine component arguments.now state.old.bounds.items (rest_of item.now.next (under (machine_of state.old) pid)) ≡ statements.outcome result (machine_of state.new) pid item.now.line }
+    ensures after { spec.start_by program.now (machine_of state.old) pid item.now.line (component_at program.now component).kind routine component arguments.now state.old.bounds.items (rest_of item.now.next (under (machine_of state.old) pid)) ≡ statements.outcome result (machine_of state.new) pid item.now.line }
     ensures reserved { (r : Tables) → IsReserved r state.old → IsReserved r state.new }
 {
     match program.component(component).kind {

@@ -76,7 +76,7 @@ impl State {
     ghost use Rattle.std.specs.Prelude.{IsTrue};
     ghost use Rattle.cp_slots.specs.Tables.{Tables};
     ghost use Rattle.cp_machine.specs.Fits.{IsStateOf};
-    ghost use Rattle.cp_machine.specs.Opening.{admitted};
+    ghost use Rattle.cp_machine.specs.Opening.{admit_waiting};
 
     /// The processes that are ready, in rising order.
     pub fn ready(&self) -> ArrayVec<u8, 16>
@@ -154,7 +154,7 @@ impl State {
         requires own { (r : Tables) × IsStateOf r self.old }
         requires pid { pid < length self.old.processes.items }
         requires line { IsTrue (in_line (machine_of self.old) pid) }
-        ensures after { machine_of self.new ≡ admitted (machine_of self.old) pid }
+        ensures after { machine_of self.new ≡ admit_waiting (machine_of self.old) pid }
         ensures own { (r : Tables) → IsStateOf r self.old → IsStateOf r self.new }
     {
         admit_process(self, pid);

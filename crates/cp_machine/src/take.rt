@@ -4,7 +4,7 @@ ghost use Rattle.std.specs.Prelude.{◌≡◌, ◌∷◌, ◌<◌, IsTrue, lengt
 ghost use Rattle.cp_slots.specs.Tables.{Tables, item_at};
 ghost use Rattle.cp_machine.specs.Fits.{HaveGateRoom, IsReserved, IsStateOf};
 ghost use Rattle.cp_machine.specs.Machine.{is_ready, machine_of, thread_at, under};
-ghost use Rattle.cp_machine.specs.Statements.{outcome, succeeded};
+ghost use Rattle.cp_machine.specs.Statements.{outcome, successor_step};
 ghost use Rattle.cp_machine.specs.Step.{act};
 
 use crate::event::{ErrorName, Event, RunError};
@@ -56,7 +56,7 @@ pub fn perform_successor(
     requires own { (r : Tables) × IsStateOf r state.old × (item.now ≡ item_at r at) }
     requires pid { pid < length state.old.processes.items }
     requires top { (thread_at (machine_of state.old).threads pid).stack ≡ Entry.Successor at value last ∷ under (machine_of state.old) pid }
-    ensures after { succeeded (machine_of state.old) pid at item.now item.now.action (under (machine_of state.old) pid) value last ≡ outcome result (machine_of state.new) pid item.now.line }
+    ensures after { successor_step (machine_of state.old) pid at item.now item.now.action (under (machine_of state.old) pid) value last ≡ outcome result (machine_of state.new) pid item.now.line }
     ensures reserved { (r : Tables) → IsReserved r state.old → IsReserved r state.new }
 {
     match &item.action {
@@ -98,7 +98,7 @@ pub fn take_successor(
     requires own { IsStateOf program.now state.old }
     requires pid { pid < length state.old.processes.items }
     requires top { (thread_at (machine_of state.old).threads pid).stack ≡ Entry.Successor at value last ∷ under (machine_of state.old) pid }
-    ensures after { succeeded (machine_of state.old) pid at (item_at program.now at) (item_at program.now at).action (under (machine_of state.old) pid) value last ≡ record { machine = machine_of state.new; event = result } }
+    ensures after { successor_step (machine_of state.old) pid at (item_at program.now at) (item_at program.now at).action (under (machine_of state.old) pid) value last ≡ record { machine = machine_of state.new; event = result } }
     ensures reserved { IsReserved program.now state.new }
 {
     let item = program.item(at);

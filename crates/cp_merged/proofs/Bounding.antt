@@ -4,7 +4,7 @@ use Rattle.cp_slots.specs.Fits.{IsSound}
 use Rattle.cp_merged.proofs.Words.{Tables, Discipline, State, node_of, processes_of, slots, Halt, OutcomeKind, AllWaiting, Finished}
 use Rattle.cp_machine.specs.Fits.{IsStateOf, LinesFit, MachineFits}
 use Rattle.cp_machine.specs.Reach.{Reaches}
-use Rattle.cp_machine.specs.System.{Machine, admitted, is_pending, is_ready, in_line, machine_of, step_at}
+use Rattle.cp_machine.specs.System.{Machine, admit_waiting, is_pending, is_ready, in_line, machine_of, step_at}
 use Rattle.cp_machine.specs.declared.event.Event.{Event}
 use Rattle.cp_machine.specs.declared.event.Event.TheVariants.{Local, Fault, OutputFull}
 use Rattle.cp_machine.proofs.CallerLemmas.{admitted_free, local_ready, ready_thread}
@@ -108,9 +108,9 @@ module _ (r : Tables) (discipline : Discipline) where
 
   -- ---- a choice
 
-  admission_bound : (steps : ℕ) (m : Machine) (p : ℕ) → Fine r m → in_line m p ≡ true → (turn : Turn) → settled_turn (slots r discipline) (admitted m p) true p ≡ turn → Bounds m (standing (node_at (admitted m p) (stretch (slots r discipline) steps (admitted m p)) turn))
+  admission_bound : (steps : ℕ) (m : Machine) (p : ℕ) → Fine r m → in_line m p ≡ true → (turn : Turn) → settled_turn (slots r discipline) (admit_waiting m p) true p ≡ turn → Bounds m (standing (node_at (admit_waiting m p) (stretch (slots r discipline) steps (admit_waiting m p)) turn))
   admission_bound steps m p h line (Goes q) is =
-      let n = admitted m p in
+      let n = admit_waiting m p in
       let fine : Fine r n = record { sound = h.sound; fits = admitted_fits r m p h.fits; lines = admitted_lines m p h.lines line; reach = admitted_reaches r m p line h.reach } in
       bounds_trans m n (standing (stretch (slots r discipline) steps n q)) (admitted_bounds m p)
       (stretch_bound steps n q fine (settled_ready n true p q (λ local. absurd (cc)) is) (admitted_free m n p line refl))
@@ -118,7 +118,7 @@ module _ (r : Tables) (discipline : Discipline) where
 
   chosen_bound : (steps : ℕ) (m : Machine) (p : ℕ) → Fine r m → may (slots r discipline) m p ≡ true → (b : Bool) → is_pending m ≡ b → Bounds m (standing (chosen (slots r discipline) steps m p))
   chosen_bound steps m p h goes true pending =
-      let n = admitted m p in
+      let n = admit_waiting m p in
       subst (λ node. Bounds m (standing node)) (sym (chosen_at_gate (slots r discipline) steps m n p (settled_turn (slots r discipline) n true p) pending refl refl))
       (admission_bound steps m p h (may_in_line (slots r discipline) m p pending goes) (settled_turn (slots r discipline) n true p) refl)
   chosen_bound steps m p h goes false free =

@@ -6,16 +6,16 @@ use Rattle.cp_slots.specs.declared.place.Argument.{Argument}
 use Rattle.cp_slots.specs.declared.tables.ComponentKind.{ComponentKind}
 use Rattle.cp_slots.specs.declared.tables.ComponentKind.TheVariants as kind
 use Rattle.cp_store.specs.declared.argument.Bound.{Bound}
-use Rattle.cp_store.specs.Arguments.{bound_in_component}
+use Rattle.cp_store.specs.Arguments.{bind_component}
 use Rattle.cp_machine.specs.declared.process.Entry.{Entry}
 use Rattle.cp_machine.specs.declared.process.Entry.TheVariants.{InitEnd}
 use Rattle.cp_machine.specs.declared.process.Status.TheVariants.{AtGate, Ready}
 use Rattle.cp_machine.specs.declared.state.Phase.{Phase}
 use Rattle.cp_machine.specs.declared.state.Phase.TheVariants.{Uninitialised, Initialising, Initialised}
-use Rattle.cp_machine.specs.Calls.{frame_behind, opened, start_process, start_inside, started}
+use Rattle.cp_machine.specs.Calls.{frame_behind, open_frame, start_process, start_inside, start_by}
 use Rattle.cp_machine.specs.Machine.{Machine, Thread, thread_at, no_thread, phase_at, is_uninitialised, is_unstarted, with_thread, with_stack, with_status, with_phase}
-use Rattle.cp_machine.specs.Memory.{frame_opened, memory_at, parameters_bound}
-use Rattle.cp_machine.specs.Opening.{admitted, admitted_at}
+use Rattle.cp_machine.specs.Memory.{add_frame, memory_at, parameters_bound}
+use Rattle.cp_machine.specs.Opening.{admit_waiting, admit_at}
 use Rattle.cp_machine.specs.Reach.{EndsBegun}
 use Rattle.cp_machine.specs.Stack.{rest_of}
 use Rattle.cp_machine.specs.Statements.{Stepped}
@@ -32,10 +32,10 @@ unstarted ts q = is_unstarted (thread_at ts q).status
 abbrev uninitialised : List Phase → ℕ → Bool
 uninitialised ps c = is_uninitialised (slice_index_or ps c Uninitialised)
 
--- Nothing is taken back to before its start, and where nothing started, the components are bound to what they were. Only threads, phases and
+-- Nothing is taken back to before its start, and where nothing start_by, the components are bound to what they were. Only threads, phases and
 -- bindings matter, so that all else may change.
 pub record StartsKeep (ts us : List Thread) (ps qs : List Phase) (bs cs : List ℕ) : Type 0 where
-  pub started : (q : ℕ) → unstarted us q ≡ true → unstarted ts q ≡ true
+  pub start_by : (q : ℕ) → unstarted us q ≡ true → unstarted ts q ≡ true
   pub begun : (c : ℕ) → uninitialised qs c ≡ true → uninitialised ps c ≡ true
   pub bound : ((q : ℕ) → unstarted ts q ≡ true → unstarted us q ≡ true) → ((c : ℕ) → uninitialised ps c ≡ true → uninitialised qs c ≡ true) → cs ≡ bs
 
@@ -43,12 +43,12 @@ abbrev pub Bounds : Machine → Machine → Type 0
 Bounds before after = StartsKeep before.threads after.threads before.phases after.phases before.bindings after.bindings
 
 pub bounds_refl : (m : Machine) → Bounds m m
-bounds_refl m = record { started = λ q e. e; begun = λ c e. e; bound = λ f g. refl }
+bounds_refl m = record { start_by = λ q e. e; begun = λ c e. e; bound = λ f g. refl }
 
 pub bounds_trans : (l m n : Machine) → Bounds l m → Bounds m n → Bounds l n
 bounds_trans l m n h k =
     record {
-      started = λ q e. h.started q (k.started q e);
+      start_by = λ q e. h.started q (k.started q e);
       begun = λ c e. h.begun c (k.begun c e);
       bound = λ f g. k.bound (λ q e. f q (h.started q e)) (λ c e. g c (h.begun c e)) ∙ h.bound (λ q e. k.started q (f q e)) (λ c e. k.begun c (g c e));
     }
@@ -63,7 +63,7 @@ set_uninitialised ps c x begun = set_related (λ (p q : Phase). is_uninitialised
 
 -- a process changes, and is not taken back to before its start
 thread_bounds : (m n : Machine) (p : ℕ) (x : Thread) → (is_unstarted x.status ≡ true → unstarted n.threads p ≡ true) → Bounds m n → Bounds m (with_thread n p x)
-thread_bounds m n p x f h = bounds_trans m n (with_thread n p x) h (record { started = set_unstarted n.threads p x f; begun = λ c e. e; bound = λ g k. refl })
+thread_bounds m n p x f h = bounds_trans m n (with_thread n p x) h (record { start_by = set_unstarted n.threads p x f; begun = λ c e. e; bound = λ g k. refl })
 
 -- ---- steps by what is asked first
 
@@ -82,7 +82,7 @@ module _ (m : Machine) (pid : ℕ) where
   keep =
       record {
         changed = λ n x same h. thread_bounds m n pid x (λ e. sym (ap is_unstarted same) ∙ e) h;
-        initialised = λ n c h. bounds_trans m n (with_phase n c Initialised) h (record { started = λ q e. e; begun = set_uninitialised n.phases c Initialised refl; bound = λ g k. refl });
+        initialised = λ n c h. bounds_trans m n (with_phase n c Initialised) h (record { start_by = λ q e. e; begun = set_uninitialised n.phases c Initialised refl; bound = λ g k. refl });
         settled = λ n status is h. thread_bounds m n pid (record (thread_at n.threads pid) { status = status }) (λ e. absurd (cc)) h;
         readied = λ n p h. thread_bounds m n p (record (thread_at n.threads p) { status = Ready }) (λ e. absurd (cc)) h;
         gated = λ n p cell monitor at h. thread_bounds m n p (record (thread_at n.threads p) { status = AtGate monitor }) (λ e. absurd (cc)) h;
@@ -106,7 +106,7 @@ module _ (m : Machine) (pid : ℕ) where
       where
         filled : Machine → Thread
         filled n =
-            let x = bound_in_component (memory_at n pid) (component_at r component).base arguments bounds in
+            let x = bind_component (memory_at n pid) (component_at r component).base arguments bounds in
             record (thread_at n.threads pid) { cells = x.cells; references = x.references }
 
         given : Machine
@@ -127,7 +127,7 @@ module _ (m : Machine) (pid : ℕ) where
         starts : is_unstarted (thread_at m.threads q).status ≡ true → Bounds m after
         starts is =
             record {
-              started = λ p e. kept p (set_unstarted given.threads q ready (λ e. absurd (cc)) p e);
+              start_by = λ p e. kept p (set_unstarted given.threads q ready (λ e. absurd (cc)) p e);
               begun = λ c e. e;
               bound = λ f g. absurd (not (f q is));
             }
@@ -138,14 +138,14 @@ module _ (m : Machine) (pid : ℕ) where
       where
         filled : Machine → Thread
         filled n =
-            let x = bound_in_component (memory_at n pid) (component_at r component).base arguments bounds in
+            let x = bind_component (memory_at n pid) (component_at r component).base arguments bounds in
             record (thread_at n.threads pid) { cells = x.cells; references = x.references }
 
         end : Entry
         end = InitEnd (thread_at m.threads pid).frame component
 
         entry : Machine
-        entry = opened r m pid routine component end rest
+        entry = open_frame r m pid routine component end rest
 
         given : Machine
         given = parameters_bound entry pid (component_at r component).base arguments bounds
@@ -158,7 +158,7 @@ module _ (m : Machine) (pid : ℕ) where
 
         long : pid < length entry.threads
         long =
-            let count = length-set m.threads pid (frame_opened (record (thread_at m.threads pid) { frame = frame_behind r (thread_at m.threads pid) routine component; stack = rest_of (routine_at r routine).body (end ∷ rest) }) (routine_at r routine)) in
+            let count = length-set m.threads pid (add_frame (record (thread_at m.threads pid) { frame = frame_behind r (thread_at m.threads pid) routine component; stack = rest_of (routine_at r routine).body (end ∷ rest) }) (routine_at r routine)) in
             omega (arith, count, within)
 
         stack_is : (thread_at after.threads pid).stack ≡ rest_of (routine_at r routine).body (end ∷ rest)
@@ -172,7 +172,7 @@ module _ (m : Machine) (pid : ℕ) where
         starts is ends =
             let begun_is : is_uninitialised (phase_at after component) ≡ false = ended (routine_at r routine).body (subst (EndsBegun after) stack_is ends) in
             record {
-              started = kept;
+              start_by = kept;
               begun = set_uninitialised m.phases component Initialising refl;
               bound = λ f g. both (g component is) begun_is;
             }
@@ -180,7 +180,7 @@ module _ (m : Machine) (pid : ℕ) where
             both : is_uninitialised (phase_at after component) ≡ true → is_uninitialised (phase_at after component) ≡ false → after.bindings ≡ m.bindings
             both e f = absurd (cc)
 
-    starts_all : (line : ℕ) (k : ComponentKind) (routine component : ℕ) (arguments : List Argument) (bounds : List Bound) (rest : List Entry) → Steps (started r m pid line k routine component arguments bounds rest)
+    starts_all : (line : ℕ) (k : ComponentKind) (routine component : ℕ) (arguments : List Argument) (bounds : List Bound) (rest : List Entry) → Steps (start_by r m pid line k routine component arguments bounds rest)
     starts_all line (kind.Process q) routine component arguments bounds rest = process_starts line q component arguments bounds rest
     starts_all line _ routine component arguments bounds rest = inside_starts line routine component arguments bounds rest
 
@@ -194,9 +194,9 @@ pub step_bounds : (r : Tables) (m : Machine) (pid : ℕ) → pid < length m.thre
 step_bounds r m pid within ends = steps_all m pid r within ends
 
 -- an admission
-admitted_at_bounds : (pending : Option ℕ) (m : Machine) (pid : ℕ) → Bounds m (admitted_at pending m pid)
+admitted_at_bounds : (pending : Option ℕ) (m : Machine) (pid : ℕ) → Bounds m (admit_at pending m pid)
 admitted_at_bounds None m pid = bounds_refl m
 admitted_at_bounds (Some monitor) m pid = thread_bounds m m pid (record (thread_at m.threads pid) { status = Ready }) (λ e. absurd (cc)) (bounds_refl m)
 
-pub admitted_bounds : (m : Machine) (pid : ℕ) → Bounds m (admitted m pid)
+pub admitted_bounds : (m : Machine) (pid : ℕ) → Bounds m (admit_waiting m pid)
 admitted_bounds m pid = admitted_at_bounds m.pending m pid

@@ -105,11 +105,11 @@ pub use Rattle.cp_resolved.specs.Stands.{AreGiven, CallItem, CalleeIs, CallsAre,
 pub use Rattle.cp_resolved.specs.Stands.{result_cell}
 pub use Rattle.cp_resolved.specs.TreeLayouts.{layouts_of}
 pub use Rattle.cp_store.proofs.Reaches.{onward_exact as onward_is}
-pub use Rattle.cp_store.specs.Arguments.{bindings_after, bound_at, bound_in_component, bound_in_frame, bounds_at}
+pub use Rattle.cp_store.specs.Arguments.{bindings_after, evaluate_argument, bind_component, bind_frame, bounds_at}
 pub use Rattle.cp_store.specs.Inside.{HasCells}
-pub use Rattle.cp_store.specs.Memory.{Memory, cell_at, moved, nowhere, onward, put_copy, put_number, stretch}
-pub use Rattle.cp_store.specs.Places.{element_offset, loaded, origin_address, referred}
-pub use Rattle.cp_store.specs.Values.{ranged, then_with}
+pub use Rattle.cp_store.specs.Memory.{Memory, cell_at, address_onward, nowhere, onward, put_copy, put_number, stretch}
+pub use Rattle.cp_store.specs.Places.{element_offset, load_value, origin_address, reference_at}
+pub use Rattle.cp_store.specs.Values.{check_range, then_with}
 pub use Rattle.cp_store.specs.declared.argument.Bound.{Bound}
 pub use Rattle.cp_store.specs.declared.argument.Bound.TheVariants.{Copy, Reference, Scalar, Set}
 pub use Rattle.cp_store.specs.declared.memory.Address.{Address}
@@ -120,7 +120,7 @@ pub use Rattle.cp_machine.specs.Calls.{frame_behind}
 pub use Rattle.cp_machine.specs.Fits.{FrameFits, LinesFit, MachineFits, StackFits, ThreadFits, size_of}
 pub use Rattle.cp_machine.specs.Machine.{Machine, Monitor, Thread, is_ready_status, is_uninitialised, monitor_at, no_monitor, no_thread, phase_at, thread_at}
 pub use Rattle.cp_machine.specs.Machine.{with_bindings, with_phase, with_stack, with_thread}
-pub use Rattle.cp_machine.specs.Memory.{address_of, frame_opened, memory_at, number_put, value_of, with_memory}
+pub use Rattle.cp_machine.specs.Memory.{address_of, add_frame, memory_at, number_put, value_of, with_memory}
 pub use Rattle.cp_machine.specs.Opening.{unstarted_thread}
 pub use Rattle.cp_machine.specs.Reach.{Reaches}
 pub use Rattle.cp_machine.specs.Stack.{from_end, rest_of}

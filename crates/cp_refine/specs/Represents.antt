@@ -11,7 +11,7 @@ use Rattle.cp_store.specs.declared.memory.Address.TheVariants.{Permanent, Local}
 use Rattle.cp_store.specs.declared.memory.Frame.{Frame}
 use Rattle.cp_store.specs.Inside.{HasCells}
 use Rattle.cp_store.specs.Memory.{Memory, cell_at}
-use Rattle.cp_store.specs.Places.{referred}
+use Rattle.cp_store.specs.Places.{reference_at}
 use Rattle.cp_machine.specs.declared.process.Entry.{Entry}
 use Rattle.cp_machine.specs.declared.process.Entry.TheVariants.{Rest, Successor, Return, InitEnd}
 use Rattle.cp_machine.specs.declared.process.Status as slot_status
@@ -106,7 +106,7 @@ pub record CallHolds (r : Tables) (l : Layouts) (m : Memory) (c : Call) (f : Fra
   -- the content of a variable is no place
   pub plain : (x : Name) (t : Ty) (q : Place) → look x (l.frames f.routine).variables ≡ Some t → content_of x c.environment ≡ Some (refers q) → ⊥
   pub references : (x : Name) (t : Ty) → look x (l.frames f.routine).references ≡ Some t →
-      (q : Place) × (content_of x c.environment ≡ Some (refers q)) × PlaceAt r l fs q t (referred m.references (f.references + cell_named (l.frames f.routine) x))
+      (q : Place) × (content_of x c.environment ≡ Some (refers q)) × PlaceAt r l fs q t (reference_at m.references (f.references + cell_named (l.frames f.routine) x))
 
 abbrev pub CallsHold : Tables → Layouts → Memory → List Call → List Frame → Type 0
 CallsHold r l m [] [] = Unit {0}

@@ -64,7 +64,7 @@ pub use Rattle.cp_scope.specs.declared.types.Predeclared.{Predeclared}
 pub use Rattle.cp_scope.specs.declared.types.Range.{Range}
 pub use Rattle.cp_scope.specs.declared.types.ValueType.{ValueType}
 pub use Rattle.cp_check.specs.Calls.{all_variable_faults, fault, unless, variable_faults}
-pub use Rattle.cp_check.specs.Declarations.{as_declared, to_kind, variable_steps}
+pub use Rattle.cp_check.specs.Declarations.{meaning_or_none, to_kind, variable_steps}
 unfoldable pub use Rattle.cp_check.specs.Declarations.{add_all, add_names, add_one, constant_step, constant_steps, part_steps, reserve_name, reserve_names, type_step}
 unfoldable pub use Rattle.cp_check.specs.Declarations.{type_steps}
 pub use Rattle.cp_check.specs.Expressions.{is_var_at}
@@ -109,22 +109,22 @@ pub use Rattle.cp_layout.specs.Kinds.{Fields, array_type, as_array, no_fields}
 unfoldable pub use Rattle.cp_layout.specs.Kinds.{least}
 pub use Rattle.cp_layout.specs.Laid.{PlainTables, no_room, plain, room_for, system_type, system_types, types_of}
 unfoldable pub use Rattle.cp_layout.specs.Laid.{laid, room_from, tables_laid}
-pub use Rattle.cp_layout.specs.LaidComponents.{Listing, byte, next_kind, nothing_listed, process_at, with_component}
-unfoldable pub use Rattle.cp_layout.specs.LaidComponents.{contained_by, contents_least, program_listed}
-pub use Rattle.cp_layout.specs.LaidDeclarations.{Parameters, component_cell, definition, entered, heading_with, initial_statement, opened, program_part, routine}
+pub use Rattle.cp_layout.specs.LaidComponents.{Listing, byte, next_kind, empty_listing, process_at, with_component}
+unfoldable pub use Rattle.cp_layout.specs.LaidComponents.{add_contained, contents_least, components_of_program}
+pub use Rattle.cp_layout.specs.LaidDeclarations.{Parameters, component_cell, definition, enter_system, heading_with, initial_statement, open_routine, program_part, routine}
 pub use Rattle.cp_layout.specs.LaidDeclarations.{system_definition, system_groups, with_heading, with_new_frame}
 unfoldable pub use Rattle.cp_layout.specs.LaidDeclarations.{constant_groups, heading, program, program_parts, routines, system, system_definitions}
-pub use Rattle.cp_layout.specs.LaidExpressions.{as_integer, begun, begun_as, component_found, component_of_array, count_in, element_selected, entry_among, entry_in}
-pub use Rattle.cp_layout.specs.LaidExpressions.{entry_of, field_selected, signed, with_count}
-pub use Rattle.cp_layout.specs.LaidStatements.{assigned_as, initial_in, initial_of}
-unfoldable pub use Rattle.cp_layout.specs.LaidStatements.{assigned, checked, statement, statements}
-pub use Rattle.cp_layout.specs.LaidTypes.{enumeration_base, named_type, type_meant, with_constant}
-unfoldable pub use Rattle.cp_layout.specs.LaidTypes.{enumerated, field_group, field_groups, fields_of_type, simple_type, written_type}
+pub use Rattle.cp_layout.specs.LaidExpressions.{as_integer, name_meaning, meaning_of, component_found, component_of_array, count_in, element_of_designated, entry_among, entry_in}
+pub use Rattle.cp_layout.specs.LaidExpressions.{entry_of, field_of_designated, with_sign, with_count}
+pub use Rattle.cp_layout.specs.LaidStatements.{assign_by_type, initial_in, initial_of}
+unfoldable pub use Rattle.cp_layout.specs.LaidStatements.{assign, check_invariants, statement, statements}
+pub use Rattle.cp_layout.specs.LaidTypes.{enumeration_base, type_of_name, type_meant, with_constant}
+unfoldable pub use Rattle.cp_layout.specs.LaidTypes.{enumerate, field_group, field_groups, fields_of_type, simple_type, written_type}
 pub use Rattle.cp_symbols.specs.Symbols.{Noted}
-pub use Rattle.cp_layout.specs.Layers.{Frame, Layer, Names, Owned, Pending, System, added, again, call_need, find_type, is_open, item_need, need_inside, need_of}
-pub use Rattle.cp_layout.specs.Layers.{no_frame, nothing_laid, outermost, own_result, pending_need, result_of, result_slot, routine_of, settled, settled_all, with_cell}
+pub use Rattle.cp_layout.specs.Layers.{Frame, Layer, Names, Owned, Pending, System, add_item, again, call_need, find_type, is_open, item_need, need_inside, need_of}
+pub use Rattle.cp_layout.specs.Layers.{no_frame, nothing_laid, outermost, own_result, pending_need, result_of, result_slot, routine_of, settle_items, add_items, with_cell}
 pub use Rattle.cp_layout.specs.Layers.{with_item, with_room, without_pending}
-pub use Rattle.cp_layout.specs.Values.{Value, loaded, ordinal_of, ordinal_value, place_at, set_value}
+pub use Rattle.cp_layout.specs.Values.{Value, value_loaded_from, ordinal_of, ordinal_value, place_at, set_value}
 pub use Rattle.cp_symbols.specs.declared.kinds.ArrayType.{ArrayType}
 pub use Rattle.cp_symbols.specs.declared.kinds.CellBase.{CellBase}
 pub use Rattle.cp_symbols.specs.declared.kinds.CellRange.{CellRange}

@@ -3,12 +3,12 @@ use Rattle.std.specs.Prelude.{List, [], ◌∷◌, ◌++◌, None}
 use Rattle.cp_tree.specs.Syntax.{Routine, System, Definition, type_definition, system_definition, SystemDefinition, ProgramPart, program_constants, program_types, program_variables, Tree}
 use Rattle.cp_layout.specs.Layers.{Layer, nothing_laid}
 use Rattle.cp_layout.specs.LaidDeclarations as laid
-use Rattle.cp_layout.specs.LaidDeclarations.{Parameters, heading, heading_with, with_new_frame, with_heading, opened, local_parts, entered, system_groups, permanent_parts, system_inside}
+use Rattle.cp_layout.specs.LaidDeclarations.{Parameters, heading, heading_with, with_new_frame, with_heading, open_routine, local_parts, enter_system, system_groups, permanent_parts, system_inside}
 
 -- of a routine: after its name, its heading and its parts
 abbrev pub routine_begun : Layer → Routine → Layer
 routine_begun l r =
-    let x = opened l r.name.name in
+    let x = open_routine l r.name.name in
     let h = heading x.1 r.name.name r.kind in
     local_parts (with_heading h.1 h.0) r.parts
 
@@ -17,15 +17,15 @@ abbrev pub initial_begun : Layer → Parameters → Layer
 initial_begun l ps = with_heading (with_new_frame l) (heading_with [] ps None)
 
 abbrev pub parameters_of : Layer → System → Parameters
-parameters_of l s = (system_groups (entered l).1 [] s.parameters).0
+parameters_of l s = (system_groups (enter_system l).1 [] s.parameters).0
 
 -- the parts of a system type, after its parameters
 abbrev pub parts_begun : Layer → System → Layer
-parts_begun l s = permanent_parts (system_groups (entered l).1 [] s.parameters).1 s.parts
+parts_begun l s = permanent_parts (system_groups (enter_system l).1 [] s.parameters).1 s.parts
 
 -- after its parts and its routines
 abbrev pub system_begun : Layer → System → Layer
-system_begun l s = system_inside (system_groups (entered l).1 [] s.parameters).1 s
+system_begun l s = system_inside (system_groups (enter_system l).1 [] s.parameters).1 s
 
 abbrev pub routines_begun : Layer → List Routine → List Layer
 routines_begun l [] = []

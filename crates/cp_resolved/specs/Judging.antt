@@ -9,7 +9,7 @@ use Rattle.cp_scope.specs.Scopes.{Scopes, look, heading_at, enter, start}
 use Rattle.cp_check.specs.declared.operand.Context.{Context}
 use Rattle.cp_check.specs.declared.types.Spot.TheVariants.{Other, Permanent}
 use Rattle.cp_check.specs.Declarations.{reserve_name, part_steps}
-use Rattle.cp_check.specs.Headings.{Headed, heading, announced_of}
+use Rattle.cp_check.specs.Headings.{Headed, heading, announce_judged}
 use Rattle.cp_check.specs.Routines.{routine_context, routine_step}
 use Rattle.cp_check.specs.Systems.{group_steps, inside, initial_context, definition_step, program_part_step, program_part_steps}
 use Rattle.cp_check.specs.Statements.{statements}
@@ -36,7 +36,7 @@ pub record Place : Type 0 where
 -- ---- places
 
 abbrev pub headed_scopes : Option SystemKind → Scopes → Routine → Headed → Scopes
-headed_scopes owner s r h = (part_steps Other (announced_of r h.result h.scopes) r.parts).scopes
+headed_scopes owner s r h = (part_steps Other (announce_judged r h.result h.scopes) r.parts).scopes
 
 -- after its name, its heading and its parts
 abbrev pub routine_place : Option SystemKind → Scopes → Routine → Place

@@ -4,7 +4,7 @@ use Rattle.std.specs.Prelude.{IsTrue}
 use Rattle.cp_slots.specs.Tables.{Tables}
 use Rattle.cp_machine.specs.declared.discipline.Discipline.{Discipline}
 use Rattle.cp_machine.specs.declared.state.State.{State}
-use Rattle.cp_machine.specs.System.{Machine, admitted, in_line}
+use Rattle.cp_machine.specs.System.{Machine, admit_waiting, in_line}
 use Rattle.cp_machine.proofs.CallerLemmas.{line_within, admitted_free}
 use Rattle.cp_run.proofs.Words.{IsStateOf, is_pending, is_ready, machine_of, pending_is, may, slots}
 use Rattle.cp_run.proofs.Choosing.{may_in_line, may_be_ready}
@@ -30,5 +30,5 @@ module _ (r : Tables) (discipline : Discipline) (s : State) (p : ℕ) (pending :
       let line = may_in_line (slots r discipline) (machine_of s) p (pending_is (machine_of s) pending true read some) allowed in
       record { own = (r, own); pid = line_within s p line; line = line }
 
-  pub free_behind : is_some pending ≡ true → may (slots r discipline) (machine_of s) p ≡ true → (n : Machine) → n ≡ admitted (machine_of s) p → is_pending n ≡ false
+  pub free_behind : is_some pending ≡ true → may (slots r discipline) (machine_of s) p ≡ true → (n : Machine) → n ≡ admit_waiting (machine_of s) p → is_pending n ≡ false
   free_behind some allowed n at = admitted_free (machine_of s) n p (may_in_line (slots r discipline) (machine_of s) p (pending_is (machine_of s) pending true read some) allowed) at

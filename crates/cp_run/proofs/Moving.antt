@@ -3,7 +3,7 @@ use Rattle.std.proofs.Common.{◌≡◌, ◌∙◌, ℕ, zero, suc, Bool, true, 
 use Rattle.cp_slots.specs.Tables.{Tables}
 use Rattle.cp_machine.specs.Bodies.{KeepBodies}
 use Rattle.cp_machine.specs.System.{Machine, Stepped, step_at}
-use Rattle.cp_machine.specs.Opening.{admitted}
+use Rattle.cp_machine.specs.Opening.{admit_waiting}
 use Rattle.cp_machine.proofs.Unmoved.{keep_step, keep_admitted}
 use Rattle.cp_run.specs.Fold.{blind, fold_chosen, fold_stretch, fold_turn}
 use Rattle.cp_run.specs.Run.{settled_turn, turn_after}
@@ -16,7 +16,7 @@ pub moved_by : (moved : ℕ → Bool) (r : Tables) (before from to : Machine) (p
 moved_by moved r before from to p stepped is at kept told = subst (KeepBodies moved before) (ap (λ (x : Stepped). x.machine) is ∙ at) (keep_step r moved before from p kept told)
 
 -- an admission
-pub let_in : (moved : ℕ → Bool) (before m n : Machine) (pid : ℕ) → n ≡ admitted m pid → KeepBodies moved before m → KeepBodies moved before n
+pub let_in : (moved : ℕ → Bool) (before m n : Machine) (pid : ℕ) → n ≡ admit_waiting m pid → KeepBodies moved before m → KeepBodies moved before n
 let_in moved before m n pid is h = subst (KeepBodies moved before) (sym is) (keep_admitted moved before m pid h)
 
 module _ {S X : Type 0} (sys : System S) where

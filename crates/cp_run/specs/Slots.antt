@@ -2,7 +2,7 @@
 use Rattle.std.specs.Prelude.{ℕ, length}
 use Rattle.cp_slots.specs.Tables.{Tables}
 use Rattle.cp_machine.specs.declared.discipline.Discipline.{Discipline}
-use Rattle.cp_machine.specs.System.{Machine, opening, step_at, is_ready, in_line, is_pending, waits, admitted, output_of, monitor_at}
+use Rattle.cp_machine.specs.System.{Machine, opening, step_at, is_ready, in_line, is_pending, waits, admit_waiting, output_of, monitor_at}
 use Rattle.cp_run.specs.System.{System}
 
 abbrev pub processes_of : Tables → ℕ
@@ -19,7 +19,7 @@ slots r discipline =
       start = opening r discipline;
       step = λ m p. (step_at r m p).machine;
       event = λ m p. (step_at r m p).event;
-      admit = admitted;
+      admit = admit_waiting;
       is_ready = is_ready;
       is_pending = is_pending;
       in_line = in_line;

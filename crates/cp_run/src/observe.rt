@@ -7,7 +7,7 @@ use cp_slots::Resolved;
 /// Whoever is told of a run while it is made.
 pub trait Observe {
     ghost use Rattle.std.specs.Prelude.{◌≡◌, ◌<◌, ℕ, Bool, true, false, IfOk, length};
-    ghost use Rattle.cp_machine.specs.System.{Machine, admitted, is_ready, machine_of, step_at, IsStateOf};
+    ghost use Rattle.cp_machine.specs.System.{Machine, admit_waiting, is_ready, machine_of, step_at, IsStateOf};
     ghost use Rattle.cp_machine.specs.Statements.{local};
     ghost use Rattle.cp_machine.specs.declared.event.Event.TheVariants.{Local};
     ghost use Rattle.cp_machine.specs.declared.discipline.Discipline.{Discipline};
@@ -76,7 +76,7 @@ pub trait Observe {
         process: u8,
     ) -> Result<(), Self::Error>
         requires own { IsStateOf program.now state.now }
-        ensures { IfOk result (λ _. (before : Machine) (x : Seen) → machine_of state.now ≡ admitted before process → holds self.old program.now limits.discipline before x → holds self.new program.now limits.discipline (machine_of state.now) ((fold program.now limits.discipline).on_admission process (machine_of state.now) x)) };
+        ensures { IfOk result (λ _. (before : Machine) (x : Seen) → machine_of state.now ≡ admit_waiting before process → holds self.old program.now limits.discipline before x → holds self.new program.now limits.discipline (machine_of state.now) ((fold program.now limits.discipline).on_admission process (machine_of state.now) x)) };
 
     /// Sees a due choice, and the number that is to be taken.
     fn see_choice(&mut self, program: &Resolved, limits: Limits, state: &State, number: u8)

@@ -13,7 +13,7 @@ use Rattle.cp_store.specs.declared.memory.Frame.{Frame}
 use Rattle.cp_store.specs.declared.set.SetValue.{SetValue}
 use Rattle.cp_store.specs.Arguments.{put_binding, put_in_frame, put_value}
 use Rattle.cp_store.specs.Inside.{AllFitComponent, AllFitFrame, FitsComponent, FitsFrame, HasBound, HasCells}
-use Rattle.cp_store.specs.Memory.{Memory, cell_at, moved, onward, put_copy, put_number}
+use Rattle.cp_store.specs.Memory.{Memory, cell_at, address_onward, onward, put_copy, put_number}
 use Rattle.cp_store.specs.Sets.{put_pair, put_quad, put_set, put_word}
 
 -- ---- a value that is written leaves the number of cells, and the references
@@ -36,23 +36,23 @@ alike_number x (Local n) v = record { permanents = refl; cells = length-set x.ce
 pub alike_pair : (x : Memory) (at : Address) (members : ℕ) → Alike (put_pair x at members) x
 alike_pair x at members =
     let y = put_word x at (members % 2 ^ 16) in
-    alike_both _ y x (alike_number y (moved at 1) (cast_signed w16 (members / 2 ^ 16))) (alike_number x at (cast_signed w16 (members % 2 ^ 16)))
+    alike_both _ y x (alike_number y (address_onward at 1) (cast_signed w16 (members / 2 ^ 16))) (alike_number x at (cast_signed w16 (members % 2 ^ 16)))
 
 pub alike_quad : (x : Memory) (at : Address) (members : ℕ) → Alike (put_quad x at members) x
 alike_quad x at members =
     let y = put_pair x at (members % 2 ^ 32) in
-    alike_both _ y x (alike_pair y (moved at 2) (members / 2 ^ 32)) (alike_pair x at (members % 2 ^ 32))
+    alike_both _ y x (alike_pair y (address_onward at 2) (members / 2 ^ 32)) (alike_pair x at (members % 2 ^ 32))
 
 pub alike_set : (x : Memory) (at : Address) (s : SetValue) → Alike (put_set x at s) x
 alike_set x at s =
     let y = put_quad x at (s.members % 2 ^ 64) in
-    alike_both _ y x (alike_quad y (moved at 4) (s.members / 2 ^ 64)) (alike_quad x at (s.members % 2 ^ 64))
+    alike_both _ y x (alike_quad y (address_onward at 4) (s.members / 2 ^ 64)) (alike_quad x at (s.members % 2 ^ 64))
 
 pub alike_copy : (x : Memory) (to from : Address) (n : ℕ) → Alike (put_copy x to from n) x
 alike_copy x to from zero = alike_same x
 alike_copy x to from (suc n) =
     let y = put_copy x to from n in
-    alike_both _ y x (alike_number y (moved to n) (cell_at y (moved from n))) (alike_copy x to from n)
+    alike_both _ y x (alike_number y (address_onward to n) (cell_at y (address_onward from n))) (alike_copy x to from n)
 
 pub alike_value : (x : Memory) (at : Address) (b : Bound) → Alike (put_value x at b) x
 alike_value x at (Scalar z) = alike_number x at z
@@ -69,10 +69,10 @@ pub has_alike : (x y : Memory) (at : Address) (cells : ℕ) → Alike y x → Ha
 has_alike x y at cells like h = has_more x y at cells (omega (arith, like.permanents)) (omega (arith, like.cells)) h
 
 -- one of the cells that are copied, or that are copied to, while they are
-pub copied_has : (m x : Memory) (to from at : Address) (size done : ℕ) → x ≡ put_copy m to from done → done < size → HasCells m at size → HasCells x (moved at done) 1
-copied_has m x to from at size done is lt h = subst (λ y. HasCells y (moved at done) 1) (sym is) (there at (has_alike m (put_copy m to from done) at size (alike_copy m to from done) h))
+pub copied_has : (m x : Memory) (to from at : Address) (size done : ℕ) → x ≡ put_copy m to from done → done < size → HasCells m at size → HasCells x (address_onward at done) 1
+copied_has m x to from at size done is lt h = subst (λ y. HasCells y (address_onward at done) 1) (sym is) (there at (has_alike m (put_copy m to from done) at size (alike_copy m to from done) h))
   where
-    there : (at : Address) → HasCells (put_copy m to from done) at size → HasCells (put_copy m to from done) (moved at done) 1
+    there : (at : Address) → HasCells (put_copy m to from done) at size → HasCells (put_copy m to from done) (address_onward at done) 1
     there (Permanent number) h = omega (arith, h, lt)
     there (Local number) h = omega (arith, h, lt)
 

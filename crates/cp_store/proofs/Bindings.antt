@@ -8,14 +8,14 @@ use Rattle.cp_store.specs.declared.memory.Address.TheVariants.{Permanent}
 use Rattle.cp_store.specs.declared.memory.Frame.{Frame}
 use Rattle.cp_store.specs.Inside.{AllFitComponent, AllFitFrame, FitsComponent, FitsFrame}
 use Rattle.cp_store.specs.Memory.{Memory, onward}
-use Rattle.cp_store.specs.Arguments.{put_in_frame, put_value, put_binding, bound_in_frame, bound_in_component, bindings_after}
+use Rattle.cp_store.specs.Arguments.{put_in_frame, put_value, put_binding, bind_frame, bind_component, bindings_after}
 use Rattle.cp_store.proofs.Alike.{as_many_bindings, components_stay, frames_stay, large_in_frame, large_value}
 
 module _ (xs : List Argument) (bs : List Bound) (i : ℕ) (x : Argument) (d : Bound) (in_xs : i < length xs) (in_bs : i < length bs) (x_is : x ≡ get_or xs i x) where
-  pub frame_next : (m : Memory) (f : Frame) → bound_in_frame m f (drop i xs) (drop i bs) ≡ bound_in_frame (put_in_frame m f x.slot (get_or bs i d)) f (drop (i + 1) xs) (drop (i + 1) bs)
+  pub frame_next : (m : Memory) (f : Frame) → bind_frame m f (drop i xs) (drop i bs) ≡ bind_frame (put_in_frame m f x.slot (get_or bs i d)) f (drop (i + 1) xs) (drop (i + 1) bs)
   frame_next m f = rw (add-one, drop-cons xs i x, drop-cons bs i d, ← x_is) refl
 
-  pub component_next : (m : Memory) (base : ℕ) → bound_in_component m base (drop i xs) (drop i bs) ≡ bound_in_component (put_value m (Permanent (onward base x.slot)) (get_or bs i d)) base (drop (i + 1) xs) (drop (i + 1) bs)
+  pub component_next : (m : Memory) (base : ℕ) → bind_component m base (drop i xs) (drop i bs) ≡ bind_component (put_value m (Permanent (onward base x.slot)) (get_or bs i d)) base (drop (i + 1) xs) (drop (i + 1) bs)
   component_next m base = rw (add-one, drop-cons xs i x, drop-cons bs i d, ← x_is) refl
 
   pub bindings_next : (bindings : List ℕ) (base : ℕ) → bindings_after bindings base (drop i xs) (drop i bs) ≡ bindings_after (put_binding bindings (onward base x.slot) (get_or bs i d)) base (drop (i + 1) xs) (drop (i + 1) bs)
@@ -46,10 +46,10 @@ module _ (xs : List Argument) (bs : List Bound) (i : ℕ) (x : Argument) (d : Bo
   component_rest m bindings base h =
       components_stay m _ (large_value m (Permanent (onward base x.slot)) (get_or bs i d)) bindings _ (as_many_bindings bindings (onward base x.slot) (get_or bs i d)) base _ _ (component_first m bindings base h).1
 
-pub frame_done : (m : Memory) (f : Frame) (xs : List Argument) (bs : List Bound) (i : ℕ) → length xs ≤ i → bound_in_frame m f (drop i xs) bs ≡ m
+pub frame_done : (m : Memory) (f : Frame) (xs : List Argument) (bs : List Bound) (i : ℕ) → length xs ≤ i → bind_frame m f (drop i xs) bs ≡ m
 frame_done m f xs bs i h = rw (drop_all i xs h) refl
 
-pub component_done : (m : Memory) (base : ℕ) (xs : List Argument) (bs : List Bound) (i : ℕ) → length xs ≤ i → bound_in_component m base (drop i xs) bs ≡ m
+pub component_done : (m : Memory) (base : ℕ) (xs : List Argument) (bs : List Bound) (i : ℕ) → length xs ≤ i → bind_component m base (drop i xs) bs ≡ m
 component_done m base xs bs i h = rw (drop_all i xs h) refl
 
 pub bindings_done : (bindings : List ℕ) (base : ℕ) (xs : List Argument) (bs : List Bound) (i : ℕ) → length xs ≤ i → bindings_after bindings base (drop i xs) bs ≡ bindings

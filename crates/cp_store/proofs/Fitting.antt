@@ -18,13 +18,13 @@ use Rattle.cp_store.specs.declared.memory.Address.{Address}
 use Rattle.cp_store.specs.declared.memory.Address.TheVariants.{Permanent, Local}
 use Rattle.cp_store.specs.declared.memory.Frame.{Frame}
 use Rattle.cp_store.specs.declared.set.SetValue.{SetValue}
-use Rattle.cp_store.specs.Arguments.{bound_at}
+use Rattle.cp_store.specs.Arguments.{evaluate_argument}
 use Rattle.cp_store.specs.Components.{component_at}
 use Rattle.cp_store.specs.Inside.{AllFitComponent, AllFitFrame, ArgumentsAreRead, BindsBelow, CallsFit, CanGive, CanGiveAll, Covers, FindsAll, FindsArgument, FitsComponent, FitsFrame, HasBound, HasCells, StartsFit}
-use Rattle.cp_store.specs.Memory.{Memory, nowhere, opened}
+use Rattle.cp_store.specs.Memory.{Memory, nowhere, open_frame}
 use Rattle.cp_store.specs.Places.{address_at, set_at, value_at}
 use Rattle.cp_store.specs.Sets as sets
-use Rattle.cp_store.specs.Values.{ranged, then_with}
+use Rattle.cp_store.specs.Values.{check_range, then_with}
 use Rattle.cp_store.proofs.Alike.{has_more}
 use Rattle.cp_store.proofs.Opened.{bounds_are, fine, given_all, given_by}
 use Rattle.cp_store.proofs.Reaches.{and_left, and_right, behind_is, have_cells, has_fewer, some_has}
@@ -67,15 +67,15 @@ within slot cells extent h =
 
 -- a value fits into cells that are as many as its slot leaves
 module _ (m : Memory) (bindings : List ℕ) (caller callee : RoutineView) (f : Frame) (covers : Covers m caller f) (extent slot : ℕ) (y : Memory) (at : Address) (p : length m.permanents ≤ length y.permanents) (c : length m.cells ≤ length y.cells) (room : (n : ℕ) → slot + n ≤ extent → HasCells y at n) where
-  scalar_fits : (v : Result ℤ ErrorName) (low high : ℤ) (b : Bound) → is_within slot 1 extent ≡ true → then_with v (λ z. then_with (ranged low high z) (λ n. Ok (Scalar n))) ≡ Ok b → HasBound y at b
+  scalar_fits : (v : Result ℤ ErrorName) (low high : ℤ) (b : Bound) → is_within slot 1 extent ≡ true → then_with v (λ z. then_with (check_range low high z) (λ n. Ok (Scalar n))) ≡ Ok b → HasBound y at b
   scalar_fits v low high b inside is =
-      given (HasBound y at) b v (λ z. then_with (ranged low high z) (λ n. Ok (Scalar n)))
-      (λ z z_is. given (HasBound y at) b (ranged low high z) (λ n. Ok (Scalar n)) (λ n n_is same. same_bound (HasBound y at) (Scalar n) b same (room 1 (within slot 1 extent inside)))) is
+      given (HasBound y at) b v (λ z. then_with (check_range low high z) (λ n. Ok (Scalar n)))
+      (λ z z_is. given (HasBound y at) b (check_range low high z) (λ n. Ok (Scalar n)) (λ n n_is same. same_bound (HasBound y at) (Scalar n) b same (room 1 (within slot 1 extent inside)))) is
 
-  set_fits : (v : Result SetValue ErrorName) (low high : ℕ) (b : Bound) → is_within slot SET_CELLS extent ≡ true → then_with v (λ s. then_with (sets.ranged low high s) (λ n. Ok (Set n))) ≡ Ok b → HasBound y at b
+  set_fits : (v : Result SetValue ErrorName) (low high : ℕ) (b : Bound) → is_within slot SET_CELLS extent ≡ true → then_with v (λ s. then_with (sets.check_members low high s) (λ n. Ok (Set n))) ≡ Ok b → HasBound y at b
   set_fits v low high b inside is =
-      given (HasBound y at) b v (λ s. then_with (sets.ranged low high s) (λ n. Ok (Set n)))
-      (λ s s_is. given (HasBound y at) b (sets.ranged low high s) (λ n. Ok (Set n)) (λ n n_is same. same_bound (HasBound y at) (Set n) b same (room SET_CELLS (within slot SET_CELLS extent inside)))) is
+      given (HasBound y at) b v (λ s. then_with (sets.check_members low high s) (λ n. Ok (Set n)))
+      (λ s s_is. given (HasBound y at) b (sets.check_members low high s) (λ n. Ok (Set n)) (λ n n_is same. same_bound (HasBound y at) (Set n) b same (room SET_CELLS (within slot SET_CELLS extent inside)))) is
 
   copy_fits : (source : Place) (size : ℕ) (b : Bound) → has size (place_room caller source) ≡ true → is_within slot size extent ≡ true → then_with (address_at m f source) (λ from. Ok (Copy from size)) ≡ Ok b → HasBound y at b
   copy_fits source size b reads inside is =
@@ -97,16 +97,16 @@ in_frame y g slot (Component number) h = absurd h
 -- the fits of an argument, and of the others, make up those of all
 module _ (count : ℕ) (m : Memory) (bindings : List ℕ) (caller callee : RoutineView) (extent : ℕ) (f : Frame) (Fits : ℕ → Bound → Type 0) (AllFit : List Argument → List Bound → Type 0) where
   abbrev Fit : Argument → Type 0
-  Fit a = (b : Bound) (next further : ℕ) → argument_inside caller callee extent a.slot a.value ≡ true → follows a.value count a.slot next ≡ Some further → bound_at m bindings f a.value ≡ Ok b → Fits a.slot b
+  Fit a = (b : Bound) (next further : ℕ) → argument_inside caller callee extent a.slot a.value ≡ true → follows a.value count a.slot next ≡ Some further → evaluate_argument m bindings f a.value ≡ Ok b → Fits a.slot b
 
   step : (a : Argument) (xs : List Argument) (bs : List Bound) (next : ℕ) → Fit a
       → ((rest : List Bound) (further : ℕ) → binds_from count further xs ≡ true → given_by m bindings f xs ≡ fine rest → AllFit xs rest)
       → ((b : Bound) (rest : List Bound) → Fits a.slot b → AllFit xs rest → AllFit (a ∷ xs) (b ∷ rest))
       → argument_inside caller callee extent a.slot a.value ≡ true → binds_from count next (a ∷ xs) ≡ true → given_by m bindings f (a ∷ xs) ≡ fine bs → AllFit (a ∷ xs) bs
   step a xs bs next fit others both inside ends given =
-      go (bound_at m bindings f a.value) refl (follows a.value count a.slot next) refl (given_by m bindings f xs) refl ends given
+      go (evaluate_argument m bindings f a.value) refl (follows a.value count a.slot next) refl (given_by m bindings f xs) refl ends given
     where
-      go : (r : Result Bound ErrorName) → bound_at m bindings f a.value ≡ r → (o : Option ℕ) → follows a.value count a.slot next ≡ o → (t : Result (List Bound) ErrorName) → given_by m bindings f xs ≡ t
+      go : (r : Result Bound ErrorName) → evaluate_argument m bindings f a.value ≡ r → (o : Option ℕ) → follows a.value count a.slot next ≡ o → (t : Result (List Bound) ErrorName) → given_by m bindings f xs ≡ t
           → binds_on o (λ further. binds_from count further xs) ≡ true → then_with r (λ b. then_with t (λ rest. fine (b ∷ rest))) ≡ fine bs → AllFit (a ∷ xs) bs
       go (Ok b) found (Some further) next_is (Ok rest) rest_is ends given =
           subst (λ l. AllFit (a ∷ xs) l) (bounds_are given) (both b rest (fit b next further inside next_is found) (others rest further ends rest_is))
@@ -115,45 +115,45 @@ module _ (count : ℕ) (m : Memory) (bindings : List ℕ) (caller callee : Routi
       go (Err e) found o next_is t rest_is ends given = absurd (cc)
 
 module _ (m : Memory) (bindings : List ℕ) (caller callee : RoutineView) (f g : Frame) (covers : Covers m caller f) (extents : length callee.extents ≡ callee.references) (base_is : g.base ≡ length m.cells) (names_are : g.references ≡ length m.references) where
-  many_cells : length (opened m callee.image callee.references).cells ≡ length m.cells + length callee.image
+  many_cells : length (open_frame m callee.image callee.references).cells ≡ length m.cells + length callee.image
   many_cells = length-append m.cells callee.image
 
-  many_names : length (opened m callee.image callee.references).references ≡ length m.references + callee.references
+  many_names : length (open_frame m callee.image callee.references).references ≡ length m.references + callee.references
   many_names = let long = length-append m.references (replicate callee.references nowhere) in let count = length-replicate callee.references nowhere in omega (arith, long, count)
 
-  frame_room : (slot n : ℕ) → slot + n ≤ length callee.image → HasCells (opened m callee.image callee.references) (Local (g.base + slot)) n
+  frame_room : (slot n : ℕ) → slot + n ≤ length callee.image → HasCells (open_frame m callee.image callee.references) (Local (g.base + slot)) n
   frame_room slot n le = let many = many_cells in omega (arith, many, base_is, le)
 
-  wider : length m.cells ≤ length (opened m callee.image callee.references).cells
+  wider : length m.cells ≤ length (open_frame m callee.image callee.references).cells
   wider = let many = many_cells in omega (arith, many)
 
-  name_fits : (place : Place) (slot next further : ℕ) (b : Bound) → follows (value.Reference place) (length callee.extents) slot next ≡ Some further → bound_at m bindings f (value.Reference place) ≡ Ok b → FitsFrame (opened m callee.image callee.references) g slot b
+  name_fits : (place : Place) (slot next further : ℕ) (b : Bound) → follows (value.Reference place) (length callee.extents) slot next ≡ Some further → evaluate_argument m bindings f (value.Reference place) ≡ Ok b → FitsFrame (open_frame m callee.image callee.references) g slot b
   name_fits place slot next further b next_is is = go (nat_lt next (length callee.extents) && slot == next) refl next_is
     where
-      go : (w : Bool) → (nat_lt next (length callee.extents) && slot == next) ≡ w → (if w then Some (next + 1) else None) ≡ Some further → FitsFrame (opened m callee.image callee.references) g slot b
+      go : (w : Bool) → (nat_lt next (length callee.extents) && slot == next) ≡ w → (if w then Some (next + 1) else None) ≡ Some further → FitsFrame (open_frame m callee.image callee.references) g slot b
       go true test next_is =
           let there = ltb-true next (length callee.extents) (and_left (nat_lt next (length callee.extents)) (slot == next) test) in
           let slot_is = eqb-true slot next (and_right (nat_lt next (length callee.extents)) (slot == next) test) in
           let many = many_names in
-          given (FitsFrame (opened m callee.image callee.references) g slot) b (address_at m f place) (λ at. Ok (Reference at))
-          (λ at found same. same_bound (FitsFrame (opened m callee.image callee.references) g slot) (Reference at) b same (omega (arith, there, slot_is, many, names_are, extents))) is
+          given (FitsFrame (open_frame m callee.image callee.references) g slot) b (address_at m f place) (λ at. Ok (Reference at))
+          (λ at found same. same_bound (FitsFrame (open_frame m callee.image callee.references) g slot) (Reference at) b same (omega (arith, there, slot_is, many, names_are, extents))) is
       go false test next_is = absurd (cc)
 
-  frame_one : (v : ArgumentValue) (slot : ℕ) → is_component v ≡ false → (b : Bound) (next further : ℕ) → argument_inside caller callee (length callee.image) slot v ≡ true → follows v (length callee.extents) slot next ≡ Some further → bound_at m bindings f v ≡ Ok b → FitsFrame (opened m callee.image callee.references) g slot b
+  frame_one : (v : ArgumentValue) (slot : ℕ) → is_component v ≡ false → (b : Bound) (next further : ℕ) → argument_inside caller callee (length callee.image) slot v ≡ true → follows v (length callee.extents) slot next ≡ Some further → evaluate_argument m bindings f v ≡ Ok b → FitsFrame (open_frame m callee.image callee.references) g slot b
   frame_one (value.Scalar e low high) slot plain b next further inside next_is is =
-      in_frame _ g slot b (scalar_fits m bindings caller callee f covers (length callee.image) slot (opened m callee.image callee.references) (Local (g.base + slot)) (omega arith) wider (frame_room slot) (value_at m f e) low high b (and_right (expression_inside caller e) (is_within slot 1 (length callee.image)) inside) is)
+      in_frame _ g slot b (scalar_fits m bindings caller callee f covers (length callee.image) slot (open_frame m callee.image callee.references) (Local (g.base + slot)) (omega arith) wider (frame_room slot) (value_at m f e) low high b (and_right (expression_inside caller e) (is_within slot 1 (length callee.image)) inside) is)
   frame_one (value.Set e low high) slot plain b next further inside next_is is =
-      in_frame _ g slot b (set_fits m bindings caller callee f covers (length callee.image) slot (opened m callee.image callee.references) (Local (g.base + slot)) (omega arith) wider (frame_room slot) (set_at m f e) low high b (and_right (set_inside caller e) (is_within slot SET_CELLS (length callee.image)) inside) is)
+      in_frame _ g slot b (set_fits m bindings caller callee f covers (length callee.image) slot (open_frame m callee.image callee.references) (Local (g.base + slot)) (omega arith) wider (frame_room slot) (set_at m f e) low high b (and_right (set_inside caller e) (is_within slot SET_CELLS (length callee.image)) inside) is)
   frame_one (value.Copy source size) slot plain b next further inside next_is is =
-      in_frame _ g slot b (copy_fits m bindings caller callee f covers (length callee.image) slot (opened m callee.image callee.references) (Local (g.base + slot)) (omega arith) wider (frame_room slot) source size b
+      in_frame _ g slot b (copy_fits m bindings caller callee f covers (length callee.image) slot (open_frame m callee.image callee.references) (Local (g.base + slot)) (omega arith) wider (frame_room slot) source size b
       (and_left (has size (place_room caller source)) (is_within slot size (length callee.image)) inside) (and_right (has size (place_room caller source)) (is_within slot size (length callee.image)) inside) is)
   frame_one (value.Reference place) slot plain b next further inside next_is is = name_fits place slot next further b next_is is
   frame_one (value.Component c) slot plain b next further inside next_is is = absurd (cc)
 
-  frame_all : (xs : List Argument) (bs : List Bound) (next : ℕ) → arguments_inside caller callee (length callee.image) xs ≡ true → binds_from (length callee.extents) next xs ≡ true → HandsNone xs → given_by m bindings f xs ≡ fine bs → AllFitFrame (opened m callee.image callee.references) g xs bs
+  frame_all : (xs : List Argument) (bs : List Bound) (next : ℕ) → arguments_inside caller callee (length callee.image) xs ≡ true → binds_from (length callee.extents) next xs ≡ true → HandsNone xs → given_by m bindings f xs ≡ fine bs → AllFitFrame (open_frame m callee.image callee.references) g xs bs
   frame_all [] bs next inside ends none given = tt
   frame_all (a ∷ xs) bs next inside ends none given =
-      step (length callee.extents) m bindings caller callee (length callee.image) f (FitsFrame (opened m callee.image callee.references) g) (AllFitFrame (opened m callee.image callee.references) g) a xs bs next
+      step (length callee.extents) m bindings caller callee (length callee.image) f (FitsFrame (open_frame m callee.image callee.references) g) (AllFitFrame (open_frame m callee.image callee.references) g) a xs bs next
       (frame_one a.value a.slot none.0)
       (λ rest further ends given. frame_all xs rest further (and_right (argument_inside caller callee (length callee.image) a.slot a.value) (arguments_inside caller callee (length callee.image) xs) inside) ends none.1 given)
       (λ b rest first others. (first, others))
@@ -176,7 +176,7 @@ module _ (m : Memory) (bindings : List ℕ) (caller callee : RoutineView) (f : F
   own_room : (slot n : ℕ) → slot + n ≤ callee.own → HasCells m (Permanent (base + slot)) n
   own_room slot n le = omega (arith, own_is, le)
 
-  component_one : (v : ArgumentValue) (slot : ℕ) → (is_component v ≡ true → slot < slots) → (b : Bound) (next further : ℕ) → argument_inside caller callee callee.own slot v ≡ true → follows v 0 slot next ≡ Some further → bound_at m bindings f v ≡ Ok b → FitsComponent m bindings base slot b
+  component_one : (v : ArgumentValue) (slot : ℕ) → (is_component v ≡ true → slot < slots) → (b : Bound) (next further : ℕ) → argument_inside caller callee callee.own slot v ≡ true → follows v 0 slot next ≡ Some further → evaluate_argument m bindings f v ≡ Ok b → FitsComponent m bindings base slot b
   component_one (value.Scalar e low high) slot below b next further inside next_is is =
       in_component m bindings base slot b (scalar_fits m bindings caller callee f covers callee.own slot m (Permanent (base + slot)) (omega arith) (omega arith) (own_room slot) (value_at m f e) low high b (and_right (expression_inside caller e) (is_within slot 1 callee.own) inside) is)
   component_one (value.Set e low high) slot below b next further inside next_is is =

@@ -17,14 +17,14 @@ use Rattle.cp_store.specs.declared.memory.Address.{Address}
 use Rattle.cp_store.specs.declared.memory.Address.TheVariants.{Local}
 use Rattle.cp_store.specs.declared.memory.Frame.{Frame}
 use Rattle.cp_store.specs.declared.set.SetValue.{SetValue}
-use Rattle.cp_store.specs.Arguments.{bound_at, bounds_after, bounds_at, put_value, put_in_frame, bound_in_frame}
+use Rattle.cp_store.specs.Arguments.{evaluate_argument, bounds_after, bounds_at, put_value, put_in_frame, bind_frame}
 use Rattle.cp_store.specs.Components.{component_at}
 use Rattle.cp_store.specs.Inside.{HasCells, Covers, CallsCoverTheirFrames, WritesKeepCells}
-use Rattle.cp_store.specs.Memory.{Memory, nowhere, onward, opened, put_reference}
-use Rattle.cp_store.specs.Places.{address_at, referred, set_at, value_at}
+use Rattle.cp_store.specs.Memory.{Memory, nowhere, onward, open_frame, put_reference}
+use Rattle.cp_store.specs.Places.{address_at, reference_at, set_at, value_at}
 use Rattle.cp_store.specs.Sets as sets
 use Rattle.cp_store.specs.Sets.{put_word, put_pair, put_quad, put_set}
-use Rattle.cp_store.specs.Values.{ranged, then_with}
+use Rattle.cp_store.specs.Values.{check_range, then_with}
 use Rattle.cp_store.proofs.Alike.{Alike, alike_same, alike_value, has_more}
 use Rattle.cp_store.proofs.Reaches.{some_is, and_left, and_right, has_fewer, have_cells}
 
@@ -52,19 +52,19 @@ from_ok : {A : Type 0} (b : Bound) (r : Result A ErrorName) (go : A → Result B
 from_ok b (Ok x) go each is = each x is
 from_ok b (Err e) go each is = absurd (cc)
 
-scalar_plain : (b : Bound) (v : Result ℤ ErrorName) (low high : ℤ) → then_with v (λ z. then_with (ranged low high z) (λ n. Ok (Scalar n))) ≡ Ok b → names_place b ≡ false
+scalar_plain : (b : Bound) (v : Result ℤ ErrorName) (low high : ℤ) → then_with v (λ z. then_with (check_range low high z) (λ n. Ok (Scalar n))) ≡ Ok b → names_place b ≡ false
 scalar_plain b v low high is =
-    from_ok b v (λ z. then_with (ranged low high z) (λ n. Ok (Scalar n))) (λ z. from_ok b (ranged low high z) (λ n. Ok (Scalar n)) (λ n same. sym (ap names_in same))) is
+    from_ok b v (λ z. then_with (check_range low high z) (λ n. Ok (Scalar n))) (λ z. from_ok b (check_range low high z) (λ n. Ok (Scalar n)) (λ n same. sym (ap names_in same))) is
 
-set_plain : (b : Bound) (v : Result SetValue ErrorName) (low high : ℕ) → then_with v (λ s. then_with (sets.ranged low high s) (λ n. Ok (Set n))) ≡ Ok b → names_place b ≡ false
+set_plain : (b : Bound) (v : Result SetValue ErrorName) (low high : ℕ) → then_with v (λ s. then_with (sets.check_members low high s) (λ n. Ok (Set n))) ≡ Ok b → names_place b ≡ false
 set_plain b v low high is =
-    from_ok b v (λ s. then_with (sets.ranged low high s) (λ n. Ok (Set n))) (λ s. from_ok b (sets.ranged low high s) (λ n. Ok (Set n)) (λ n same. sym (ap names_in same))) is
+    from_ok b v (λ s. then_with (sets.check_members low high s) (λ n. Ok (Set n))) (λ s. from_ok b (sets.check_members low high s) (λ n. Ok (Set n)) (λ n same. sym (ap names_in same))) is
 
 -- ---- what arguments give, in the order of the list
 
 abbrev pub given_by : Memory → (bindings : List ℕ) → Frame → List Argument → Result (List Bound) ErrorName
 given_by m bindings f [] = Ok []
-given_by m bindings f (x ∷ xs) = then_with (bound_at m bindings f x.value) (λ b. then_with (given_by m bindings f xs) (λ bs. Ok (b ∷ bs)))
+given_by m bindings f (x ∷ xs) = then_with (evaluate_argument m bindings f x.value) (λ b. then_with (given_by m bindings f xs) (λ bs. Ok (b ∷ bs)))
 
 abbrev pub fine : List Bound → Result (List Bound) ErrorName
 fine bs = Ok bs
@@ -75,7 +75,7 @@ behind_others bs b (Err e) = refl
 
 given_behind : (m : Memory) (bindings : List ℕ) (f : Frame) (xs : List Argument) (bs : List Bound) → bounds_after m bindings f bs xs ≡ then_with (given_by m bindings f xs) (λ rest. fine (bs ++ rest))
 given_behind m bindings f [] bs = ap fine (sym (append-nil bs))
-given_behind m bindings f (x ∷ xs) bs = go (bound_at m bindings f x.value) (λ b. given_behind m bindings f xs (bs ++ b ∷ []))
+given_behind m bindings f (x ∷ xs) bs = go (evaluate_argument m bindings f x.value) (λ b. given_behind m bindings f xs (bs ++ b ∷ []))
   where
     go : (r : Result Bound ErrorName) → ((b : Bound) → bounds_after m bindings f (bs ++ b ∷ []) xs ≡ then_with (given_by m bindings f xs) (λ rest. fine ((bs ++ b ∷ []) ++ rest)))
         → then_with r (λ b. bounds_after m bindings f (bs ++ b ∷ []) xs) ≡ then_with (then_with r (λ b. then_with (given_by m bindings f xs) (λ rest. fine (b ∷ rest)))) (λ rest. fine (bs ++ rest))
@@ -109,7 +109,7 @@ record Binds (m : Memory) (callee : RoutineView) (g : Frame) (next : ℕ) (x : M
   pub permanents : length x.permanents ≡ length m.permanents
   pub cells : length x.cells ≡ length m.cells + length callee.image
   pub references : length x.references ≡ g.references + length callee.extents
-  pub behind : (k : ℕ) → k < next → HasCells m (referred x.references (g.references + k)) (slice_index_or callee.extents k 0)
+  pub behind : (k : ℕ) → k < next → HasCells m (reference_at x.references (g.references + k)) (slice_index_or callee.extents k 0)
 
 binds_alike : (m : Memory) (callee : RoutineView) (g : Frame) (next : ℕ) (x y : Memory) → Alike y x → Binds m callee g next x → Binds m callee g next y
 binds_alike m callee g next x y like b =
@@ -117,14 +117,14 @@ binds_alike m callee g next x y like b =
       permanents = like.permanents ∙ b.permanents;
       cells = like.cells ∙ b.cells;
       references = ap (λ l. length l) like.references ∙ b.references;
-      behind = λ k lt. subst (λ l. HasCells m (referred l (g.references + k)) (slice_index_or callee.extents k 0)) (sym like.references) (b.behind k lt);
+      behind = λ k lt. subst (λ l. HasCells m (reference_at l (g.references + k)) (slice_index_or callee.extents k 0)) (sym like.references) (b.behind k lt);
     }
 
 module _ (m : Memory) (callee : RoutineView) (g : Frame) (few : g.references + length callee.extents < 2 ^ 64) (next : ℕ) (x : Memory) (place : Address) (there : next < length callee.extents) (has_place : HasCells m place (slice_index_or callee.extents next 0)) (b : Binds m callee g next x) where
   exact : onward g.references next ≡ g.references + next
   exact = omega (arith, there, few)
 
-  place_behind : (k : ℕ) (w : Bool) → nat_lt k next ≡ w → k < next + 1 → HasCells m (referred (slice_set x.references (onward g.references next) place) (g.references + k)) (slice_index_or callee.extents k 0)
+  place_behind : (k : ℕ) (w : Bool) → nat_lt k next ≡ w → k < next + 1 → HasCells m (reference_at (slice_set x.references (onward g.references next) place) (g.references + k)) (slice_index_or callee.extents k 0)
   place_behind k true lt below =
       let before = ltb-true k next lt in
       let kept = get_or-set_other x.references (onward g.references next) (g.references + k) place nowhere (λ same. omega (arith, exact, same, before)) in
@@ -132,7 +132,7 @@ module _ (m : Memory) (callee : RoutineView) (g : Frame) (few : g.references + l
   place_behind k false ge below =
       let k_is : k ≡ next = omega (arith, below, ltb-false k next ge) in
       let set_there = get_or-set_at x.references (onward g.references next) (g.references + next) place nowhere (sym exact) (omega (arith, exact, b.references, there)) in
-      subst (λ j. HasCells m (referred (slice_set x.references (onward g.references next) place) (g.references + j)) (slice_index_or callee.extents j 0)) (sym k_is)
+      subst (λ j. HasCells m (reference_at (slice_set x.references (onward g.references next) place) (g.references + j)) (slice_index_or callee.extents j 0)) (sym k_is)
       (subst (λ a. HasCells m a (slice_index_or callee.extents next 0)) (sym set_there) has_place)
 
   binds_place : Binds m callee g (next + 1) (put_reference x (onward g.references next) place)
@@ -169,7 +169,7 @@ module _ (m : Memory) (bindings : List ℕ) (caller callee : RoutineView) (f g :
   named place slot b x next further binds (Err e) found o room w test enough next_is given = absurd (cc)
 
   one : (v : ArgumentValue) (slot : ℕ) (b : Bound) (x : Memory) (next further : ℕ) → Binds m callee g next x
-      → argument_inside caller callee (length callee.image) slot v ≡ true → follows v (length callee.extents) slot next ≡ Some further → bound_at m bindings f v ≡ Ok b
+      → argument_inside caller callee (length callee.image) slot v ≡ true → follows v (length callee.extents) slot next ≡ Some further → evaluate_argument m bindings f v ≡ Ok b
       → Binds m callee g further (put_in_frame x g slot b)
   one (value.Scalar e low high) slot b x next further binds inside next_is given = stays slot b x next further binds next_is (scalar_plain b (value_at m f e) low high given)
   one (value.Set e low high) slot b x next further binds inside next_is given = stays slot b x next further binds next_is (set_plain b (set_at m f e) low high given)
@@ -182,10 +182,10 @@ module _ (m : Memory) (bindings : List ℕ) (caller callee : RoutineView) (f g :
 
   all : (xs : List Argument) (bs : List Bound) (x : Memory) (next : ℕ) → Binds m callee g next x
       → arguments_inside caller callee (length callee.image) xs ≡ true → binds_from (length callee.extents) next xs ≡ true → given_by m bindings f xs ≡ fine bs
-      → Binds m callee g (length callee.extents) (bound_in_frame x g xs bs)
+      → Binds m callee g (length callee.extents) (bind_frame x g xs bs)
   all [] bs x next binds inside ends given = subst (λ n. Binds m callee g n x) (eqb-true next (length callee.extents) ends) binds
   all (a ∷ xs) bs x next binds inside ends given =
-      go (λ rest y further. all xs rest y further) (bound_at m bindings f a.value) refl (follows a.value (length callee.extents) a.slot next) refl (given_by m bindings f xs) refl ends given
+      go (λ rest y further. all xs rest y further) (evaluate_argument m bindings f a.value) refl (follows a.value (length callee.extents) a.slot next) refl (given_by m bindings f xs) refl ends given
     where
       first : argument_inside caller callee (length callee.image) a.slot a.value ≡ true
       first = and_left (argument_inside caller callee (length callee.image) a.slot a.value) (arguments_inside caller callee (length callee.image) xs) inside
@@ -193,35 +193,35 @@ module _ (m : Memory) (bindings : List ℕ) (caller callee : RoutineView) (f g :
       others : arguments_inside caller callee (length callee.image) xs ≡ true
       others = and_right (argument_inside caller callee (length callee.image) a.slot a.value) (arguments_inside caller callee (length callee.image) xs) inside
 
-      go : ((rest : List Bound) (y : Memory) (further : ℕ) → Binds m callee g further y → arguments_inside caller callee (length callee.image) xs ≡ true → binds_from (length callee.extents) further xs ≡ true → given_by m bindings f xs ≡ fine rest → Binds m callee g (length callee.extents) (bound_in_frame y g xs rest))
-          → (r : Result Bound ErrorName) → bound_at m bindings f a.value ≡ r → (o : Option ℕ) → follows a.value (length callee.extents) a.slot next ≡ o → (t : Result (List Bound) ErrorName) → given_by m bindings f xs ≡ t
+      go : ((rest : List Bound) (y : Memory) (further : ℕ) → Binds m callee g further y → arguments_inside caller callee (length callee.image) xs ≡ true → binds_from (length callee.extents) further xs ≡ true → given_by m bindings f xs ≡ fine rest → Binds m callee g (length callee.extents) (bind_frame y g xs rest))
+          → (r : Result Bound ErrorName) → evaluate_argument m bindings f a.value ≡ r → (o : Option ℕ) → follows a.value (length callee.extents) a.slot next ≡ o → (t : Result (List Bound) ErrorName) → given_by m bindings f xs ≡ t
           → binds_on o (λ further. binds_from (length callee.extents) further xs) ≡ true → then_with r (λ b. then_with t (λ rest. fine (b ∷ rest))) ≡ fine bs
-          → Binds m callee g (length callee.extents) (bound_in_frame x g (a ∷ xs) bs)
+          → Binds m callee g (length callee.extents) (bind_frame x g (a ∷ xs) bs)
       go further_on (Ok b) found (Some further) next_is (Ok rest) rest_is ends given =
-          subst (λ l. Binds m callee g (length callee.extents) (bound_in_frame x g (a ∷ xs) l)) (bounds_are given)
+          subst (λ l. Binds m callee g (length callee.extents) (bind_frame x g (a ∷ xs) l)) (bounds_are given)
           (further_on rest (put_in_frame x g a.slot b) further (one a.value a.slot b x next further binds first next_is found) others ends rest_is)
       go further_on (Ok b) found (Some further) next_is (Err e) rest_is ends given = absurd (cc)
       go further_on (Ok b) found None next_is t rest_is ends given = absurd (cc)
       go further_on (Err e) found o next_is t rest_is ends given = absurd (cc)
 
 module _ (m : Memory) (bindings : List ℕ) (caller callee : RoutineView) (f g : Frame) (xs : List Argument) (bs : List Bound) (covers : Covers m caller f) (inside : arguments_inside caller callee (length callee.image) xs ≡ true) (ends : binds_from (length callee.extents) 0 xs ≡ true) (given : bounds_at m bindings f xs ≡ Ok bs) (extents : length callee.extents ≡ callee.references) (names_are : g.references ≡ length m.references) (names_few : length m.references + callee.references < 2 ^ 64) where
-  bound_all : Binds m callee g (length callee.extents) (bound_in_frame (opened m callee.image callee.references) g xs bs)
+  bound_all : Binds m callee g (length callee.extents) (bind_frame (open_frame m callee.image callee.references) g xs bs)
   bound_all =
       let image_long = length-append m.cells callee.image in
       let names_long = length-append m.references (replicate callee.references nowhere) in
       let names_count = length-replicate callee.references nowhere in
       let few : g.references + length callee.extents < 2 ^ 64 = omega (arith, extents, names_are, names_few) in
-      let start : Binds m callee g 0 (opened m callee.image callee.references) =
+      let start : Binds m callee g 0 (open_frame m callee.image callee.references) =
       record {
         permanents = refl;
         cells = image_long;
         references = omega (arith, names_long, names_count, extents, names_are);
         behind = λ k lt. absurd (omega (arith, lt));
       } in
-      all m bindings caller callee f g covers few xs bs (opened m callee.image callee.references) 0 start inside ends (given_all m bindings f xs bs given)
+      all m bindings caller callee f g covers few xs bs (open_frame m callee.image callee.references) 0 start inside ends (given_all m bindings f xs bs given)
 
   -- what a `var` parameter names was there before the call
-  pub opened_behind : (k : ℕ) → k < length callee.extents → HasCells m (referred (bound_in_frame (opened m callee.image callee.references) g xs bs).references (g.references + k)) (slice_index_or callee.extents k 0)
+  pub opened_behind : (k : ℕ) → k < length callee.extents → HasCells m (reference_at (bind_frame (open_frame m callee.image callee.references) g xs bs).references (g.references + k)) (slice_index_or callee.extents k 0)
   opened_behind = bound_all.behind
 
 pub opened_covered : CallsCoverTheirFrames
@@ -231,7 +231,7 @@ opened_covered m bindings caller callee f g xs bs covers inside ends given exten
       own = omega (arith, own_is, done.permanents);
       cells = omega (arith, base_is, done.cells);
       references = omega (arith, done.references);
-      behind = λ k lt. has_more m (bound_in_frame (opened m callee.image callee.references) g xs bs) _ _ (omega (arith, done.permanents)) (omega (arith, done.cells)) (done.behind k lt);
+      behind = λ k lt. has_more m (bind_frame (open_frame m callee.image callee.references) g xs bs) _ _ (omega (arith, done.permanents)) (omega (arith, done.cells)) (done.behind k lt);
       permanents_few = omega (arith, done.permanents, covers.permanents_few);
       cells_few = omega (arith, done.cells, cells_few);
       references_few = omega (arith, done.references, extents, names_are, names_few);
@@ -244,7 +244,7 @@ written_covered m r f at b covers =
       own = omega (arith, like.permanents, covers.own);
       cells = omega (arith, like.cells, covers.cells);
       references = subst (λ l. f.references + length r.extents ≤ length l) (sym like.references) covers.references;
-      behind = λ k lt. subst (λ l. HasCells (put_value m at b) (referred l (f.references + k)) (slice_index_or r.extents k 0)) (sym like.references) (has_more m (put_value m at b) _ _ (omega (arith, like.permanents)) (omega (arith, like.cells)) (covers.behind k lt));
+      behind = λ k lt. subst (λ l. HasCells (put_value m at b) (reference_at l (f.references + k)) (slice_index_or r.extents k 0)) (sym like.references) (has_more m (put_value m at b) _ _ (omega (arith, like.permanents)) (omega (arith, like.cells)) (covers.behind k lt));
       permanents_few = omega (arith, like.permanents, covers.permanents_few);
       cells_few = omega (arith, like.cells, covers.cells_few);
       references_few = subst (λ l. length l < 2 ^ 64) (sym like.references) covers.references_few;

@@ -19,10 +19,10 @@ use Rattle.cp_store.specs.declared.memory.Address.{Address}
 use Rattle.cp_store.specs.declared.memory.Address.TheVariants.{Permanent, Local}
 use Rattle.cp_store.specs.declared.memory.Frame.{Frame}
 use Rattle.cp_store.specs.Inside.{HasCells, Covers, CanRead, CanReach, CanGoThrough, MovesBy, Begins, PlacesHaveTheirCells, VariablesHaveTheirCells}
-use Rattle.cp_store.specs.Memory.{Memory, moved, nowhere, onward, stretch}
+use Rattle.cp_store.specs.Memory.{Memory, address_onward, nowhere, onward, stretch}
 use Rattle.cp_store.specs.Places as places
-use Rattle.cp_store.specs.Places.{ToValue, ToSet, ToElement, ToAddress, address_at, origin_address, element_offset, element_at, indexed_at, value_at}
-use Rattle.cp_store.specs.Values.{is_within, ranged, then_with}
+use Rattle.cp_store.specs.Places.{ToValue, ToSet, ToElement, ToAddress, address_at, origin_address, element_offset, element_at, element_address, value_at}
+use Rattle.cp_store.specs.Values.{is_within, check_range, then_with}
 
 pub some_is : {x y : ℕ} → Some x ≡ Some y → x ≡ y
 some_is {x = x} {y = y} same = ap (some_or x) same
@@ -54,7 +54,7 @@ behind_is first cells left is = go (nat_le first cells) refl is
     go false fits is = absurd (cc)
 
 -- the cells further on
-has_moved : (m : Memory) (at : Address) (further cells : ℕ) → HasCells m at (further + cells) → HasCells m (moved at further) cells
+has_moved : (m : Memory) (at : Address) (further cells : ℕ) → HasCells m at (further + cells) → HasCells m (address_onward at further) cells
 has_moved m (Permanent number) further cells h = omega (arith, h)
 has_moved m (Local number) further cells h = omega (arith, h)
 
@@ -84,7 +84,7 @@ pub stretch_exact : (elements size : ℕ) → elements * size < 2 ^ 64 → stret
 stretch_exact elements size few = omega (arith, few)
 
 -- an index within its bounds is not further from the low one than the high one is
-pub nearer : (low high z i : ℤ) (size : ℕ) → ranged low high z ≡ Ok i → unsigned_abs (i -ℤ low) * size ≤ unsigned_abs (high -ℤ low) * size
+pub nearer : (low high z i : ℤ) (size : ℕ) → check_range low high z ≡ Ok i → unsigned_abs (i -ℤ low) * size ≤ unsigned_abs (high -ℤ low) * size
 nearer low high z i size is = go (is_within low high z) refl is
   where
     value_is : {x y : ℤ} → ◌≡◌ {A = Result ℤ ErrorName} (Ok x) (Ok y) → x ≡ y
@@ -96,31 +96,31 @@ nearer low high z i size is = go (is_within low high z) refl is
         (mul-le-mul_right {m = unsigned_abs (z -ℤ low)} {n = unsigned_abs (high -ℤ low)} size (between low high z (and_left (int_le low z) (int_le z high) within) (and_right (int_le low z) (int_le z high) within)))
     go false within is = absurd (cc)
 
-pub distance_is : (low high z i : ℤ) (size elements : ℕ) → ranged low high z ≡ Ok i → elements ≡ unsigned_abs (i -ℤ low) → elements * size < 2 ^ 64 → ◌≡◌ {A = Result ℕ ErrorName} (Ok (elements * size)) (element_offset low high size z)
+pub distance_is : (low high z i : ℤ) (size elements : ℕ) → check_range low high z ≡ Ok i → elements ≡ unsigned_abs (i -ℤ low) → elements * size < 2 ^ 64 → ◌≡◌ {A = Result ℕ ErrorName} (Ok (elements * size)) (element_offset low high size z)
 distance_is low high z i size elements ranged_is elements_are few =
     let exact : stretch (unsigned_abs (i -ℤ low)) size ≡ elements * size = subst (λ e. stretch e size ≡ elements * size) elements_are (stretch_exact elements size few) in
     sym (ap (λ r. then_with r (λ j. Ok (stretch (unsigned_abs (j -ℤ low)) size))) ranged_is ∙ ap Ok exact)
 
 pub not_further : (low high z : ℤ) (size far : ℕ) → element_offset low high size z ≡ Ok far → far ≤ unsigned_abs (high -ℤ low) * size
-not_further low high z size far is = go (ranged low high z) refl is
+not_further low high z size far is = go (check_range low high z) refl is
   where
-    go : (r : Result ℤ ErrorName) → ranged low high z ≡ r → then_with r (λ i. Ok (stretch (unsigned_abs (i -ℤ low)) size)) ≡ Ok far → far ≤ unsigned_abs (high -ℤ low) * size
+    go : (r : Result ℤ ErrorName) → check_range low high z ≡ r → then_with r (λ i. Ok (stretch (unsigned_abs (i -ℤ low)) size)) ≡ Ok far → far ≤ unsigned_abs (high -ℤ low) * size
     go (Ok i) ranged_is is = let near = nearer low high z i size ranged_is in let same : stretch (unsigned_abs (i -ℤ low)) size ≡ far = cc in omega (arith, near, same)
     go (Err e) ranged_is is = absurd (cc)
 
 -- the element of an index, by what its parts are
 module _ (m : Memory) (low high : ℤ) (size : ℕ) where
-  far_inside : (at b : Address) (left inner : ℕ) (z : ℤ) → HasCells m at left → unsigned_abs (high -ℤ low) * size + inner ≡ left → then_with (element_offset low high size z) (λ far. Ok (moved at far)) ≡ Ok b → HasCells m b inner
+  far_inside : (at b : Address) (left inner : ℕ) (z : ℤ) → HasCells m at left → unsigned_abs (high -ℤ low) * size + inner ≡ left → then_with (element_offset low high size z) (λ far. Ok (address_onward at far)) ≡ Ok b → HasCells m b inner
   far_inside at b left inner z h room is = go (is_within low high z) refl is
     where
-      go : (w : Bool) → is_within low high z ≡ w → then_with (then_with (if w then Ok z else Err Range) (λ i. Ok (stretch (unsigned_abs (i -ℤ low)) size))) (λ far. Ok (moved at far)) ≡ Ok b → HasCells m b inner
+      go : (w : Bool) → is_within low high z ≡ w → then_with (then_with (if w then Ok z else Err Range) (λ i. Ok (stretch (unsigned_abs (i -ℤ low)) size))) (λ far. Ok (address_onward at far)) ≡ Ok b → HasCells m b inner
       go true within is =
           let near = between low high z (and_left (int_le low z) (int_le z high) within) (and_right (int_le low z) (int_le z high) within) in
           let product = mul-le-mul_right {m = unsigned_abs (z -ℤ low)} {n = unsigned_abs (high -ℤ low)} size near in
           subst (λ x. HasCells m x inner) (ok_is is) (has_moved m at _ inner (has_fewer m at left _ (omega (arith, room, product)) h))
       go false within is = absurd (cc)
 
-  step_inside : (x : Bool) (v : Result ℤ ErrorName) (at b : Address) (left inner : ℕ) → HasCells m at left → (if x then behind (unsigned_abs (high -ℤ low) * size) left else None) ≡ Some inner → then_with v (λ z. then_with (element_offset low high size z) (λ far. Ok (moved at far))) ≡ Ok b → HasCells m b inner
+  step_inside : (x : Bool) (v : Result ℤ ErrorName) (at b : Address) (left inner : ℕ) → HasCells m at left → (if x then behind (unsigned_abs (high -ℤ low) * size) left else None) ≡ Some inner → then_with v (λ z. then_with (element_offset low high size z) (λ far. Ok (address_onward at far))) ≡ Ok b → HasCells m b inner
   step_inside true (Ok z) at b left inner h room is = far_inside at b left inner z h (behind_is _ left inner room) is
   step_inside true (Err e) at b left inner h room is = absurd (cc)
   step_inside false v at b left inner h room is = absurd (cc)
@@ -133,16 +133,16 @@ module _ (m : Memory) (r : RoutineView) (f : Frame) (covers : Covers m r f) wher
       room_is : index_room i r left ≡ (if expression_inside r (out-Index i).at then behind (unsigned_abs ((out-Index i).high -ℤ (out-Index i).low) * (out-Index i).size) left else None)
       room_is = ap (λ go. go r left) (fold_out-Index ToInside ToInside ToRoomBehind ToRoom inside.expression_step inside.set_step inside.index_step inside.place_step i)
 
-      element_is : element_at i m f at ≡ then_with (value_at m f (out-Index i).at) (λ z. then_with (element_offset (out-Index i).low (out-Index i).high (out-Index i).size z) (λ far. Ok (moved at far)))
+      element_is : element_at i m f at ≡ then_with (value_at m f (out-Index i).at) (λ z. then_with (element_offset (out-Index i).low (out-Index i).high (out-Index i).size z) (λ far. Ok (address_onward at far)))
       element_is = ap (λ go. go m f at) (fold_out-Index ToValue ToSet ToElement ToAddress places.expression_step places.set_step places.index_step places.place_step i)
 
-  through_inside : (is : List Index) (at b : Address) (left cells : ℕ) → HasCells m at left → indices_room r left is ≡ Some cells → indexed_at m f at is ≡ Ok b → HasCells m b cells
+  through_inside : (is : List Index) (at b : Address) (left cells : ℕ) → HasCells m at left → indices_room r left is ≡ Some cells → element_address m f at is ≡ Ok b → HasCells m b cells
   through_inside [] at b left cells h room found = subst (HasCells m b) (some_is room) (subst (λ x. HasCells m x left) (ok_is found) h)
   through_inside (i ∷ is) at b left cells h room found = go (λ further inner. through_inside is further b inner cells) (index_room i r left) (element_at i m f at) refl refl room found
     where
-      go : ((further : Address) (inner : ℕ) → HasCells m further inner → indices_room r inner is ≡ Some cells → indexed_at m f further is ≡ Ok b → HasCells m b cells)
+      go : ((further : Address) (inner : ℕ) → HasCells m further inner → indices_room r inner is ≡ Some cells → element_address m f further is ≡ Ok b → HasCells m b cells)
           → (o : Option ℕ) (e : Result Address ErrorName) → index_room i r left ≡ o → element_at i m f at ≡ e
-          → then_some o (λ inner. indices_room r inner is) ≡ Some cells → then_with e (λ inner. indexed_at m f inner is) ≡ Ok b → HasCells m b cells
+          → then_some o (λ inner. indices_room r inner is) ≡ Some cells → then_with e (λ inner. element_address m f inner is) ≡ Ok b → HasCells m b cells
       go rest (Some inner) (Ok further) has found room reached = rest further inner (element_inside i at further left inner h has found) room reached
       go rest (Some inner) (Err e) has found room reached = absurd (cc)
       go rest None e has found room reached = absurd (cc)
@@ -194,24 +194,24 @@ module _ (m : Memory) (r : RoutineView) (f : Frame) (covers : Covers m r f) (p :
   start_has : HasCells m (origin_address m.references f (out-Place p).origin) ((out-Place p).offset + (parts r p cells room).left)
   start_has = let k = parts r p cells room in subst (HasCells m (origin_address m.references f (out-Place p).origin)) (sym k.offset) (begun_inside m r f covers (out-Place p).origin k.whole k.begins)
 
-  offset_has : HasCells m (moved (origin_address m.references f (out-Place p).origin) (out-Place p).offset) (parts r p cells room).left
+  offset_has : HasCells m (address_onward (origin_address m.references f (out-Place p).origin) (out-Place p).offset) (parts r p cells room).left
   offset_has = has_moved m _ (out-Place p).offset (parts r p cells room).left start_has
 
-pub address_by : (m : Memory) (f : Frame) (p : Place) → address_at m f p ≡ indexed_at m f (moved (origin_address m.references f (out-Place p).origin) (out-Place p).offset) (out-Place p).indices.items
+pub address_by : (m : Memory) (f : Frame) (p : Place) → address_at m f p ≡ element_address m f (address_onward (origin_address m.references f (out-Place p).origin) (out-Place p).offset) (out-Place p).indices.items
 address_by m f p = ap (λ at. at m f) (fold_out-Place ToValue ToSet ToElement ToAddress places.expression_step places.set_step places.index_step places.place_step p)
 
 -- the address, as it is computed: from the beginning to the offset, and through the indices
-module _ (m : Memory) (f : Frame) (p : Place) (first start : Address) (is : List Index) (first_is : first ≡ origin_address m.references f (out-Place p).origin) (start_is : start ≡ moved first (out-Place p).offset) (is_are : is ≡ (out-Place p).indices.items) where
-  pub start_by : start ≡ moved (origin_address m.references f (out-Place p).origin) (out-Place p).offset
-  start_by = start_is ∙ ap (λ a. moved a (out-Place p).offset) first_is
+module _ (m : Memory) (f : Frame) (p : Place) (first start : Address) (is : List Index) (first_is : first ≡ origin_address m.references f (out-Place p).origin) (start_is : start ≡ address_onward first (out-Place p).offset) (is_are : is ≡ (out-Place p).indices.items) where
+  pub start_by : start ≡ address_onward (origin_address m.references f (out-Place p).origin) (out-Place p).offset
+  start_by = start_is ∙ ap (λ a. address_onward a (out-Place p).offset) first_is
 
-  pub address_through : indexed_at m f start is ≡ address_at m f p
-  address_through = ap (λ l. indexed_at m f start l) is_are ∙ ap (λ a. indexed_at m f a (out-Place p).indices.items) start_by ∙ sym (address_by m f p)
+  pub address_through : element_address m f start is ≡ address_at m f p
+  address_through = ap (λ l. element_address m f start l) is_are ∙ ap (λ a. element_address m f a (out-Place p).indices.items) start_by ∙ sym (address_by m f p)
 
   pub address_there : length is < 1 → ◌≡◌ {A = Result Address ErrorName} (Ok start) (address_at m f p)
   address_there short = none is short ∙ address_through
     where
-      none : (l : List Index) → length l < 1 → ◌≡◌ {A = Result Address ErrorName} (Ok start) (indexed_at m f start l)
+      none : (l : List Index) → length l < 1 → ◌≡◌ {A = Result Address ErrorName} (Ok start) (element_address m f start l)
       none [] short = refl
       none (i ∷ l) short = absurd (omega (arith, short))
 
@@ -251,10 +251,10 @@ module _ (m : Memory) (f : Frame) (p : Place) (cells : ℕ) (can : CanReach m f 
   pub moves : MovesBy (origin_address m.references f (out-Place p).origin) (out-Place p).offset
   moves = moves_by m _ (out-Place p).offset (parts can.0 p left.0 left.1).left can.1.permanents_few can.1.cells_few (start_has m can.0 f can.1 p left.0 left.1)
 
-  goes : CanGoThrough m f (moved (origin_address m.references f (out-Place p).origin) (out-Place p).offset) (out-Place p).indices.items cells
+  goes : CanGoThrough m f (address_onward (origin_address m.references f (out-Place p).origin) (out-Place p).offset) (out-Place p).indices.items cells
   goes = let k = parts can.0 p left.0 left.1 in (can.0, can.1, (k.left, offset_has m can.0 f can.1 p left.0 left.1, has_some cells left.0 (indices_room can.0 k.left (out-Place p).indices.items) k.indices left.2))
 
-pub goes_on : (m : Memory) (f : Frame) (p : Place) (cells : ℕ) → CanReach m f p cells → (first start : Address) (is : List Index) → first ≡ origin_address m.references f (out-Place p).origin → start ≡ moved first (out-Place p).offset → is ≡ (out-Place p).indices.items → CanGoThrough m f start is cells
+pub goes_on : (m : Memory) (f : Frame) (p : Place) (cells : ℕ) → CanReach m f p cells → (first start : Address) (is : List Index) → first ≡ origin_address m.references f (out-Place p).origin → start ≡ address_onward first (out-Place p).offset → is ≡ (out-Place p).indices.items → CanGoThrough m f start is cells
 goes_on m f p cells can first start is first_is start_is is_are =
     subst (λ l. CanGoThrough m f start l cells) (sym is_are)
     (subst (λ a. CanGoThrough m f a (out-Place p).indices.items cells) (sym (start_by m f p first start is first_is start_is is_are)) (goes m f p cells can))
@@ -287,21 +287,21 @@ module _ (m : Memory) (f : Frame) (at : Address) (xs : List Index) (k : ℕ) (x 
   rest_are : drop k xs ≡ x ∷ drop (k + 1) xs
   rest_are = rw (add-one, drop-cons xs k x, ← x_is) refl
 
-  element_is : element_at x m f at ≡ then_with (value_at m f (out-Index x).at) (λ z. then_with (element_offset (out-Index x).low (out-Index x).high (out-Index x).size z) (λ far. Ok (moved at far)))
+  element_is : element_at x m f at ≡ then_with (value_at m f (out-Index x).at) (λ z. then_with (element_offset (out-Index x).low (out-Index x).high (out-Index x).size z) (λ far. Ok (address_onward at far)))
   element_is = ap (λ go. go m f at) (fold_out-Index ToValue ToSet ToElement ToAddress places.expression_step places.set_step places.index_step places.place_step x)
 
   -- the loop over the indices, where the value and the offset are known
-  pub index_steps : (z : ℤ) (far : ℕ) → value_at m f (out-Index x).at ≡ Ok z → element_offset (out-Index x).low (out-Index x).high (out-Index x).size z ≡ Ok far → indexed_at m f at (drop k xs) ≡ indexed_at m f (moved at far) (drop (k + 1) xs)
+  pub index_steps : (z : ℤ) (far : ℕ) → value_at m f (out-Index x).at ≡ Ok z → element_offset (out-Index x).low (out-Index x).high (out-Index x).size z ≡ Ok far → element_address m f at (drop k xs) ≡ element_address m f (address_onward at far) (drop (k + 1) xs)
   index_steps z far value_is far_is =
-      ap (λ l. indexed_at m f at l) rest_are
-      ∙ ap (λ e. then_with e (λ inner. indexed_at m f inner (drop (k + 1) xs)))
-      (element_is ∙ ap (λ v. then_with v (λ z. then_with (element_offset (out-Index x).low (out-Index x).high (out-Index x).size z) (λ far. Ok (moved at far)))) value_is ∙ ap (λ d. then_with d (λ far. Ok (moved at far))) far_is)
+      ap (λ l. element_address m f at l) rest_are
+      ∙ ap (λ e. then_with e (λ inner. element_address m f inner (drop (k + 1) xs)))
+      (element_is ∙ ap (λ v. then_with v (λ z. then_with (element_offset (out-Index x).low (out-Index x).high (out-Index x).size z) (λ far. Ok (address_onward at far)))) value_is ∙ ap (λ d. then_with d (λ far. Ok (address_onward at far))) far_is)
 
-  pub index_fails : (z : ℤ) (e : ErrorName) → value_at m f (out-Index x).at ≡ Ok z → element_offset (out-Index x).low (out-Index x).high (out-Index x).size z ≡ Err e → indexed_at m f at (drop k xs) ≡ Err e
+  pub index_fails : (z : ℤ) (e : ErrorName) → value_at m f (out-Index x).at ≡ Ok z → element_offset (out-Index x).low (out-Index x).high (out-Index x).size z ≡ Err e → element_address m f at (drop k xs) ≡ Err e
   index_fails z e value_is far_is =
-      ap (λ l. indexed_at m f at l) rest_are
-      ∙ ap (λ e. then_with e (λ inner. indexed_at m f inner (drop (k + 1) xs)))
-      (element_is ∙ ap (λ v. then_with v (λ z. then_with (element_offset (out-Index x).low (out-Index x).high (out-Index x).size z) (λ far. Ok (moved at far)))) value_is ∙ ap (λ d. then_with d (λ far. Ok (moved at far))) far_is)
+      ap (λ l. element_address m f at l) rest_are
+      ∙ ap (λ e. then_with e (λ inner. element_address m f inner (drop (k + 1) xs)))
+      (element_is ∙ ap (λ v. then_with v (λ z. then_with (element_offset (out-Index x).low (out-Index x).high (out-Index x).size z) (λ far. Ok (address_onward at far)))) value_is ∙ ap (λ d. then_with d (λ far. Ok (address_onward at far))) far_is)
 
 module _ (m : Memory) (f : Frame) (at : Address) (xs : List Index) (k : ℕ) (x : Index) (in_xs : k < length xs) (x_is : x ≡ get_or xs k x) (can : (cells : ℕ) × CanGoThrough m f at (drop k xs) cells) where
   xs_are : drop k xs ≡ x ∷ drop (k + 1) xs
@@ -326,5 +326,5 @@ module _ (m : Memory) (f : Frame) (at : Address) (xs : List Index) (k : ℕ) (x 
     pub index_moves : MovesBy at far
     index_moves = moves_by m at far first.inner can.1.1.permanents_few can.1.1.cells_few far_has
 
-    pub index_goes : (cells : ℕ) × CanGoThrough m f (moved at far) (drop (k + 1) xs) cells
+    pub index_goes : (cells : ℕ) × CanGoThrough m f (address_onward at far) (drop (k + 1) xs) cells
     index_goes = (can.0, (can.1.0, can.1.1, (first.inner, has_moved m at far first.inner far_has, first.further)))

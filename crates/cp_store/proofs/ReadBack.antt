@@ -8,7 +8,7 @@ use Rattle.cp_store.specs.declared.memory.Address.{Address}
 use Rattle.cp_store.specs.declared.memory.Address.TheVariants.{Permanent, Local}
 use Rattle.cp_store.specs.declared.set.SetValue.{SetValue}
 use Rattle.cp_store.specs.Memory.{Memory}
-use Rattle.cp_store.specs.Sets.{word_at, put_word, stored_at, put_set}
+use Rattle.cp_store.specs.Sets.{word_at, put_word, load_set, put_set}
 use Rattle.cp_store.specs.SetLaws.{SetsAreReadBack}
 
 -- the address of a cell of the process, or of a permanent one
@@ -105,7 +105,7 @@ all_same b m n x within small =
 
 -- ---- where no sum ends early
 
-stored_is : (b : Bool) (m : Memory) (n : ℕ) → n + 8 < 18446744073709551616 → (stored_at m (at b n)).members ≡ all_of b m n
+stored_is : (b : Bool) (m : Memory) (n : ℕ) → n + 8 < 18446744073709551616 → (load_set m (at b n)).members ≡ all_of b m n
 stored_is true m n h =
     let e1 : min (n + 1) 18446744073709551615 ≡ n + 1 = omega arith in
     let e2 : min (n + 2) 18446744073709551615 ≡ n + 2 = omega arith in
@@ -145,9 +145,9 @@ put_is false m n s h =
     let e7 : min (n + 4 + 2 + 1) 18446744073709551615 ≡ n + 4 + 2 + 1 = omega arith in
     simp (e1, e2, e3, e4, e5, e6, e7)
 
-members_back : (b : Bool) (m : Memory) (n : ℕ) (s : SetValue) → n + 8 ≤ length (cells_of b m) → n + 8 < 18446744073709551616 → s.members < 2 ^ 128 → (stored_at (put_set m (at b n) s) (at b n)).members ≡ s.members
+members_back : (b : Bool) (m : Memory) (n : ℕ) (s : SetValue) → n + 8 ≤ length (cells_of b m) → n + 8 < 18446744073709551616 → s.members < 2 ^ 128 → (load_set (put_set m (at b n) s) (at b n)).members ≡ s.members
 members_back b m n s within far small =
-    ap (λ (k : Memory). (stored_at k (at b n)).members) (put_is b m n s far) ∙ stored_is b (with_all b m n s.members) n far ∙ all_same b m n s.members within small
+    ap (λ (k : Memory). (load_set k (at b n)).members) (put_is b m n s far) ∙ stored_is b (with_all b m n s.members) n far ∙ all_same b m n s.members within small
 
 abbrev set_with : ℕ → SetValue
 set_with n = record { members = n }

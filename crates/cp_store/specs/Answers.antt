@@ -6,14 +6,14 @@ use Rattle.cp_store.specs.declared.error.ErrorName.{ErrorName}
 use Rattle.cp_store.specs.declared.error.ErrorName.TheVariants as error
 
 -- what an answer stands for
-abbrev pub answered : Evaluation → Result ℤ ErrorName
-answered (answer.Value value) = Ok value
-answered answer.Overflow = Err error.Overflow
-answered answer.ZeroDivisor = Err error.ZeroDivisor
-answered answer.Range = Err error.Range
-answered answer.NoCase = Err error.NoCase
-answered answer.QueueInUse = Err error.QueueInUse
-answered answer.NotInit = Err error.NotInit
-answered answer.InitTwice = Err error.InitTwice
-answered answer.Assertion = Err error.Assertion
-answered answer.Invariant = Err error.Invariant
+abbrev pub result_of : Evaluation → Result ℤ ErrorName
+result_of (answer.Value value) = Ok value
+result_of answer.Overflow = Err error.Overflow
+result_of answer.ZeroDivisor = Err error.ZeroDivisor
+result_of answer.Range = Err error.Range
+result_of answer.NoCase = Err error.NoCase
+result_of answer.QueueInUse = Err error.QueueInUse
+result_of answer.NotInit = Err error.NotInit
+result_of answer.InitTwice = Err error.InitTwice
+result_of answer.Assertion = Err error.Assertion
+result_of answer.Invariant = Err error.Invariant

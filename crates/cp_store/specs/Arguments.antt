@@ -13,20 +13,20 @@ use Rattle.cp_store.specs.Components.{component_at}
 use Rattle.cp_store.specs.Memory.{Memory, onward, put_number, put_copy, put_reference}
 use Rattle.cp_store.specs.Places.{value_at, set_at, address_at}
 use Rattle.cp_store.specs.Sets as sets
-use Rattle.cp_store.specs.Values.{then_with, ranged}
+use Rattle.cp_store.specs.Values.{then_with, check_range}
 
 -- what an argument gives
-abbrev pub bound_at : Memory → (bindings : List ℕ) → Frame → ArgumentValue → Result Bound ErrorName
-bound_at m bindings f (value.Scalar e low high) = then_with (value_at m f e) (λ z. then_with (ranged low high z) (λ v. Ok (Scalar v)))
-bound_at m bindings f (value.Set e low high) = then_with (set_at m f e) (λ s. then_with (sets.ranged low high s) (λ v. Ok (Set v)))
-bound_at m bindings f (value.Copy source size) = then_with (address_at m f source) (λ at. Ok (Copy at size))
-bound_at m bindings f (value.Reference place) = then_with (address_at m f place) (λ at. Ok (Reference at))
-bound_at m bindings f (value.Component c) = then_with (component_at m bindings f c) (λ n. Ok (Component n))
+abbrev pub evaluate_argument : Memory → (bindings : List ℕ) → Frame → ArgumentValue → Result Bound ErrorName
+evaluate_argument m bindings f (value.Scalar e low high) = then_with (value_at m f e) (λ z. then_with (check_range low high z) (λ v. Ok (Scalar v)))
+evaluate_argument m bindings f (value.Set e low high) = then_with (set_at m f e) (λ s. then_with (sets.check_members low high s) (λ v. Ok (Set v)))
+evaluate_argument m bindings f (value.Copy source size) = then_with (address_at m f source) (λ at. Ok (Copy at size))
+evaluate_argument m bindings f (value.Reference place) = then_with (address_at m f place) (λ at. Ok (Reference at))
+evaluate_argument m bindings f (value.Component c) = then_with (component_at m bindings f c) (λ n. Ok (Component n))
 
 -- what some arguments give, after what others gave
 abbrev pub bounds_after : Memory → (bindings : List ℕ) → Frame → List Bound → List Argument → Result (List Bound) ErrorName
 bounds_after m bindings f bs [] = Ok bs
-bounds_after m bindings f bs (x ∷ xs) = then_with (bound_at m bindings f x.value) (λ b. bounds_after m bindings f (bs ++ b ∷ []) xs)
+bounds_after m bindings f bs (x ∷ xs) = then_with (evaluate_argument m bindings f x.value) (λ b. bounds_after m bindings f (bs ++ b ∷ []) xs)
 
 -- what arguments give, from left to right
 abbrev pub bounds_at : Memory → (bindings : List ℕ) → Frame → List Argument → Result (List Bound) ErrorName
@@ -52,16 +52,16 @@ abbrev pub put_in_frame : Memory → Frame → (slot : ℕ) → Bound → Memory
 put_in_frame m f slot (Reference place) = put_reference m (onward f.references slot) place
 put_in_frame m f slot b = put_value m (Local (onward f.base slot)) b
 
-abbrev pub bound_in_frame : Memory → Frame → List Argument → List Bound → Memory
-bound_in_frame m f [] bs = m
-bound_in_frame m f (x ∷ xs) [] = m
-bound_in_frame m f (x ∷ xs) (b ∷ bs) = bound_in_frame (put_in_frame m f x.slot b) f xs bs
+abbrev pub bind_frame : Memory → Frame → List Argument → List Bound → Memory
+bind_frame m f [] bs = m
+bind_frame m f (x ∷ xs) [] = m
+bind_frame m f (x ∷ xs) (b ∷ bs) = bind_frame (put_in_frame m f x.slot b) f xs bs
 
 -- the parameters of a component, whose permanent cells begin at base, are bound: those that have cells of their own ..
-abbrev pub bound_in_component : Memory → (base : ℕ) → List Argument → List Bound → Memory
-bound_in_component m base [] bs = m
-bound_in_component m base (x ∷ xs) [] = m
-bound_in_component m base (x ∷ xs) (b ∷ bs) = bound_in_component (put_value m (Permanent (onward base x.slot)) b) base xs bs
+abbrev pub bind_component : Memory → (base : ℕ) → List Argument → List Bound → Memory
+bind_component m base [] bs = m
+bind_component m base (x ∷ xs) [] = m
+bind_component m base (x ∷ xs) (b ∷ bs) = bind_component (put_value m (Permanent (onward base x.slot)) b) base xs bs
 
 -- .. and those that are components
 abbrev pub put_binding : (bindings : List ℕ) → (number : ℕ) → Bound → List ℕ

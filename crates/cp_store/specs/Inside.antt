@@ -20,9 +20,9 @@ use Rattle.cp_store.specs.declared.argument.Bound.TheVariants.{Scalar, Set, Copy
 use Rattle.cp_store.specs.declared.memory.Address.{Address}
 use Rattle.cp_store.specs.declared.memory.Address.TheVariants.{Permanent, Local}
 use Rattle.cp_store.specs.declared.memory.Frame.{Frame}
-use Rattle.cp_store.specs.Arguments.{bound_in_frame, bounds_at, put_value}
-use Rattle.cp_store.specs.Memory.{Memory, opened}
-use Rattle.cp_store.specs.Places.{address_at, origin_address, referred}
+use Rattle.cp_store.specs.Arguments.{bind_frame, bounds_at, put_value}
+use Rattle.cp_store.specs.Memory.{Memory, open_frame}
+use Rattle.cp_store.specs.Places.{address_at, origin_address, reference_at}
 
 -- this many cells from an address on are cells of the memory
 abbrev pub HasCells : Memory → Address → ℕ → Type 0
@@ -35,7 +35,7 @@ pub record Covers (m : Memory) (r : RoutineView) (f : Frame) : Type 0 where
   pub own : f.own + r.own ≤ length m.permanents
   pub cells : f.base + length r.image ≤ length m.cells
   pub references : f.references + length r.extents ≤ length m.references
-  pub behind : (k : ℕ) → k < length r.extents → HasCells m (referred m.references (f.references + k)) (slice_index_or r.extents k 0)
+  pub behind : (k : ℕ) → k < length r.extents → HasCells m (reference_at m.references (f.references + k)) (slice_index_or r.extents k 0)
   pub permanents_few : length m.permanents < 2 ^ 64
   pub cells_few : length m.cells < 2 ^ 64
   pub references_few : length m.references < 2 ^ 64
@@ -168,7 +168,7 @@ CallsCoverTheirFrames =
     length callee.extents ≡ callee.references →
     g.own + callee.own ≤ length m.permanents → g.base ≡ length m.cells → g.references ≡ length m.references →
     length m.cells + length callee.image < 2 ^ 64 → length m.references + callee.references < 2 ^ 64 →
-    Covers (bound_in_frame (opened m callee.image callee.references) g arguments bounds) callee g
+    Covers (bind_frame (open_frame m callee.image callee.references) g arguments bounds) callee g
 
 -- what arguments read is there, where they are inside and their components are found
 abbrev pub ArgumentsAreRead : Type 0
@@ -177,7 +177,7 @@ ArgumentsAreRead =
     Covers m caller f → IsTrue (arguments_inside caller callee extent arguments) → FindsAll bindings caller f arguments →
     CanGiveAll m bindings f arguments
 
--- what the arguments of a call give fits into the frame that is opened after all others
+-- what the arguments of a call give fits into the frame that is open_frame after all others
 abbrev pub CallsFit : Type 0
 CallsFit =
     (m : Memory) (bindings : List ℕ) (caller callee : RoutineView) (f g : Frame) (arguments : List Argument) (bounds : List Bound) →
@@ -185,7 +185,7 @@ CallsFit =
     IsTrue (arguments_inside caller callee (length callee.image) arguments) → IsTrue (binds_from (length callee.extents) 0 arguments) →
     HandsNone arguments → bounds_at m bindings f arguments ≡ Ok bounds →
     length callee.extents ≡ callee.references → g.base ≡ length m.cells → g.references ≡ length m.references →
-    AllFitFrame (opened m callee.image callee.references) g arguments bounds
+    AllFitFrame (open_frame m callee.image callee.references) g arguments bounds
 
 -- what the arguments of a start give fits into the cells of the component
 abbrev pub StartsFit : Type 0

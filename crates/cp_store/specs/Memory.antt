@@ -22,9 +22,9 @@ onward number cells = min (number + cells) (2 ^ 64 - 1)
 abbrev pub stretch : ℕ → ℕ → ℕ
 stretch elements size = min (elements * size) (2 ^ 64 - 1)
 
-abbrev pub moved : Address → ℕ → Address
-moved (Permanent number) cells = Permanent (onward number cells)
-moved (Local number) cells = Local (onward number cells)
+abbrev pub address_onward : Address → ℕ → Address
+address_onward (Permanent number) cells = Permanent (onward number cells)
+address_onward (Local number) cells = Local (onward number cells)
 
 -- an address that no cell has
 abbrev pub nowhere : Address
@@ -43,19 +43,19 @@ put_number m (Local number) value = record m { cells = slice_set m.cells number 
 -- the first n cells from one place on, copied one after the other to those from another place on
 abbrev pub put_copy : Memory → (to from : Address) → ℕ → Memory
 put_copy m to from zero = m
-put_copy m to from (suc n) = put_number (put_copy m to from n) (moved to n) (cell_at (put_copy m to from n) (moved from n))
+put_copy m to from (suc n) = put_number (put_copy m to from n) (address_onward to n) (cell_at (put_copy m to from n) (address_onward from n))
 
 -- the memory with another place named by a var parameter
 abbrev pub put_reference : Memory → ℕ → Address → Memory
 put_reference m number at = record m { references = slice_set m.references number at }
 
 -- a frame more, with the cells of an image and this many references
-abbrev pub opened : Memory → List ℤ → ℕ → Memory
-opened m image references = record m { cells = m.cells ++ image; references = m.references ++ replicate references nowhere }
+abbrev pub open_frame : Memory → List ℤ → ℕ → Memory
+open_frame m image references = record m { cells = m.cells ++ image; references = m.references ++ replicate references nowhere }
 
 -- the frames within the first this many cells and references
-abbrev pub closed : Memory → ℕ → ℕ → Memory
-closed m cells references = record m { cells = take cells m.cells; references = take references m.references }
+abbrev pub close_frames : Memory → ℕ → ℕ → Memory
+close_frames m cells references = record m { cells = take cells m.cells; references = take references m.references }
 
 -- what is reserved for the frames has not become less
 abbrev pub KeepsRoom : Room → Room → Type 0

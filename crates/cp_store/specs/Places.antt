@@ -13,9 +13,9 @@ use Rattle.cp_store.specs.declared.memory.Address.{Address}
 use Rattle.cp_store.specs.declared.memory.Address.TheVariants.{Permanent, Local}
 use Rattle.cp_store.specs.declared.memory.Frame.{Frame}
 use Rattle.cp_store.specs.declared.set.SetValue.{SetValue}
-use Rattle.cp_store.specs.Memory.{Memory, cell_at, moved, nowhere, onward, stretch}
+use Rattle.cp_store.specs.Memory.{Memory, cell_at, address_onward, nowhere, onward, stretch}
 use Rattle.cp_store.specs.Sets as sets
-use Rattle.cp_store.specs.Values.{then_with, ranged, truth, is_true, negated, absolute, successor, predecessor, calculated, combined, compared}
+use Rattle.cp_store.specs.Values.{then_with, check_range, truth, is_true, negate, absolute, successor, predecessor, calculate, apply_logic, compare}
 
 -- what an expression, a set and a place stand for
 abbrev pub ToValue : Type 0
@@ -34,58 +34,58 @@ ToElement = Memory → Frame → Address → Result Address ErrorName
 -- ---- places
 
 -- the place that a var parameter names
-abbrev pub referred : List Address → ℕ → Address
-referred references number = slice_index_or references number nowhere
+abbrev pub reference_at : List Address → ℕ → Address
+reference_at references number = slice_index_or references number nowhere
 
 -- where a variable begins
 abbrev pub origin_address : List Address → Frame → PlaceOrigin → Address
 origin_address references frame (origin.Permanent slot) = Permanent (onward frame.own slot)
 origin_address references frame (origin.Local slot) = Local (onward frame.base slot)
-origin_address references frame (origin.Reference number) = referred references (onward frame.references number)
+origin_address references frame (origin.Reference number) = reference_at references (onward frame.references number)
 
 -- how far the element of an index is from the beginning of its array, or range outside the bounds of the array
 abbrev pub element_offset : (low high : ℤ) (size : ℕ) → ℤ → Result ℕ ErrorName
-element_offset low high size index = then_with (ranged low high index) (λ i. Ok (stretch (unsigned_abs (i -ℤ low)) size))
+element_offset low high size index = then_with (check_range low high index) (λ i. Ok (stretch (unsigned_abs (i -ℤ low)) size))
 
 abbrev pub through : List ToElement → Memory → Frame → Address → Result Address ErrorName
 through [] m f at = Ok at
 through (i ∷ is) m f at = then_with (i m f at) (λ inner. through is m f inner)
 
-abbrev pub loaded : Memory → Result Address ErrorName → Result ℤ ErrorName
-loaded m a = then_with a (λ at. Ok (cell_at m at))
+abbrev pub load_value : Memory → Result Address ErrorName → Result ℤ ErrorName
+load_value m a = then_with a (λ at. Ok (cell_at m at))
 
 -- ---- one level, whose parts stand for what they stand for
 
 abbrev pub place_step : Place-F ToValue ToSet ToElement ToAddress → ToAddress
-place_step p = λ m f. through p.indices.items m f (moved (origin_address m.references f p.origin) p.offset)
+place_step p = λ m f. through p.indices.items m f (address_onward (origin_address m.references f p.origin) p.offset)
 
 abbrev pub index_step : Index-F ToValue ToSet ToElement ToAddress → ToElement
-index_step i = λ m f at. then_with (i.at m f) (λ v. then_with (element_offset i.low i.high i.size v) (λ far. Ok (moved at far)))
+index_step i = λ m f at. then_with (i.at m f) (λ v. then_with (element_offset i.low i.high i.size v) (λ far. Ok (address_onward at far)))
 
 abbrev pub both : ToValue → ToValue → (ℤ → ℤ → Result ℤ ErrorName) → ToValue
 both a b go = λ m f. then_with (a m f) (λ x. then_with (b m f) (λ y. go x y))
 
 abbrev pub expression_step : OrdinalExpression-F ToValue ToSet ToElement ToAddress → ToValue
 expression_step (OrdinalExpression-F.Number z) = λ m f. Ok z
-expression_step (OrdinalExpression-F.«OrdinalExpression::Load» p) = λ m f. loaded m (p m f)
-expression_step (OrdinalExpression-F.Negate e) = λ m f. then_with (e.value m f) negated
+expression_step (OrdinalExpression-F.«OrdinalExpression::Load» p) = λ m f. load_value m (p m f)
+expression_step (OrdinalExpression-F.Negate e) = λ m f. then_with (e.value m f) negate
 expression_step (OrdinalExpression-F.Absolute e) = λ m f. then_with (e.value m f) absolute
 expression_step (OrdinalExpression-F.Not e) = λ m f. then_with (e.value m f) (λ x. Ok (truth (not (is_true x))))
 expression_step (OrdinalExpression-F.Successor e last) = λ m f. then_with (e.value m f) (successor last)
 expression_step (OrdinalExpression-F.Predecessor e first) = λ m f. then_with (e.value m f) (predecessor first)
-expression_step (OrdinalExpression-F.Character e) = λ m f. then_with (e.value m f) (ranged (pos 0) (pos 127))
-expression_step (OrdinalExpression-F.Arithmetic o a b) = both a.value b.value (calculated o)
-expression_step (OrdinalExpression-F.Logic o a b) = both a.value b.value (λ x y. Ok (combined o x y))
-expression_step (OrdinalExpression-F.Compare r a b) = both a.value b.value (λ x y. Ok (compared r x y))
-expression_step (OrdinalExpression-F.SameSet wanted a b) = λ m f. then_with (a.value m f) (λ s. then_with (b.value m f) (λ t. Ok (sets.compared wanted s t)))
+expression_step (OrdinalExpression-F.Character e) = λ m f. then_with (e.value m f) (check_range (pos 0) (pos 127))
+expression_step (OrdinalExpression-F.Arithmetic o a b) = both a.value b.value (calculate o)
+expression_step (OrdinalExpression-F.Logic o a b) = both a.value b.value (λ x y. Ok (apply_logic o x y))
+expression_step (OrdinalExpression-F.Compare r a b) = both a.value b.value (λ x y. Ok (compare r x y))
+expression_step (OrdinalExpression-F.SameSet wanted a b) = λ m f. then_with (a.value m f) (λ s. then_with (b.value m f) (λ t. Ok (sets.compare_sets wanted s t)))
 expression_step (OrdinalExpression-F.Member e a) = λ m f. then_with (e.value m f) (λ x. then_with (a.value m f) (λ s. Ok (truth (sets.is_member s x))))
-expression_step (OrdinalExpression-F.IsEmpty p) = λ m f. then_with (loaded m (p m f)) (λ x. Ok (truth (not (is_true x))))
+expression_step (OrdinalExpression-F.IsEmpty p) = λ m f. then_with (load_value m (p m f)) (λ x. Ok (truth (not (is_true x))))
 
 abbrev pub set_step : SetExpression-F ToValue ToSet ToElement ToAddress → ToSet
-set_step (SetExpression-F.«SetExpression::Load» p) = λ m f. then_with (p m f) (λ at. Ok (sets.stored_at m at))
+set_step (SetExpression-F.«SetExpression::Load» p) = λ m f. then_with (p m f) (λ at. Ok (sets.load_set m at))
 set_step SetExpression-F.Empty = λ m f. Ok sets.empty
 set_step (SetExpression-F.With a e) = λ m f. then_with (a.value m f) (λ s. then_with (e.value m f) (λ x. sets.with_element s x))
-set_step (SetExpression-F.Combine o a b) = λ m f. then_with (a.value m f) (λ s. then_with (b.value m f) (λ t. Ok (sets.combined o s t)))
+set_step (SetExpression-F.Combine o a b) = λ m f. then_with (a.value m f) (λ s. then_with (b.value m f) (λ t. Ok (sets.combine_sets o s t)))
 
 -- ---- all levels
 
@@ -106,8 +106,8 @@ abbrev pub element_at : code_index.Index → ToElement
 element_at = code_index.fold-Index ToValue ToSet ToElement ToAddress expression_step set_step index_step place_step
 
 -- the address after all indices
-abbrev pub indexed_at : Memory → Frame → Address → List code_index.Index → Result Address ErrorName
-indexed_at m f at is = through (map element_at is) m f at
+abbrev pub element_address : Memory → Frame → Address → List code_index.Index → Result Address ErrorName
+element_address m f at is = through (map element_at is) m f at
 
 -- whether an expression compares sets, or asks for a member
 abbrev pub is_set_test_step : OrdinalExpression-F Bool Bool Bool Bool → Bool

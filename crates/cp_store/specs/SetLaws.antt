@@ -7,7 +7,7 @@ use Rattle.cp_store.specs.declared.set.SetValue.{SetValue}
 use Rattle.cp_store.specs.declared.memory.Address.{Address}
 use Rattle.cp_store.specs.declared.memory.Address.TheVariants.{Permanent, Local}
 use Rattle.cp_store.specs.Memory.{Memory}
-use Rattle.cp_store.specs.Sets.{has_bit, is_member, combined, with_element, ranged, stored_at, put_set}
+use Rattle.cp_store.specs.Sets.{has_bit, is_member, combine_sets, with_element, check_members, load_set, put_set}
 
 -- whether a number is a member of a combination, by whether it is one of the left and of the right set
 abbrev pub is_joined : SetOperation → Bool → Bool → Bool
@@ -17,7 +17,7 @@ is_joined Intersection left right = left && right
 
 abbrev pub CombinationsJoinMembers : Type 0
 CombinationsJoinMembers =
-    (o : SetOperation) (s t : SetValue) (z : ℤ) → is_member (combined o s t) z ≡ is_joined o (is_member s z) (is_member t z)
+    (o : SetOperation) (s t : SetValue) (z : ℤ) → is_member (combine_sets o s t) z ≡ is_joined o (is_member s z) (is_member t z)
 
 -- a set with one element more has that element, and otherwise the members that it had
 abbrev pub ElementsBecomeMembers : Type 0
@@ -27,7 +27,7 @@ ElementsBecomeMembers =
 -- what is within bounds has no member outside them
 abbrev pub RangedMembersAreWithin : Type 0
 RangedMembersAreWithin =
-    (low high : ℕ) (s t : SetValue) → ranged low high s ≡ Ok t → (k : ℕ) → k < 128 → has_bit s.members k ≡ true → (low ≤ k) × (k ≤ high)
+    (low high : ℕ) (s t : SetValue) → check_members low high s ≡ Ok t → (k : ℕ) → k < 128 → has_bit s.members k ≡ true → (low ≤ k) × (k ≤ high)
 
 -- the eight cells from an address on are cells of the memory
 abbrev pub HasSet : Memory → Address → Type 0
@@ -37,4 +37,4 @@ HasSet m (Local number) = (number + 8 ≤ length m.cells) × (number + 8 < 2 ^ 6
 -- a set is read back where it was written
 abbrev pub SetsAreReadBack : Type 0
 SetsAreReadBack =
-    (m : Memory) (at : Address) (s : SetValue) → HasSet m at → s.members < 2 ^ 128 → stored_at (put_set m at s) at ≡ s
+    (m : Memory) (at : Address) (s : SetValue) → HasSet m at → s.members < 2 ^ 128 → load_set (put_set m at s) at ≡ s

@@ -7,7 +7,7 @@ use Rattle.cp_store.specs.declared.error.ErrorName.{ErrorName}
 use Rattle.cp_store.specs.declared.error.ErrorName.TheVariants.{Range}
 use Rattle.cp_store.specs.declared.memory.Address.{Address}
 use Rattle.cp_store.specs.declared.set.SetValue.{SetValue}
-use Rattle.cp_store.specs.Memory.{Memory, cell_at, moved, put_number}
+use Rattle.cp_store.specs.Memory.{Memory, cell_at, address_onward, put_number}
 use Rattle.cp_store.specs.Values.{is_within, truth}
 
 abbrev pub empty : SetValue
@@ -28,15 +28,15 @@ with_element s z =
     else Err Range
 
 -- the members of a difference are those of the left set in which the two differ
-abbrev pub combined : SetOperation → SetValue → SetValue → SetValue
-combined Union s t = record { members = bit_or s.members t.members }
-combined Difference s t = record { members = bit_and s.members (bit_xor s.members t.members) }
-combined Intersection s t = record { members = bit_and s.members t.members }
+abbrev pub combine_sets : SetOperation → SetValue → SetValue → SetValue
+combine_sets Union s t = record { members = bit_or s.members t.members }
+combine_sets Difference s t = record { members = bit_and s.members (bit_xor s.members t.members) }
+combine_sets Intersection s t = record { members = bit_and s.members t.members }
 
 -- whether two sets are equal, or, where that is not wanted, whether they differ
-abbrev pub compared : Bool → SetValue → SetValue → ℤ
-compared true s t = truth (s.members == t.members)
-compared false s t = truth (not (s.members == t.members))
+abbrev pub compare_sets : Bool → SetValue → SetValue → ℤ
+compare_sets true s t = truth (s.members == t.members)
+compare_sets false s t = truth (not (s.members == t.members))
 
 -- whether the members below n lie within bounds
 unfoldable pub are_within : (low high members : ℕ) → ℕ → Bool
@@ -45,8 +45,8 @@ are_within low high members (suc n) =
     if (nat_lt n low || nat_lt high n) && has_bit members n then false else are_within low high members n
 
 -- a set within bounds, or range
-abbrev pub ranged : (low high : ℕ) → SetValue → Result SetValue ErrorName
-ranged low high s = if are_within low high s.members 128 then Ok s else Err Range
+abbrev pub check_members : (low high : ℕ) → SetValue → Result SetValue ErrorName
+check_members low high s = if are_within low high s.members 128 then Ok s else Err Range
 
 -- ---- in cells
 
@@ -54,24 +54,24 @@ abbrev pub word_at : Memory → Address → ℕ
 word_at m at = cast_unsigned w16 (cell_at m at)
 
 abbrev pub pair_at : Memory → Address → ℕ
-pair_at m at = word_at m at + word_at m (moved at 1) * 2 ^ 16
+pair_at m at = word_at m at + word_at m (address_onward at 1) * 2 ^ 16
 
 abbrev pub quad_at : Memory → Address → ℕ
-quad_at m at = pair_at m at + pair_at m (moved at 2) * 2 ^ 32
+quad_at m at = pair_at m at + pair_at m (address_onward at 2) * 2 ^ 32
 
 -- the set that the eight cells from an address on hold
-abbrev pub stored_at : Memory → Address → SetValue
-stored_at m at = record { members = quad_at m at + quad_at m (moved at 4) * 2 ^ 64 }
+abbrev pub load_set : Memory → Address → SetValue
+load_set m at = record { members = quad_at m at + quad_at m (address_onward at 4) * 2 ^ 64 }
 
 abbrev pub put_word : Memory → Address → ℕ → Memory
 put_word m at members = put_number m at (cast_signed w16 members)
 
 abbrev pub put_pair : Memory → Address → ℕ → Memory
-put_pair m at members = put_word (put_word m at (members % 2 ^ 16)) (moved at 1) (members / 2 ^ 16)
+put_pair m at members = put_word (put_word m at (members % 2 ^ 16)) (address_onward at 1) (members / 2 ^ 16)
 
 abbrev pub put_quad : Memory → Address → ℕ → Memory
-put_quad m at members = put_pair (put_pair m at (members % 2 ^ 32)) (moved at 2) (members / 2 ^ 32)
+put_quad m at members = put_pair (put_pair m at (members % 2 ^ 32)) (address_onward at 2) (members / 2 ^ 32)
 
 -- the memory with another set in the eight cells from an address on
 abbrev pub put_set : Memory → Address → SetValue → Memory
-put_set m at s = put_quad (put_quad m at (s.members % 2 ^ 64)) (moved at 4) (s.members / 2 ^ 64)
+put_set m at s = put_quad (put_quad m at (s.members % 2 ^ 64)) (address_onward at 4) (s.members / 2 ^ 64)

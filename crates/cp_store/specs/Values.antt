@@ -19,12 +19,12 @@ abbrev pub is_within : (low high : ℤ) → ℤ → Bool
 is_within low high z = int_le low z && int_le z high
 
 -- an integer of the language, or overflow
-abbrev pub narrowed : ℤ → Result ℤ ErrorName
-narrowed z = if is_within (neg_ℤ (pos 32768)) (pos 32767) z then Ok z else Err Overflow
+abbrev pub narrow : ℤ → Result ℤ ErrorName
+narrow z = if is_within (neg_ℤ (pos 32768)) (pos 32767) z then Ok z else Err Overflow
 
 -- a value within bounds, or range
-abbrev pub ranged : (low high : ℤ) → ℤ → Result ℤ ErrorName
-ranged low high z = if is_within low high z then Ok z else Err Range
+abbrev pub check_range : (low high : ℤ) → ℤ → Result ℤ ErrorName
+check_range low high z = if is_within low high z then Ok z else Err Range
 
 -- truth values are 0 and 1
 
@@ -35,11 +35,11 @@ truth false = pos 0
 abbrev pub is_true : ℤ → Bool
 is_true z = not (int_eq z (pos 0))
 
-abbrev pub negated : ℤ → Result ℤ ErrorName
-negated z = narrowed (neg_ℤ z)
+abbrev pub negate : ℤ → Result ℤ ErrorName
+negate z = narrow (neg_ℤ z)
 
 abbrev pub absolute : ℤ → Result ℤ ErrorName
-absolute z = narrowed (pos (unsigned_abs z))
+absolute z = narrow (pos (unsigned_abs z))
 
 abbrev pub successor : (last : ℤ) → ℤ → Result ℤ ErrorName
 successor last z = if int_lt z last then Ok (z +ℤ pos 1) else Err Range
@@ -48,31 +48,31 @@ abbrev pub predecessor : (first : ℤ) → ℤ → Result ℤ ErrorName
 predecessor first z = if int_lt first z then Ok (z -ℤ pos 1) else Err Range
 
 abbrev pub product : ℤ → ℤ → Result ℤ ErrorName
-product x y = narrowed (x *ℤ y)
+product x y = narrow (x *ℤ y)
 
 -- rounded towards zero
 abbrev pub quotient : ℤ → ℤ → Result ℤ ErrorName
-quotient x y = if int_eq y (pos 0) then Err ZeroDivisor else narrowed (int_div x y)
+quotient x y = if int_eq y (pos 0) then Err ZeroDivisor else narrow (int_div x y)
 
 -- with the sign of the dividend
 abbrev pub remainder : ℤ → ℤ → Result ℤ ErrorName
 remainder x y = if int_eq y (pos 0) then Err ZeroDivisor else Ok (int_rem x y)
 
-abbrev pub calculated : Arithmetic → ℤ → ℤ → Result ℤ ErrorName
-calculated Add x y = narrowed (x +ℤ y)
-calculated Subtract x y = narrowed (x -ℤ y)
-calculated Multiply x y = product x y
-calculated Divide x y = quotient x y
-calculated Modulo x y = remainder x y
+abbrev pub calculate : Arithmetic → ℤ → ℤ → Result ℤ ErrorName
+calculate Add x y = narrow (x +ℤ y)
+calculate Subtract x y = narrow (x -ℤ y)
+calculate Multiply x y = product x y
+calculate Divide x y = quotient x y
+calculate Modulo x y = remainder x y
 
-abbrev pub combined : Logic → ℤ → ℤ → ℤ
-combined And x y = truth (is_true x && is_true y)
-combined Or x y = truth (is_true x || is_true y)
+abbrev pub apply_logic : Logic → ℤ → ℤ → ℤ
+apply_logic And x y = truth (is_true x && is_true y)
+apply_logic Or x y = truth (is_true x || is_true y)
 
-abbrev pub compared : Comparison → ℤ → ℤ → ℤ
-compared Equal x y = truth (int_eq x y)
-compared NotEqual x y = truth (not (int_eq x y))
-compared Less x y = truth (int_lt x y)
-compared Greater x y = truth (int_lt y x)
-compared AtMost x y = truth (int_le x y)
-compared AtLeast x y = truth (int_le y x)
+abbrev pub compare : Comparison → ℤ → ℤ → ℤ
+compare Equal x y = truth (int_eq x y)
+compare NotEqual x y = truth (not (int_eq x y))
+compare Less x y = truth (int_lt x y)
+compare Greater x y = truth (int_lt y x)
+compare AtMost x y = truth (int_le x y)
+compare AtLeast x y = truth (int_le y x)

@@ -24,7 +24,7 @@ impl Evaluation {
     /// The answer that stands for a result.
     #[inline(always)]
     pub fn of(outcome: Result<i16, ErrorName>) -> Evaluation
-        ensures { spec.answered result ≡ outcome }
+        ensures { spec.result_of result ≡ outcome }
     {
         match outcome {
             Ok(value) => Evaluation::Value(value),
@@ -34,7 +34,7 @@ impl Evaluation {
 
     /// The answer that stands for a run error.
     pub fn of_error(name: ErrorName) -> Evaluation
-        ensures { spec.answered result ≡ Err name }
+        ensures { spec.result_of result ≡ Err name }
     {
         match name {
             ErrorName::Overflow => Evaluation::Overflow,
@@ -52,7 +52,7 @@ impl Evaluation {
     /// The result that an answer stands for.
     #[inline(always)]
     pub fn result(self) -> Result<i16, ErrorName>
-        ensures { result ≡ spec.answered self }
+        ensures { result ≡ spec.result_of self }
     {
         match self {
             Evaluation::Value(value) => Ok(value),
@@ -71,8 +71,8 @@ impl Evaluation {
     // The run error of an answer that is no value.
     #[inline(never)]
     fn name(self) -> ErrorName
-        requires { IsErr (spec.answered self) }
-        ensures { spec.answered self ≡ Err result }
+        requires { IsErr (spec.result_of self) }
+        ensures { spec.result_of self ≡ Err result }
     {
         match self {
             Evaluation::Value(_) => unreachable!(),

@@ -35,7 +35,7 @@ pub fn evaluate_argument(
     frame: Frame,
 ) -> Result<Bound, ErrorName>
     requires { CanGive (memory_of permanents.now room.now) bindings.now frame value.now }
-    ensures { result ≡ spec.bound_at (memory_of permanents.now room.now) bindings.now frame value.now }
+    ensures { result ≡ spec.evaluate_argument (memory_of permanents.now room.now) bindings.now frame value.now }
 {
     match value {
         ArgumentValue::Scalar { value, low, high } => {

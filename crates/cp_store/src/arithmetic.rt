@@ -8,7 +8,7 @@ use cp_slots::{Arithmetic, Comparison, Logic};
 
 /// A value that is to be an integer of the language; else overflow.
 pub fn narrow(value: i32) -> Result<i16, ErrorName>
-    ensures { result ≡ spec.narrowed value }
+    ensures { result ≡ spec.narrow value }
 {
     if value < -32768 || value > 32767 {
         Err(ErrorName::Overflow)
@@ -26,7 +26,7 @@ pub fn is_within(value: i16, low: i16, high: i16) -> bool
 
 /// A value that is to lie within bounds; else range.
 pub fn check_range(value: i16, low: i16, high: i16) -> Result<i16, ErrorName>
-    ensures { result ≡ spec.ranged low high value }
+    ensures { result ≡ spec.check_range low high value }
 {
     if is_within(value, low, high) {
         Ok(value)
@@ -51,7 +51,7 @@ pub fn is_true(value: i16) -> bool
 
 /// A sign before an integer.
 pub fn negate(value: i16) -> Result<i16, ErrorName>
-    ensures { result ≡ spec.negated value }
+    ensures { result ≡ spec.negate value }
 {
     narrow(-(value as i32))
 }
@@ -117,7 +117,7 @@ pub fn product(left: i16, right: i16) -> Result<i16, ErrorName>
 /// An operation on two integers.
 #[inline(always)]
 pub fn calculate(operator: Arithmetic, left: i16, right: i16) -> Result<i16, ErrorName>
-    ensures { result ≡ spec.calculated operator left right }
+    ensures { result ≡ spec.calculate operator left right }
 {
     match operator {
         Arithmetic::Add => narrow(left as i32 + right as i32),
@@ -130,7 +130,7 @@ pub fn calculate(operator: Arithmetic, left: i16, right: i16) -> Result<i16, Err
 
 /// `and` or `or` of two truth values.
 pub fn apply_logic(operator: Logic, left: i16, right: i16) -> i16
-    ensures { result ≡ spec.combined operator left right }
+    ensures { result ≡ spec.apply_logic operator left right }
 {
     match operator {
         Logic::And => truth(is_true(left) && is_true(right)),
@@ -140,7 +140,7 @@ pub fn apply_logic(operator: Logic, left: i16, right: i16) -> i16
 
 /// The truth value of a relation between two ordinals.
 pub fn compare(relation: Comparison, left: i16, right: i16) -> i16
-    ensures { result ≡ spec.compared relation left right }
+    ensures { result ≡ spec.compare relation left right }
 {
     match relation {
         Comparison::Equal => truth(left == right),

@@ -52,7 +52,7 @@ pub fn bind_frame(
 )
     requires count { length bounds.now ≡ length arguments.now }
     requires fit { AllFitFrame (memory_of permanents.old room.old) frame arguments.now bounds.now }
-    ensures after { memory_of permanents.new room.new ≡ spec.bound_in_frame (memory_of permanents.old room.old) frame arguments.now bounds.now }
+    ensures after { memory_of permanents.new room.new ≡ spec.bind_frame (memory_of permanents.old room.old) frame arguments.now bounds.now }
     ensures room { KeepsRoom room.old room.new }
 {
     for (number, argument) in arguments.iter().enumerate() {
@@ -96,7 +96,7 @@ pub fn bind_component(
 )
     requires count { length bounds.now ≡ length arguments.now }
     requires fit { AllFitComponent (memory_of permanents.old room.old) bindings.old base arguments.now bounds.now }
-    ensures after { memory_of permanents.new room.new ≡ spec.bound_in_component (memory_of permanents.old room.old) base arguments.now bounds.now }
+    ensures after { memory_of permanents.new room.new ≡ spec.bind_component (memory_of permanents.old room.old) base arguments.now bounds.now }
     ensures bindings { bindings.new ≡ spec.bindings_after bindings.old base arguments.now bounds.now }
     ensures room { KeepsRoom room.old room.new }
 {

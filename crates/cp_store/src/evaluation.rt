@@ -1,7 +1,7 @@
 //! Addresses of places, and values of expressions and sets. Parts are evaluated from left to right; the first run error counts.
 
 ghost use Rattle.std.specs.Prelude.{◌≡◌, ℕ, ◌*◌, ◌^◌, ◌<◌, ◌-ℤ◌, IfOk, IsTrue, unsigned_abs};
-ghost use Rattle.cp_store.specs.Answers.{answered};
+ghost use Rattle.cp_store.specs.Answers.{result_of};
 ghost use Rattle.cp_store.specs.Inside.{Begins, CanGoThrough, CanReach, CanRead, CanReadSet, HasCells};
 ghost use Rattle.cp_store.specs.Memory.{memory_of};
 ghost use Rattle.cp_store.specs.Places as spec;
@@ -73,7 +73,7 @@ fn element_address(
     frame: &Frame,
 ) -> Result<Address, ErrorName>
     requires { (cells : ℕ) × CanGoThrough (memory_of permanents.now room.now) frame.now start indices.now cells }
-    ensures { result ≡ spec.indexed_at (memory_of permanents.now room.now) frame.now start indices.now }
+    ensures { result ≡ spec.element_address (memory_of permanents.now room.now) frame.now start indices.now }
 {
     through(start, indices, permanents, room, frame)
 }
@@ -90,7 +90,7 @@ fn through(
     frame: &Frame,
 ) -> Result<Address, ErrorName>
     requires { (cells : ℕ) × CanGoThrough (memory_of permanents.now room.now) frame.now start indices.now cells }
-    ensures { result ≡ spec.indexed_at (memory_of permanents.now room.now) frame.now start indices.now }
+    ensures { result ≡ spec.element_address (memory_of permanents.now room.now) frame.now start indices.now }
 {
     let mut at = start;
     for index in indices {
@@ -189,7 +189,7 @@ fn left_part(expression: &OrdinalExpression, view: &EvaluationView) -> Result<i1
 #[inline(never)]
 fn answer(expression: &OrdinalExpression, view: &EvaluationView) -> Evaluation
     requires { CanRead (memory_of view.now.permanents.now view.now.room.now) view.now.frame.now expression.now }
-    ensures { answered result ≡ spec.value_at (memory_of view.now.permanents.now view.now.room.now) view.now.frame.now expression.now }
+    ensures { result_of result ≡ spec.value_at (memory_of view.now.permanents.now view.now.room.now) view.now.frame.now expression.now }
 {
     Evaluation::of(compute_value(expression, view))
 }
@@ -243,7 +243,7 @@ fn compute_value(expression: &OrdinalExpression, view: &EvaluationView) -> Resul
 fn rare(expression: &OrdinalExpression, view: &EvaluationView) -> Evaluation
     requires form { IsTrue (spec.is_rare expression.now) }
     requires reads { CanRead (memory_of view.now.permanents.now view.now.room.now) view.now.frame.now expression.now }
-    ensures { answered result ≡ spec.value_at (memory_of view.now.permanents.now view.now.room.now) view.now.frame.now expression.now }
+    ensures { result_of result ≡ spec.value_at (memory_of view.now.permanents.now view.now.room.now) view.now.frame.now expression.now }
 {
     Evaluation::of(rare_value(expression, view))
 }
@@ -290,7 +290,7 @@ fn rare_value(expression: &OrdinalExpression, view: &EvaluationView) -> Result<i
 fn set_test(expression: &OrdinalExpression, view: &EvaluationView) -> Evaluation
     requires test { IsTrue (spec.is_set_test expression.now) }
     requires reads { CanRead (memory_of view.now.permanents.now view.now.room.now) view.now.frame.now expression.now }
-    ensures { answered result ≡ spec.value_at (memory_of view.now.permanents.now view.now.room.now) view.now.frame.now expression.now }
+    ensures { result_of result ≡ spec.value_at (memory_of view.now.permanents.now view.now.room.now) view.now.frame.now expression.now }
 {
     Evaluation::of(test_sets(expression, view))
 }
@@ -338,7 +338,7 @@ fn load_value(
     frame: &Frame,
 ) -> Result<i16, ErrorName>
     requires { CanReach (memory_of permanents.now room.now) frame.now place.now 1 }
-    ensures { result ≡ spec.loaded (memory_of permanents.now room.now) (spec.address_at (memory_of permanents.now room.now) frame.now place.now) }
+    ensures { result ≡ spec.load_value (memory_of permanents.now room.now) (spec.address_at (memory_of permanents.now room.now) frame.now place.now) }
 {
     match place.indices.as_slice() {
         [] => {
@@ -355,7 +355,7 @@ fn load_value(
 #[inline(never)]
 fn element(place: &Place, permanents: &[i16], room: &Room, frame: &Frame) -> Evaluation
     requires { CanReach (memory_of permanents.now room.now) frame.now place.now 1 }
-    ensures { answered result ≡ spec.loaded (memory_of permanents.now room.now) (spec.address_at (memory_of permanents.now room.now) frame.now place.now) }
+    ensures { result_of result ≡ spec.load_value (memory_of permanents.now room.now) (spec.address_at (memory_of permanents.now room.now) frame.now place.now) }
 {
     let start = origin_address(place.origin, room, frame).plus(place.offset);
     match through(start, place.indices.as_slice(), permanents, room, frame) {

@@ -2,7 +2,7 @@
 
 ghost use Rattle.std.specs.Prelude.{◌≡◌};
 ghost use Rattle.cp_store.specs.Inside.{HasCells, MovesBy};
-ghost use Rattle.cp_store.specs.Memory.{memory_of, moved, cell_at};
+ghost use Rattle.cp_store.specs.Memory.{memory_of, address_onward, cell_at};
 
 /// Where a cell lies.
 #[derive(Clone, Copy, Debug, PartialEq, Eq)]
@@ -39,7 +39,7 @@ impl Address {
     #[tactic(auto, using(crate::proofs::Reaches::onward_exact))]
     pub fn plus(self, cells: usize) -> Address
         requires { MovesBy self cells }
-        ensures { result ≡ moved self cells }
+        ensures { result ≡ address_onward self cells }
     {
         match self {
             Address::Permanent(number) => Address::Permanent(number + cells),

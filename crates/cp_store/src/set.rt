@@ -47,7 +47,7 @@ pub fn with(set: SetValue, ordinal: i16) -> Result<SetValue, ErrorName>
 
 /// The union, the difference or the intersection of two sets.
 pub fn combine_sets(operation: SetOperation, left: SetValue, right: SetValue) -> SetValue
-    ensures { result ≡ spec.combined operation left right }
+    ensures { result ≡ spec.combine_sets operation left right }
 {
     let members = match operation {
         SetOperation::Union => left.members | right.members,
@@ -59,7 +59,7 @@ pub fn combine_sets(operation: SetOperation, left: SetValue, right: SetValue) ->
 
 /// The truth value of: the two sets are equal, or, where that is not wanted, they differ.
 pub fn compare_sets(wanted: bool, left: SetValue, right: SetValue) -> i16
-    ensures { result ≡ spec.compared wanted left right }
+    ensures { result ≡ spec.compare_sets wanted left right }
 {
     if wanted {
         truth(left.members == right.members)
@@ -86,7 +86,7 @@ fn are_within(members: u128, low: u8, high: u8, count: u8) -> bool
 
 /// A set whose members are to lie within bounds.
 pub fn check_members(set: SetValue, low: u8, high: u8) -> Result<SetValue, ErrorName>
-    ensures { result ≡ spec.ranged low high set }
+    ensures { result ≡ spec.check_members low high set }
 {
     if are_within(set.members, low, high, 128) {
         Ok(set)
@@ -126,7 +126,7 @@ fn quad(permanents: &[i16], room: &Room, at: Address) -> u64
 /// The set that the eight cells from an address on hold.
 pub fn load_set(permanents: &[i16], room: &Room, at: Address) -> SetValue
     requires { HasCells (memory_of permanents.now room.now) at SET_CELLS }
-    ensures { result ≡ spec.stored_at (memory_of permanents.now room.now) at }
+    ensures { result ≡ spec.load_set (memory_of permanents.now room.now) at }
 {
     let low = quad(permanents, room, at);
     let high = quad(permanents, room, at.plus(4));

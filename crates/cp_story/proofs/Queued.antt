@@ -18,7 +18,7 @@ use Rattle.cp_store.specs.declared.memory.Address.{Address}
 use Rattle.cp_store.specs.declared.memory.Address.TheVariants as address
 use Rattle.cp_store.specs.declared.memory.Frame.{Frame}
 use Rattle.cp_store.specs.Sets as sets
-use Rattle.cp_store.specs.Values.{is_true, ranged}
+use Rattle.cp_store.specs.Values.{is_true, check_range}
 use Rattle.cp_machine.specs.declared.discipline.Gates.{Gates}
 use Rattle.cp_machine.specs.declared.discipline.Gates.TheVariants.{First, Any}
 use Rattle.cp_machine.specs.declared.discipline.Signals.{Signals}
@@ -28,12 +28,12 @@ use Rattle.cp_machine.specs.declared.process.Entry.TheVariants.{Rest, Successor,
 use Rattle.cp_machine.specs.declared.process.Status.{Status}
 use Rattle.cp_machine.specs.declared.process.Status.TheVariants.{Unstarted, Ready, AtGate, Delayed, Ended}
 use Rattle.cp_machine.specs.declared.state.TheConstants.{MOST_SHOWN}
-use Rattle.cp_machine.specs.Calls.{called, called_in, called_by, start_process, start_inside, started, returned, delayed_in, delay_at, continue_at, continue_by, continued_from, continued_in, left, opened}
-use Rattle.cp_machine.specs.Kernel.{entered, entered_by, first_in, goes_in, joined, let_in, let_in_by, one_in, resumed, signalled_by, waits_in}
+use Rattle.cp_machine.specs.Calls.{open_call, call_in, call_by, start_process, start_inside, start_by, return_to, delay_in, delay_at, continue_at, continue_by, continue_from, continue_in, leave_frame, open_frame}
+use Rattle.cp_machine.specs.Kernel.{enter_caller, enter_by, first_in, goes_in, join_line, let_in, let_in_by, one_in, go_on_inside, signal_by, waits_in}
 use Rattle.cp_machine.specs.Machine.{Machine, Monitor, Thread, is_at_gate, is_initialised, is_ready, is_ready_status, is_uninitialised, is_unstarted, monitor_at, no_monitor, no_thread, phase_at, thread_at, with_stack, with_status, with_thread}
 use Rattle.cp_machine.specs.Memory.{address_of, arguments_of, component_of, parameters_bound, set_of, value_of}
 use Rattle.cp_machine.specs.Stack.{from_end, rest_of}
-use Rattle.cp_machine.specs.Statements.{Stepped, arm_for, fault, is_beyond, local, next_value, succeeded, with_value}
+use Rattle.cp_machine.specs.Statements.{Stepped, arm_for, fault, is_beyond, local, next_value, successor_step, with_value}
 use Rattle.cp_machine.specs.Step.{act, step_at, take_top}
 use Rattle.cp_machine.specs.declared.event.Event.TheVariants.{Kernel}
 use Rattle.cp_machine.specs.declared.event.Kernel.TheVariants.{StartProcess}
@@ -101,30 +101,30 @@ module _ (pid q : ℕ) (other : q ≡ pid → ⊥) where
   let_in_asleep : (m : Machine) (monitor : ℕ) → Asleep m → sleeps (let_in m monitor) q ≡ true
   let_in_asleep m monitor h = let_in_by_asleep m.discipline.gates m monitor (monitor_at m monitor).line (h.lines monitor) h.queued
 
-  entered_by_asleep : (holder : Option ℕ) (m : Machine) (monitor : ℕ) → Asleep m → sleeps (entered_by holder m pid monitor) q ≡ true
+  entered_by_asleep : (holder : Option ℕ) (m : Machine) (monitor : ℕ) → Asleep m → sleeps (enter_by holder m pid monitor) q ≡ true
   entered_by_asleep None m monitor h = h.queued
   entered_by_asleep (Some p) m monitor h = (thread_asleep m (record (thread_at m.threads pid) { status = AtGate monitor }) h).queued
 
   -- ---- calls and ends
 
-  called_asleep : (r : Tables) (m : Machine) (routine component : ℕ) (arguments : List Argument) (bounds : List Bound) (result monitor : Option ℕ) (rest : List Entry) → Asleep m → Asleep (called r m pid routine component arguments bounds result monitor rest)
+  called_asleep : (r : Tables) (m : Machine) (routine component : ℕ) (arguments : List Argument) (bounds : List Bound) (result monitor : Option ℕ) (rest : List Entry) → Asleep m → Asleep (open_call r m pid routine component arguments bounds result monitor rest)
   called_asleep r m routine component arguments bounds result monitor rest h =
       let end : Entry = Return (thread_at m.threads pid).frame result monitor in
-      thread_asleep (opened r m pid routine component end rest) _ (thread_asleep m _ h)
+      thread_asleep (open_frame r m pid routine component end rest) _ (thread_asleep m _ h)
 
-  called_in_asleep : (r : Tables) (m : Machine) (k : ComponentKind) (routine component : ℕ) (arguments : List Argument) (bounds : List Bound) (result : Option ℕ) (rest : List Entry) → Asleep m → StaysAsleep (called_in r m pid k routine component arguments bounds result rest)
+  called_in_asleep : (r : Tables) (m : Machine) (k : ComponentKind) (routine component : ℕ) (arguments : List Argument) (bounds : List Bound) (result : Option ℕ) (rest : List Entry) → Asleep m → StaysAsleep (call_in r m pid k routine component arguments bounds result rest)
   called_in_asleep r m (kind.Monitor monitor) routine component arguments bounds result rest h =
-      let n = called r m pid routine component arguments bounds result (Some monitor) rest in
+      let n = open_call r m pid routine component arguments bounds result (Some monitor) rest in
       entered_by_asleep (monitor_at n monitor).holder n monitor (called_asleep r m routine component arguments bounds result (Some monitor) rest h)
   called_in_asleep r m kind.Class routine component arguments bounds result rest h = (called_asleep r m routine component arguments bounds result None rest h).queued
   called_in_asleep r m (kind.Process number) routine component arguments bounds result rest h = (thread_asleep m _ h).queued
 
-  called_by_asleep : (r : Tables) (m : Machine) (line : ℕ) (is_entry : Bool) (routine component : ℕ) (arguments : List Argument) (bounds : List Bound) (result : Option ℕ) (rest : List Entry) → Asleep m → StaysAsleep (called_by r m pid line is_entry routine component arguments bounds result rest)
+  called_by_asleep : (r : Tables) (m : Machine) (line : ℕ) (is_entry : Bool) (routine component : ℕ) (arguments : List Argument) (bounds : List Bound) (result : Option ℕ) (rest : List Entry) → Asleep m → StaysAsleep (call_by r m pid line is_entry routine component arguments bounds result rest)
   called_by_asleep r m line false routine component arguments bounds result rest h = (called_asleep r m routine component arguments bounds result None rest h).queued
   called_by_asleep r m line true routine component arguments bounds result rest h =
       either_asleep (is_initialised (phase_at m component)) _ _ (called_in_asleep r m (component_at r component).kind routine component arguments bounds result rest h) h.queued
 
-  -- who is started was not yet
+  -- who is start_by was not yet
   start_process_asleep : (r : Tables) (m : Machine) (line p component : ℕ) (arguments : List Argument) (bounds : List Bound) (rest : List Entry) → Asleep m → StaysAsleep (start_process r m pid line p component arguments bounds rest)
   start_process_asleep r m line p component arguments bounds rest h = go (is_unstarted (thread_at m.threads p).status) refl
     where
@@ -141,20 +141,20 @@ module _ (pid q : ℕ) (other : q ≡ pid → ⊥) where
   start_inside_asleep : (r : Tables) (m : Machine) (line routine component : ℕ) (arguments : List Argument) (bounds : List Bound) (rest : List Entry) → Asleep m → StaysAsleep (start_inside r m pid line routine component arguments bounds rest)
   start_inside_asleep r m line routine component arguments bounds rest h =
       let end : Entry = InitEnd (thread_at m.threads pid).frame component in
-      either_asleep (is_uninitialised (phase_at m component)) _ _ (thread_asleep (opened r m pid routine component end rest) _ (thread_asleep m _ h)).queued h.queued
+      either_asleep (is_uninitialised (phase_at m component)) _ _ (thread_asleep (open_frame r m pid routine component end rest) _ (thread_asleep m _ h)).queued h.queued
 
-  started_asleep : (r : Tables) (m : Machine) (line : ℕ) (k : ComponentKind) (routine component : ℕ) (arguments : List Argument) (bounds : List Bound) (rest : List Entry) → Asleep m → StaysAsleep (started r m pid line k routine component arguments bounds rest)
+  started_asleep : (r : Tables) (m : Machine) (line : ℕ) (k : ComponentKind) (routine component : ℕ) (arguments : List Argument) (bounds : List Bound) (rest : List Entry) → Asleep m → StaysAsleep (start_by r m pid line k routine component arguments bounds rest)
   started_asleep r m line (kind.Process p) routine component arguments bounds rest h = start_process_asleep r m line p component arguments bounds rest h
   started_asleep r m line (kind.Monitor monitor) routine component arguments bounds rest h = start_inside_asleep r m line routine component arguments bounds rest h
   started_asleep r m line kind.Class routine component arguments bounds rest h = start_inside_asleep r m line routine component arguments bounds rest h
 
-  returned_asleep : (r : Tables) (m : Machine) (caller : Frame) (result monitor : Option ℕ) (es : List Entry) → Asleep m → StaysAsleep (returned r m pid caller result monitor es)
+  returned_asleep : (r : Tables) (m : Machine) (caller : Frame) (result monitor : Option ℕ) (es : List Entry) → Asleep m → StaysAsleep (return_to r m pid caller result monitor es)
   returned_asleep r m caller result None es h = (thread_asleep m _ h).queued
-  returned_asleep r m caller result (Some monitor) es h = let_in_asleep (left r m pid caller result es) monitor (thread_asleep m _ h)
+  returned_asleep r m caller result (Some monitor) es h = let_in_asleep (leave_frame r m pid caller result es) monitor (thread_asleep m _ h)
 
   -- ---- delay and continue
 
-  delayed_in_asleep : (m : Machine) (line cell : ℕ) (k : ComponentKind) (rest : List Entry) → Asleep m → StaysAsleep (delayed_in m pid line cell k rest)
+  delayed_in_asleep : (m : Machine) (line cell : ℕ) (k : ComponentKind) (rest : List Entry) → Asleep m → StaysAsleep (delay_in m pid line cell k rest)
   delayed_in_asleep m line cell (kind.Monitor monitor) rest h =
       let n : Machine = with_status (record (with_stack m pid rest) { permanents = slice_set m.permanents cell (pos 1) }) pid (Delayed cell) in
       either_asleep (is_true (slice_index_or m.permanents cell (pos 0))) _ _ h.queued (let_in_asleep n monitor (thread_asleep (with_stack m pid rest) _ (thread_asleep m _ h)))
@@ -172,7 +172,7 @@ module _ (pid q : ℕ) (other : q ≡ pid → ⊥) where
   not_woken : (w : Option ℕ) (x : Stepped) → StaysAsleep x → IsWoken w x
   not_woken w x h = λ e. absurd (cc)
 
-  resumed_woken : (w : Option ℕ) (m : Machine) (monitor : ℕ) → Asleep m → sleeps (resumed w m monitor) q ≡ false → w ≡ Some q
+  resumed_woken : (w : Option ℕ) (m : Machine) (monitor : ℕ) → Asleep m → sleeps (go_on_inside w m monitor) q ≡ false → w ≡ Some q
   resumed_woken None m monitor h e = absurd (cc (let_in_asleep m monitor h))
   resumed_woken (Some p) m monitor h e = go (cases_eq q p)
     where
@@ -181,14 +181,14 @@ module _ (pid q : ℕ) (other : q ≡ pid → ⊥) where
       go (inr ne) = absurd (cc (goes_in_asleep m monitor p (monitor_at m monitor).line ne h.queued))
 
   -- where the caller does not return
-  joined_woken : (m : Machine) (monitor p : ℕ) → Asleep m → sleeps (joined m monitor p) q ≡ false → Some p ≡ Some q
+  joined_woken : (m : Machine) (monitor p : ℕ) → Asleep m → sleeps (join_line m monitor p) q ≡ false → Some p ≡ Some q
   joined_woken m monitor p h e = go (cases_eq q p)
     where
       go : (q ≡ p) ⊎ (q ≡ p → ⊥) → Some p ≡ Some q
       go (inl same) = cc
       go (inr ne) = absurd (cc (ap (λ (t : Thread). is_queued t.status) (get_or-set_other m.threads p q (record (thread_at m.threads p) { status = AtGate monitor }) no_thread ne) ∙ h.queued))
 
-  signalled_woken : (s : Signals) (w : Option ℕ) (m : Machine) (monitor : ℕ) → Asleep m → sleeps (signalled_by s w m pid monitor) q ≡ false → w ≡ Some q
+  signalled_woken : (s : Signals) (w : Option ℕ) (m : Machine) (monitor : ℕ) → Asleep m → sleeps (signal_by s w m pid monitor) q ≡ false → w ≡ Some q
   signalled_woken signals.Return None m monitor h e = absurd (cc)
   signalled_woken signals.Continue None m monitor h e = absurd (cc)
   signalled_woken signals.Wait None m monitor h e = absurd (cc)
@@ -200,16 +200,16 @@ module _ (pid q : ℕ) (other : q ≡ pid → ⊥) where
   signalled_woken signals.Return (Some p) m monitor h e = joined_woken m monitor p h e
   signalled_woken signals.Continue (Some p) m monitor h e = joined_woken m monitor p h e
 
-  signal_woken : (m : Machine) (cell : ℕ) (k : ComponentKind) (rest : List Entry) → Asleep m → IsWoken (waits_in m cell) (continued_in m pid cell k rest)
+  signal_woken : (m : Machine) (cell : ℕ) (k : ComponentKind) (rest : List Entry) → Asleep m → IsWoken (waits_in m cell) (continue_in m pid cell k rest)
   signal_woken m cell (kind.Monitor monitor) rest h = λ e.
       let n : Machine = with_stack m pid rest in
       sym (still_waits m pid _ cell refl) ∙ signalled_woken m.discipline.signals (waits_in n cell) (record n { permanents = slice_set n.permanents cell (pos 0) }) monitor (thread_asleep m _ h) e
   signal_woken m cell kind.Class rest h = not_woken (waits_in m cell) (local (with_stack m pid rest)) (thread_asleep m _ h).queued
   signal_woken m cell (kind.Process number) rest h = not_woken (waits_in m cell) (local (with_stack m pid rest)) (thread_asleep m _ h).queued
 
-  continued_woken : (r : Tables) (m : Machine) (cell : ℕ) (es : List Entry) → Asleep m → IsWoken (waits_in m cell) (continued_from r m pid cell es)
+  continued_woken : (r : Tables) (m : Machine) (cell : ℕ) (es : List Entry) → Asleep m → IsWoken (waits_in m cell) (continue_from r m pid cell es)
   continued_woken r m cell (Return caller result (Some monitor) ∷ es) h = λ e.
-      let gone = left r m pid caller result es in
+      let gone = leave_frame r m pid caller result es in
       sym (still_waits m pid _ cell refl) ∙ resumed_woken (waits_in gone cell) (record gone { permanents = slice_set gone.permanents cell (pos 0) }) monitor (thread_asleep m _ h) e
   continued_woken r m cell [] h = not_woken (waits_in m cell) (local m) h.queued
   continued_woken r m cell (Rest at ∷ es) h = not_woken (waits_in m cell) (local m) h.queued
@@ -251,11 +251,11 @@ module _ (r : Tables) (m : Machine) (pid q : ℕ) (other : q ≡ pid → ⊥) (h
   act_asleep at item (Assign target value low high) es plain =
       evaluated (value_of m pid value) _ _ (λ e. h.queued) (λ v.
       evaluated (address_of m pid target) _ _ (λ e. h.queued) (λ p.
-      evaluated (ranged low high v) _ _ (λ e. h.queued) (λ w. writing _ _)))
+      evaluated (check_range low high v) _ _ (λ e. h.queued) (λ w. writing _ _)))
   act_asleep at item (AssignSet target value low high) es plain =
       evaluated (set_of m pid value) _ _ (λ e. h.queued) (λ v.
       evaluated (address_of m pid target) _ _ (λ e. h.queued) (λ p.
-      evaluated (sets.ranged low high v) _ _ (λ e. h.queued) (λ w. writing _ _)))
+      evaluated (sets.check_members low high v) _ _ (λ e. h.queued) (λ w. writing _ _)))
   act_asleep at item (Copy target source size) es plain =
       evaluated (address_of m pid source) _ _ (λ e. h.queued) (λ from.
       evaluated (address_of m pid target) _ _ (λ e. h.queued) (λ to. writing _ _))
@@ -271,7 +271,7 @@ module _ (r : Tables) (m : Machine) (pid q : ℕ) (other : q ≡ pid → ⊥) (h
       evaluated (value_of m pid first) _ _ (λ e. h.queued) (λ x.
       evaluated (value_of m pid last) _ _ (λ e. h.queued) (λ y.
       either (is_beyond down x y) _ _ (going _)
-      (evaluated (ranged low high x) _ _ (λ e. h.queued) (λ z. writing _ _))))
+      (evaluated (check_range low high x) _ _ (λ e. h.queued) (λ z. writing _ _))))
   act_asleep at item (Cycle list) es plain = going _
   act_asleep at item (Call routine component is_entry arguments result) es plain =
       evaluated (component_of m pid component) _ _ (λ e. h.queued) (λ c.
@@ -288,7 +288,7 @@ module _ (r : Tables) (m : Machine) (pid q : ℕ) (other : q ≡ pid → ⊥) (h
   act_woken at item (Continue place) es = continue_woken pid q other r m item.line item.next es (address_of m pid place) h
   act_woken at item a es = not_woken pid q other None (act r m pid at item a es) (act_asleep at item a es refl)
 
-  successor_asleep : (at : ℕ) (item : Item) (a : Action) (es : List Entry) (z last : ℤ) → Kept (succeeded m pid at item a es z last)
+  successor_asleep : (at : ℕ) (item : Item) (a : Action) (es : List Entry) (z last : ℤ) → Kept (successor_step m pid at item a es z last)
   successor_asleep at item (For variable low high first end down list) es z last =
       either (int_eq z last) _ _ (going _)
       (evaluated (next_value down low high z) _ _ (λ e. h.queued) (λ w. writing _ _))

@@ -22,8 +22,8 @@ use Rattle.cp_machine.specs.declared.discipline.Signals.{Signals}
 use Rattle.cp_machine.specs.declared.discipline.Signals.TheVariants as signals
 use Rattle.cp_machine.specs.declared.process.Status.{Status}
 use Rattle.cp_machine.specs.declared.process.Status.TheVariants.{Ready, AtGate, Delayed}
-use Rattle.cp_machine.specs.Calls.{continue_at, continue_by, continued_from, continued_in, given_up, left}
-use Rattle.cp_machine.specs.Kernel.{changed_places, joined, resumed, signalled, signalled_by, waits_in}
+use Rattle.cp_machine.specs.Calls.{continue_at, continue_by, continue_from, continue_in, give_up_frame, leave_frame}
+use Rattle.cp_machine.specs.Kernel.{change_places, join_line, go_on_inside, signal, signal_by, waits_in}
 use Rattle.cp_machine.specs.Machine.{Machine, Thread, is_delayed_at, is_ready, is_ready_status, no_thread, thread_at, with_stack, with_thread}
 use Rattle.cp_machine.specs.Memory.{address_of}
 use Rattle.cp_machine.specs.Stack.{from_end, rest_of}
@@ -74,14 +74,14 @@ stays_ready : (m : Machine) (pid : ℕ) (rest : List Entry) → is_ready m pid �
 stays_ready m pid rest e = ap (λ (t : Thread). is_ready_status t.status) (get_or-set_same m.threads pid (record (thread_at m.threads pid) { stack = rest }) no_thread (within m.threads pid e)) ∙ e
 
 module _ (m n : Machine) (monitor pid q : ℕ) (lt : q < length n.threads) (ready : is_ready m pid ≡ true → is_ready n pid ≡ true) (other : is_ready n pid ≡ true → q ≡ pid → ⊥) where
-  joined_served : IsServed signals.Continue m (joined n monitor q) pid q
+  joined_served : IsServed signals.Continue m (join_line n monitor q) pid q
   joined_served =
       let gated : Thread = record (thread_at n.threads q) { status = AtGate monitor } in (
         ap (λ (t : Thread). is_gated t.status) (get_or-set_same n.threads q gated no_thread lt),
         λ e. ap (λ (t : Thread). is_ready_status t.status) (get_or-set_other n.threads q pid gated no_thread (λ same. other (ready e) (sym same))) ∙ ready e,
       )
 
-  places_served : IsServed signals.Wait m (changed_places n monitor pid q) pid q
+  places_served : IsServed signals.Wait m (change_places n monitor pid q) pid q
   places_served =
       let gated : Thread = record (thread_at n.threads pid) { status = AtGate monitor } in
       let threads : List Thread = slice_set n.threads pid gated in
@@ -103,42 +103,42 @@ module _ (m : Machine) (pid cell q : ℕ) (w : waits_in m cell ≡ Some q) (rest
   waits_still : waits_in going cell ≡ Some q
   waits_still = still_waits m pid (record (thread_at m.threads pid) { stack = rest }) cell refl ∙ w
 
-  goes_on_served : (monitor : ℕ) → m.discipline.signals ≡ signals.Continue → IsServed signals.Continue m (signalled going pid monitor cell) pid q
+  goes_on_served : (monitor : ℕ) → m.discipline.signals ≡ signals.Continue → IsServed signals.Continue m (signal going pid monitor cell) pid q
   goes_on_served monitor same =
-      subst (λ (s : Signals). IsServed signals.Continue m (signalled_by s (waits_in going cell) emptied pid monitor) pid q) (sym same)
-      (subst (λ (o : Option ℕ). IsServed signals.Continue m (signalled_by signals.Continue o emptied pid monitor) pid q) (sym waits_still)
+      subst (λ (s : Signals). IsServed signals.Continue m (signal_by s (waits_in going cell) emptied pid monitor) pid q) (sym same)
+      (subst (λ (o : Option ℕ). IsServed signals.Continue m (signal_by signals.Continue o emptied pid monitor) pid q) (sym waits_still)
       (joined_served m emptied monitor pid q (waiter_within going cell q waits_still) (stays_ready m pid rest) (waiter_other going cell pid q waits_still)))
 
-  waits_served : (monitor : ℕ) → m.discipline.signals ≡ signals.Wait → IsServed signals.Wait m (signalled going pid monitor cell) pid q
+  waits_served : (monitor : ℕ) → m.discipline.signals ≡ signals.Wait → IsServed signals.Wait m (signal going pid monitor cell) pid q
   waits_served monitor same =
-      subst (λ (s : Signals). IsServed signals.Wait m (signalled_by s (waits_in going cell) emptied pid monitor) pid q) (sym same)
-      (subst (λ (o : Option ℕ). IsServed signals.Wait m (signalled_by signals.Wait o emptied pid monitor) pid q) (sym waits_still)
+      subst (λ (s : Signals). IsServed signals.Wait m (signal_by s (waits_in going cell) emptied pid monitor) pid q) (sym same)
+      (subst (λ (o : Option ℕ). IsServed signals.Wait m (signal_by signals.Wait o emptied pid monitor) pid q) (sym waits_still)
       (places_served m emptied monitor pid q (waiter_within going cell q waits_still) (stays_ready m pid rest) (waiter_other going cell pid q waits_still)))
 
-  goes_on_serves : (k : ComponentKind) → m.discipline.signals ≡ signals.Continue → Serves signals.Continue m pid q (continued_in m pid cell k rest)
+  goes_on_serves : (k : ComponentKind) → m.discipline.signals ≡ signals.Continue → Serves signals.Continue m pid q (continue_in m pid cell k rest)
   goes_on_serves (kind.Monitor monitor) same = λ e. goes_on_served monitor same
   goes_on_serves kind.Class same = λ e. absurd (cc)
   goes_on_serves (kind.Process number) same = λ e. absurd (cc)
 
-  waits_serves : (k : ComponentKind) → m.discipline.signals ≡ signals.Wait → Serves signals.Wait m pid q (continued_in m pid cell k rest)
+  waits_serves : (k : ComponentKind) → m.discipline.signals ≡ signals.Wait → Serves signals.Wait m pid q (continue_in m pid cell k rest)
   waits_serves (kind.Monitor monitor) same = λ e. waits_served monitor same
   waits_serves kind.Class same = λ e. absurd (cc)
   waits_serves (kind.Process number) same = λ e. absurd (cc)
 
 -- ---- the step
 
-resumed_ready : (waiter : Option ℕ) (m : Machine) (monitor q : ℕ) → q < length m.threads → waiter ≡ Some q → is_ready (resumed waiter m monitor) q ≡ true
+resumed_ready : (waiter : Option ℕ) (m : Machine) (monitor q : ℕ) → q < length m.threads → waiter ≡ Some q → is_ready (go_on_inside waiter m monitor) q ≡ true
 resumed_ready None m monitor q lt e = absurd (cc)
 resumed_ready (Some w) m monitor q lt e =
     let same : q ≡ w = cc in
-    ap (λ (k : ℕ). is_ready (resumed (Some w) m monitor) k) same ∙ ap (λ (t : Thread). is_ready_status t.status) (get_or-set_same m.threads w (record (thread_at m.threads w) { status = Ready }) no_thread (subst (λ k. k < length m.threads) same lt))
+    ap (λ (k : ℕ). is_ready (go_on_inside (Some w) m monitor) k) same ∙ ap (λ (t : Thread). is_ready_status t.status) (get_or-set_same m.threads w (record (thread_at m.threads w) { status = Ready }) no_thread (subst (λ k. k < length m.threads) same lt))
 
 module _ (r : Tables) (q : ℕ) where
   -- the end of an entry is on top
-  from_end_wakes : (m : Machine) (pid cell : ℕ) (es : List Entry) → waits_in m cell ≡ Some q → Wakes q (continued_from r m pid cell es)
+  from_end_wakes : (m : Machine) (pid cell : ℕ) (es : List Entry) → waits_in m cell ≡ Some q → Wakes q (continue_from r m pid cell es)
   from_end_wakes m pid cell (Return caller result (Some monitor) ∷ es) w = λ e.
-      let gone = left r m pid caller result es in
-      let waits : waits_in gone cell ≡ Some q = still_waits m pid (given_up r (thread_at m.threads pid) caller result es) cell refl ∙ w in
+      let gone = leave_frame r m pid caller result es in
+      let waits : waits_in gone cell ≡ Some q = still_waits m pid (give_up_frame r (thread_at m.threads pid) caller result es) cell refl ∙ w in
       resumed_ready (waits_in gone cell) (record gone { permanents = slice_set gone.permanents cell (pos 0) }) monitor q (waiter_within gone cell q waits) waits
   from_end_wakes m pid cell [] w = λ e. absurd (cc)
   from_end_wakes m pid cell (Rest at ∷ es) w = λ e. absurd (cc)

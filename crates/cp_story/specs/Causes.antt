@@ -18,9 +18,9 @@ use Rattle.cp_store.specs.declared.error.ErrorName.{ErrorName}
 use Rattle.cp_store.specs.declared.memory.Address.{Address}
 use Rattle.cp_store.specs.declared.memory.Address.TheVariants.{Permanent, Local}
 use Rattle.cp_store.specs.declared.memory.Frame.{Frame}
-use Rattle.cp_store.specs.Memory.{Memory, cell_at, memory_of, moved, onward, stretch}
+use Rattle.cp_store.specs.Memory.{Memory, cell_at, memory_of, address_onward, onward, stretch}
 use Rattle.cp_store.specs.Places.{origin_address}
-use Rattle.cp_store.specs.Values.{truth, is_true, is_within, negated, absolute, successor, predecessor, calculated, combined, compared}
+use Rattle.cp_store.specs.Values.{truth, is_true, is_within, negate, absolute, successor, predecessor, calculate, apply_logic, compare}
 use Rattle.cp_machine.specs.declared.discipline.Discipline.{Discipline}
 use Rattle.cp_machine.specs.declared.process.Entry.{Entry}
 use Rattle.cp_machine.specs.declared.process.Entry.TheVariants.{Rest, Successor}
@@ -86,10 +86,10 @@ abbrev pub loaded : Memory → Result Address Cause → Result ℤ Cause
 loaded m a = then_with a (λ at. Ok (cell_at m at))
 
 abbrev pub place_step : Place-F ToValue ToSet ToElement ToAddress → ToAddress
-place_step p = λ m f. through p.indices.items m f (moved (origin_address m.references f p.origin) p.offset)
+place_step p = λ m f. through p.indices.items m f (address_onward (origin_address m.references f p.origin) p.offset)
 
 abbrev pub index_step : Index-F ToValue ToSet ToElement ToAddress → ToElement
-index_step i = λ m f at. then_with (i.at m f) (λ v. then_with (element_offset i.low i.high i.size v) (λ far. Ok (moved at far)))
+index_step i = λ m f at. then_with (i.at m f) (λ v. then_with (element_offset i.low i.high i.size v) (λ far. Ok (address_onward at far)))
 
 abbrev pub both : ToValue → ToValue → (ℤ → ℤ → Result ℤ Cause) → ToValue
 both a b go = λ m f. then_with (a m f) (λ x. then_with (b m f) (λ y. go x y))
@@ -97,15 +97,15 @@ both a b go = λ m f. then_with (a m f) (λ x. then_with (b m f) (λ y. go x y))
 abbrev pub expression_step : OrdinalExpression-F ToValue ToSet ToElement ToAddress → ToValue
 expression_step (OrdinalExpression-F.Number z) = λ m f. Ok z
 expression_step (OrdinalExpression-F.«OrdinalExpression::Load» p) = λ m f. loaded m (p m f)
-expression_step (OrdinalExpression-F.Negate e) = λ m f. then_with (e.value m f) (λ x. or_cause (cause.Sign x) (negated x))
+expression_step (OrdinalExpression-F.Negate e) = λ m f. then_with (e.value m f) (λ x. or_cause (cause.Sign x) (negate x))
 expression_step (OrdinalExpression-F.Absolute e) = λ m f. then_with (e.value m f) (λ x. or_cause (cause.Absolute x) (absolute x))
 expression_step (OrdinalExpression-F.Not e) = λ m f. then_with (e.value m f) (λ x. Ok (truth (not (is_true x))))
 expression_step (OrdinalExpression-F.Successor e last) = λ m f. then_with (e.value m f) (λ x. or_cause cause.Last (successor last x))
 expression_step (OrdinalExpression-F.Predecessor e first) = λ m f. then_with (e.value m f) (λ x. or_cause cause.First (predecessor first x))
 expression_step (OrdinalExpression-F.Character e) = λ m f. then_with (e.value m f) (within (pos 0) (pos 127))
-expression_step (OrdinalExpression-F.Arithmetic o a b) = both a.value b.value (λ x y. or_cause (cause.Operation o x y) (calculated o x y))
-expression_step (OrdinalExpression-F.Logic o a b) = both a.value b.value (λ x y. Ok (combined o x y))
-expression_step (OrdinalExpression-F.Compare r a b) = both a.value b.value (λ x y. Ok (compared r x y))
+expression_step (OrdinalExpression-F.Arithmetic o a b) = both a.value b.value (λ x y. or_cause (cause.Operation o x y) (calculate o x y))
+expression_step (OrdinalExpression-F.Logic o a b) = both a.value b.value (λ x y. Ok (apply_logic o x y))
+expression_step (OrdinalExpression-F.Compare r a b) = both a.value b.value (λ x y. Ok (compare r x y))
 expression_step (OrdinalExpression-F.SameSet wanted a b) = λ m f. then_with (a.value m f) (λ s. then_with (b.value m f) (λ t. Err cause.Untold))
 expression_step (OrdinalExpression-F.Member e a) = λ m f. then_with (e.value m f) (λ x. then_with (a.value m f) (λ s. Err cause.Untold))
 expression_step (OrdinalExpression-F.IsEmpty p) = λ m f. then_with (loaded m (p m f)) (λ x. Ok (truth (not (is_true x))))

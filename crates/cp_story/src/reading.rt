@@ -3,7 +3,7 @@
 ghost use Rattle.std.specs.Prelude.{◌≡◌, ◌<◌, length};
 ghost use Rattle.cp_machine.specs.Machine.{machine_of};
 ghost use Rattle.cp_machine.specs.Memory.{memory_at};
-ghost use Rattle.cp_store.specs.Memory.{cell_at, moved};
+ghost use Rattle.cp_store.specs.Memory.{cell_at, address_onward};
 ghost use Rattle.cp_store.specs.Places.{origin_address};
 ghost use Rattle.cp_story.specs.Causes as spec;
 ghost use Rattle.cp_story.specs.Causes.{memory_in};
@@ -95,8 +95,8 @@ fn forget_address(at: Result<Address, Cause>) -> Result<(), Cause>
 }
 
 // The address this many cells further on.
-fn moved(at: Address, cells: usize) -> Address
-    ensures { result ≡ moved at cells }
+fn address_onward(at: Address, cells: usize) -> Address
+    ensures { result ≡ address_onward at cells }
 {
     match at {
         Address::Permanent(number) => Address::Permanent(number.saturating_add(cells)),
@@ -158,7 +158,7 @@ impl<'a> Reading<'a> {
     pub fn address(&self, place: &Place) -> Result<Address, Cause>
         ensures { result ≡ spec.address_at (memory_in self.now) self.now.frame place.now }
     {
-        let start = moved(self.origin(place.origin), place.offset);
+        let start = address_onward(self.origin(place.origin), place.offset);
         self.through(start, &place.indices)
     }
 
@@ -186,7 +186,7 @@ impl<'a> Reading<'a> {
         ensures { result ≡ spec.element_at index.now (memory_in self.now) self.now.frame at }
     {
         let value = self.value(&index.at)?;
-        Ok(moved(
+        Ok(address_onward(
             at,
             element_offset(value, index.low, index.high, index.size)?,
         ))

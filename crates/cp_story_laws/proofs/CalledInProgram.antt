@@ -15,8 +15,8 @@ use Rattle.cp_symbols.specs.declared.names.LayoutMeaning.{LayoutMeaning}
 use Rattle.cp_symbols.specs.declared.names.LayoutMeaning.TheVariants as meaning
 use Rattle.cp_layout.specs.Laid.{PlainTables, plain, laid, tables_laid, whole}
 use Rattle.cp_layout.specs.Layers.{Layer, Heading, Names, Pending, System, is_open, seen_inside, nothing_laid}
-use Rattle.cp_layout.specs.LaidDeclarations.{Parameters, heading, heading_with, body, with_new_frame, with_heading, opened, routine, routines, initial_statement, entered, system_of, system_parameter, system_parameters_of, system_group, system_groups, system, type_named, definition, system_definition, system_definitions, constants, variables, program_part, program_parts, program}
-use Rattle.cp_layout.specs.LaidTypes.{named_type, written_type}
+use Rattle.cp_layout.specs.LaidDeclarations.{Parameters, heading, heading_with, body, with_new_frame, with_heading, open_routine, routine, routines, initial_statement, enter_system, system_of, system_parameter, system_parameters_of, system_group, system_groups, system, with_type_name, definition, system_definition, system_definitions, constants, variables, program_part, program_parts, program}
+use Rattle.cp_layout.specs.LaidTypes.{type_of_name, written_type}
 use Rattle.cp_meaning.specs.Scopes as scopes
 use Rattle.cp_meaning.specs.Scopes.{Scope}
 use Rattle.cp_meaning.specs.Systems.{Declared, system_in, definition_in, program_part_in, declared, own_meaning, program_system}
@@ -70,7 +70,7 @@ module _ (os : List Opening) where
   groups_names : (l : Layer) (ps : Parameters) (gs : List syntax.Group) → AreGood l.names → AreGood (system_groups l ps gs).1.names
   unfolding system_groups
   groups_names l ps [] h = h
-  groups_names l ps (g ∷ gs) h = groups_names (system_group l ps g).1 (system_group l ps g).0 gs (parameters_names l ps (named_type l g.type_name.name) g.names h)
+  groups_names l ps (g ∷ gs) h = groups_names (system_group l ps g).1 (system_group l ps g).0 gs (parameters_names l ps (type_of_name l g.type_name.name) g.names h)
 
   -- ---- steps that add no items
 
@@ -95,7 +95,7 @@ module _ (os : List Opening) where
 
   module _ (l : Layer) (r : syntax.Routine) where
     abbrev x : Layer
-    x = (opened l r.name.name).1
+    x = (open_routine l r.name.name).1
 
     abbrev h : Heading × Layer
     h = heading x r.name.name r.kind
@@ -153,7 +153,7 @@ module _ (os : List Opening) where
 
   module _ (l : Layer) (d : syntax.System) where
     abbrev e : Layer
-    e = (entered l).1
+    e = (enter_system l).1
 
     abbrev g : Parameters × Layer
     g = system_groups e [] d.parameters
@@ -221,7 +221,7 @@ module _ (os : List Opening) where
   definition_calls l d (syntax.type_definition t) at h = type_calls l t h
   definition_calls l d (syntax.system_definition s) at h = system_calls l s (length d.systems) (scopes.seen_inside d.scope) at h
 
-  named_adds : (l : Layer) (x : List ℕ) (w : CellType × Layer) (xs : List Opening) → Adds l w.1 xs → Adds l (type_named x w) xs
+  named_adds : (l : Layer) (x : List ℕ) (w : CellType × Layer) (xs : List Opening) → Adds l w.1 xs → Adds l (with_type_name x w) xs
   named_adds l x w xs a = let k = a.calls in record { calls = record { names = (tt, k.names); systems = k.systems; pending = k.pending; items = k.items }; count = a.count }
 
   definitions_call : (l : Layer) (d : Declared) (ns : List syntax.SystemDefinition) → IsAt l (definitions_openings d ns) → Calling os l → Adds l (system_definitions l ns) (definitions_openings d ns)

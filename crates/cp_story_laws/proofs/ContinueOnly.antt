@@ -16,7 +16,7 @@ use Rattle.cp_store.specs.declared.memory.Address.{Address}
 use Rattle.cp_store.specs.declared.memory.Address.TheVariants as address
 use Rattle.cp_store.specs.declared.memory.Frame.{Frame}
 use Rattle.cp_store.specs.Sets as sets
-use Rattle.cp_store.specs.Values.{is_true, ranged}
+use Rattle.cp_store.specs.Values.{is_true, check_range}
 use Rattle.cp_machine.specs.declared.discipline.Signals.{Signals}
 use Rattle.cp_machine.specs.declared.discipline.Signals.TheVariants as signals
 use Rattle.cp_machine.specs.declared.event.Event.{Event}
@@ -25,11 +25,11 @@ use Rattle.cp_machine.specs.declared.event.Kernel.TheVariants as kernel
 use Rattle.cp_machine.specs.declared.process.Entry.{Entry}
 use Rattle.cp_machine.specs.declared.process.Entry.TheVariants.{Rest, Successor, Return, InitEnd}
 use Rattle.cp_machine.specs.declared.state.TheConstants.{MOST_SHOWN}
-use Rattle.cp_machine.specs.Calls.{called_in, called_by, started, delayed_in, delay_at, continue_at, continue_by, continued_from}
+use Rattle.cp_machine.specs.Calls.{call_in, call_by, start_by, delay_in, delay_at, continue_at, continue_by, continue_from}
 use Rattle.cp_machine.specs.Machine.{Machine, is_initialised, is_uninitialised, is_unstarted, phase_at, thread_at, with_stack}
 use Rattle.cp_machine.specs.Memory.{address_of, arguments_of, component_of, set_of, value_of}
 use Rattle.cp_machine.specs.Stack.{from_end}
-use Rattle.cp_machine.specs.Statements.{Stepped, arm_for, fault, is_beyond, next_value, succeeded, with_value}
+use Rattle.cp_machine.specs.Statements.{Stepped, arm_for, fault, is_beyond, next_value, successor_step, with_value}
 use Rattle.cp_machine.specs.Step.{act, step_at, take_top}
 use Rattle.cp_meaning.specs.State as named
 use Rattle.cp_meaning.specs.State.{CallKind, own_statement, initial_statement, local_routine, entry_routine, current}
@@ -59,21 +59,21 @@ module _ (r : Tables) (m : Machine) (pid : ℕ) where
   either true x y h k = h
   either false x y h k = k
 
-  called_other : (k : ComponentKind) (routine component : ℕ) (arguments : List Argument) (bounds : List Bound) (result : Option ℕ) (rest : List Entry) → IsOther (called_in r m pid k routine component arguments bounds result rest)
+  called_other : (k : ComponentKind) (routine component : ℕ) (arguments : List Argument) (bounds : List Bound) (result : Option ℕ) (rest : List Entry) → IsOther (call_in r m pid k routine component arguments bounds result rest)
   called_other (kind.Monitor monitor) routine component arguments bounds result rest = refl
   called_other kind.Class routine component arguments bounds result rest = refl
   called_other (kind.Process number) routine component arguments bounds result rest = refl
 
-  called_by_other : (line : ℕ) (is_entry : Bool) (routine component : ℕ) (arguments : List Argument) (bounds : List Bound) (result : Option ℕ) (rest : List Entry) → IsOther (called_by r m pid line is_entry routine component arguments bounds result rest)
+  called_by_other : (line : ℕ) (is_entry : Bool) (routine component : ℕ) (arguments : List Argument) (bounds : List Bound) (result : Option ℕ) (rest : List Entry) → IsOther (call_by r m pid line is_entry routine component arguments bounds result rest)
   called_by_other line false routine component arguments bounds result rest = refl
   called_by_other line true routine component arguments bounds result rest = either (is_initialised (phase_at m component)) _ _ (called_other (component_at r component).kind routine component arguments bounds result rest) refl
 
-  started_other : (line : ℕ) (k : ComponentKind) (routine component : ℕ) (arguments : List Argument) (bounds : List Bound) (rest : List Entry) → IsOther (started r m pid line k routine component arguments bounds rest)
+  started_other : (line : ℕ) (k : ComponentKind) (routine component : ℕ) (arguments : List Argument) (bounds : List Bound) (rest : List Entry) → IsOther (start_by r m pid line k routine component arguments bounds rest)
   started_other line (kind.Process p) routine component arguments bounds rest = either (is_unstarted (thread_at m.threads p).status) _ _ refl refl
   started_other line (kind.Monitor monitor) routine component arguments bounds rest = either (is_uninitialised (phase_at m component)) _ _ refl refl
   started_other line kind.Class routine component arguments bounds rest = either (is_uninitialised (phase_at m component)) _ _ refl refl
 
-  delayed_other : (line cell : ℕ) (k : ComponentKind) (rest : List Entry) → IsOther (delayed_in m pid line cell k rest)
+  delayed_other : (line cell : ℕ) (k : ComponentKind) (rest : List Entry) → IsOther (delay_in m pid line cell k rest)
   delayed_other line cell (kind.Monitor monitor) rest = either (is_true (slice_index_or m.permanents cell (pos 0))) _ _ refl refl
   delayed_other line cell kind.Class rest = refl
   delayed_other line cell (kind.Process number) rest = refl
@@ -88,7 +88,7 @@ module _ (r : Tables) (m : Machine) (pid : ℕ) where
   never : (x : Stepped) (es : List Entry) → IsOther x → Ends x es
   never x es h = λ e. absurd (let bad : true ≡ false = sym e ∙ h in cc)
 
-  continued_ends : (n : Machine) (cell : ℕ) (es : List Entry) → is_continued (continued_from r n pid cell es).event ≡ true → EndsInMonitor es
+  continued_ends : (n : Machine) (cell : ℕ) (es : List Entry) → is_continued (continue_from r n pid cell es).event ≡ true → EndsInMonitor es
   continued_ends n cell (Return caller result (Some monitor) ∷ es) = λ e. (caller, result, monitor, es, refl)
   continued_ends n cell [] = λ e. absurd (cc)
   continued_ends n cell (Rest at ∷ es) = λ e. absurd (cc)
@@ -110,11 +110,11 @@ module _ (r : Tables) (m : Machine) (pid : ℕ) where
   act_other at item (Assign target value low high) es plain =
       (evaluated (value_of m pid value) _ _ (λ e. refl) (λ v.
       evaluated (address_of m pid target) _ _ (λ e. refl) (λ p.
-      evaluated (ranged low high v) _ _ (λ e. refl) (λ w. refl))))
+      evaluated (check_range low high v) _ _ (λ e. refl) (λ w. refl))))
   act_other at item (AssignSet target value low high) es plain =
       (evaluated (set_of m pid value) _ _ (λ e. refl) (λ v.
       evaluated (address_of m pid target) _ _ (λ e. refl) (λ p.
-      evaluated (sets.ranged low high v) _ _ (λ e. refl) (λ w. refl))))
+      evaluated (sets.check_members low high v) _ _ (λ e. refl) (λ w. refl))))
   act_other at item (Copy target source size) es plain =
       (evaluated (address_of m pid source) _ _ (λ e. refl) (λ from.
       evaluated (address_of m pid target) _ _ (λ e. refl) (λ to. refl)))
@@ -130,7 +130,7 @@ module _ (r : Tables) (m : Machine) (pid : ℕ) where
       (evaluated (value_of m pid first) _ _ (λ e. refl) (λ x.
       evaluated (value_of m pid last) _ _ (λ e. refl) (λ y.
       either (is_beyond down x y) _ _ refl
-      (evaluated (ranged low high x) _ _ (λ e. refl) (λ z. refl)))))
+      (evaluated (check_range low high x) _ _ (λ e. refl) (λ z. refl)))))
   act_other at item (Cycle list) es plain = refl
   act_other at item (Call routine component is_entry arguments result) es plain =
       (evaluated (component_of m pid component) _ _ (λ e. refl) (λ c.
@@ -146,7 +146,7 @@ module _ (r : Tables) (m : Machine) (pid : ℕ) where
   act_ends by at item (Continue place) es = continue_ends by item.line item.next es (address_of m pid place)
   act_ends by at item a es = never (act r m pid at item a es) es (act_other at item a es refl)
 
-  successor_other : (at : ℕ) (item : Item) (a : Action) (es : List Entry) (z last : ℤ) → IsOther (succeeded m pid at item a es z last)
+  successor_other : (at : ℕ) (item : Item) (a : Action) (es : List Entry) (z last : ℤ) → IsOther (successor_step m pid at item a es z last)
   successor_other at item (For variable low high first end down list) es z last =
       either (int_eq z last) _ _ refl
       (evaluated (next_value down low high z) _ _ (λ e. refl) (λ w. refl))

@@ -1,4 +1,4 @@
--- A step of the slot machine enters a monitor only where an entry is called, and then its process executes the routine that is called.
+-- A step of the slot machine enters a monitor only where an entry is open_call, and then its process executes the routine that is open_call.
 use Rattle.std.proofs.Common.{◌≡◌, ◌∙◌, ℕ, ◌<◌, ◌==◌, Bool, true, false, if◌then◌else◌, List, [], ◌∷◌, length, Option, Some, None, Result, Ok, Err, ap, sym, refl, subst, length-set, get_or-set_same}
 use Rattle.std.specs.Ordering.{int_eq}
 use Rattle.std.specs.Prelude.{ℤ, pos, slice_index_or}
@@ -15,10 +15,10 @@ use Rattle.cp_store.specs.declared.error.ErrorName.{ErrorName}
 use Rattle.cp_store.specs.declared.error.ErrorName.TheVariants.{NotInit}
 use Rattle.cp_store.specs.declared.memory.Address.{Address}
 use Rattle.cp_store.specs.declared.memory.Address.TheVariants as address
-use Rattle.cp_store.specs.Arguments.{bound_in_frame}
+use Rattle.cp_store.specs.Arguments.{bind_frame}
 use Rattle.cp_store.specs.Memory.{Memory}
 use Rattle.cp_store.specs.Sets as sets
-use Rattle.cp_store.specs.Values.{is_true, ranged}
+use Rattle.cp_store.specs.Values.{is_true, check_range}
 use Rattle.cp_machine.specs.declared.discipline.Signals.{Signals}
 use Rattle.cp_machine.specs.declared.discipline.Signals.TheVariants as signals
 use Rattle.cp_machine.specs.declared.event.Event.{Event}
@@ -28,12 +28,12 @@ use Rattle.cp_machine.specs.declared.process.Entry.{Entry}
 use Rattle.cp_machine.specs.declared.process.Entry.TheVariants.{Rest, Successor, Return, InitEnd}
 use Rattle.cp_machine.specs.declared.process.Status.TheVariants.{AtGate}
 use Rattle.cp_machine.specs.declared.state.TheConstants.{MOST_SHOWN}
-use Rattle.cp_machine.specs.Calls.{called, called_in, called_by, frame_behind, started, delayed_in, delay_at, continue_at, continue_by, continued_from, continued_in}
-use Rattle.cp_machine.specs.Kernel.{entered, entered_by}
+use Rattle.cp_machine.specs.Calls.{open_call, call_in, call_by, frame_behind, start_by, delay_in, delay_at, continue_at, continue_by, continue_from, continue_in}
+use Rattle.cp_machine.specs.Kernel.{enter_caller, enter_by}
 use Rattle.cp_machine.specs.Machine.{Machine, Thread, is_initialised, is_uninitialised, is_unstarted, monitor_at, no_thread, phase_at, thread_at, with_permanents, with_stack, with_thread}
-use Rattle.cp_machine.specs.Memory.{address_of, arguments_of, component_of, frame_opened, memory_at, set_of, value_of}
+use Rattle.cp_machine.specs.Memory.{address_of, arguments_of, component_of, add_frame, memory_at, set_of, value_of}
 use Rattle.cp_machine.specs.Stack.{from_end, rest_of}
-use Rattle.cp_machine.specs.Statements.{Stepped, arm_for, fault, is_beyond, next_value, succeeded, with_value}
+use Rattle.cp_machine.specs.Statements.{Stepped, arm_for, fault, is_beyond, next_value, successor_step, with_value}
 use Rattle.cp_machine.specs.Step.{act, step_at, take_top}
 use Rattle.cp_resolved.specs.Openings.{Opening}
 use Rattle.cp_story_laws.proofs.CalledRoutines.{CallsRoutine, IsCalled}
@@ -71,7 +71,7 @@ module _ (r : Tables) (os : List Opening) (m : Machine) (pid : ℕ) (there : pid
   frame_set : (n : Machine) (t : Thread) → pid < length n.threads → executed (with_thread n pid t) pid ≡ t.frame.routine
   frame_set n t lt = ap (λ (u : Thread). u.frame.routine) (get_or-set_same n.threads pid t no_thread lt)
 
-  entered_frame : (o : Option ℕ) (n : Machine) (monitor : ℕ) → pid < length n.threads → executed (entered_by o n pid monitor) pid ≡ executed n pid
+  entered_frame : (o : Option ℕ) (n : Machine) (monitor : ℕ) → pid < length n.threads → executed (enter_by o n pid monitor) pid ≡ executed n pid
   entered_frame None n monitor lt = refl
   entered_frame (Some q) n monitor lt = frame_set n (record (thread_at n.threads pid) { status = AtGate monitor }) lt
 
@@ -83,33 +83,33 @@ module _ (r : Tables) (os : List Opening) (m : Machine) (pid : ℕ) (there : pid
     mine = thread_at m.threads pid
 
     abbrev new : Thread
-    new = frame_opened (record mine { frame = frame_behind r mine routine component; stack = rest_of (routine_at r routine).body (Return mine.frame result monitor ∷ rest) }) (routine_at r routine)
+    new = add_frame (record mine { frame = frame_behind r mine routine component; stack = rest_of (routine_at r routine).body (Return mine.frame result monitor ∷ rest) }) (routine_at r routine)
 
     abbrev begun : Machine
     begun = with_thread m pid new
 
     abbrev memory : Memory
-    memory = bound_in_frame (memory_at begun pid) (thread_at begun.threads pid).frame arguments bounds
+    memory = bind_frame (memory_at begun pid) (thread_at begun.threads pid).frame arguments bounds
 
     abbrev bound : Thread
     bound = record (thread_at begun.threads pid) { cells = memory.cells; references = memory.references }
 
-    called_there : pid < length (called r m pid routine component arguments bounds result monitor rest).threads
+    called_there : pid < length (open_call r m pid routine component arguments bounds result monitor rest).threads
     called_there = longer (with_permanents begun memory.permanents) bound (longer m new there)
 
-    called_frame : executed (called r m pid routine component arguments bounds result monitor rest) pid ≡ routine
+    called_frame : executed (open_call r m pid routine component arguments bounds result monitor rest) pid ≡ routine
     called_frame = frame_set (with_permanents begun memory.permanents) bound (longer m new there) ∙ frame_set m new there
 
-  called_enters : (k : ComponentKind) (routine component : ℕ) (arguments : List Argument) (bounds : List Bound) (result : Option ℕ) (rest : List Entry) → IsCalled os routine → Enters (called_in r m pid k routine component arguments bounds result rest)
+  called_enters : (k : ComponentKind) (routine component : ℕ) (arguments : List Argument) (bounds : List Bound) (result : Option ℕ) (rest : List Entry) → IsCalled os routine → Enters (call_in r m pid k routine component arguments bounds result rest)
   called_enters (kind.Monitor monitor) routine component arguments bounds result rest h =
-      let n : Machine = called r m pid routine component arguments bounds result (Some monitor) rest in
-      let same : executed (entered n pid monitor) pid ≡ routine = entered_frame (monitor_at n monitor).holder n monitor (called_there routine component arguments bounds result (Some monitor) rest) ∙ called_frame routine component arguments bounds result (Some monitor) rest in
+      let n : Machine = open_call r m pid routine component arguments bounds result (Some monitor) rest in
+      let same : executed (enter_caller n pid monitor) pid ≡ routine = entered_frame (monitor_at n monitor).holder n monitor (called_there routine component arguments bounds result (Some monitor) rest) ∙ called_frame routine component arguments bounds result (Some monitor) rest in
       λ e. subst (IsCalled os) (sym same) h
-  called_enters kind.Class routine component arguments bounds result rest h = never (called_in r m pid kind.Class routine component arguments bounds result rest) refl
-  called_enters (kind.Process number) routine component arguments bounds result rest h = never (called_in r m pid (kind.Process number) routine component arguments bounds result rest) refl
+  called_enters kind.Class routine component arguments bounds result rest h = never (call_in r m pid kind.Class routine component arguments bounds result rest) refl
+  called_enters (kind.Process number) routine component arguments bounds result rest h = never (call_in r m pid (kind.Process number) routine component arguments bounds result rest) refl
 
-  called_by_enters : (line : ℕ) (is_entry : Bool) (routine component : ℕ) (arguments : List Argument) (bounds : List Bound) (result : Option ℕ) (rest : List Entry) → IsCalled os routine → Enters (called_by r m pid line is_entry routine component arguments bounds result rest)
-  called_by_enters line false routine component arguments bounds result rest h = never (called_by r m pid line false routine component arguments bounds result rest) refl
+  called_by_enters : (line : ℕ) (is_entry : Bool) (routine component : ℕ) (arguments : List Argument) (bounds : List Bound) (result : Option ℕ) (rest : List Entry) → IsCalled os routine → Enters (call_by r m pid line is_entry routine component arguments bounds result rest)
+  called_by_enters line false routine component arguments bounds result rest h = never (call_by r m pid line false routine component arguments bounds result rest) refl
   called_by_enters line true routine component arguments bounds result rest h = either (is_initialised (phase_at m component)) _ _ (called_enters (component_at r component).kind routine component arguments bounds result rest h) (never (fault m pid line NotInit) refl)
 
   -- ---- what else is no entry
@@ -125,12 +125,12 @@ module _ (r : Tables) (os : List Opening) (m : Machine) (pid : ℕ) (there : pid
   either_other true x y h k = h
   either_other false x y h k = k
 
-  started_other : (line : ℕ) (k : ComponentKind) (routine component : ℕ) (arguments : List Argument) (bounds : List Bound) (rest : List Entry) → IsOther (started r m pid line k routine component arguments bounds rest)
+  started_other : (line : ℕ) (k : ComponentKind) (routine component : ℕ) (arguments : List Argument) (bounds : List Bound) (rest : List Entry) → IsOther (start_by r m pid line k routine component arguments bounds rest)
   started_other line (kind.Process p) routine component arguments bounds rest = either_other (is_unstarted (thread_at m.threads p).status) _ _ refl refl
   started_other line (kind.Monitor monitor) routine component arguments bounds rest = either_other (is_uninitialised (phase_at m component)) _ _ refl refl
   started_other line kind.Class routine component arguments bounds rest = either_other (is_uninitialised (phase_at m component)) _ _ refl refl
 
-  delayed_other : (line cell : ℕ) (k : ComponentKind) (rest : List Entry) → IsOther (delayed_in m pid line cell k rest)
+  delayed_other : (line cell : ℕ) (k : ComponentKind) (rest : List Entry) → IsOther (delay_in m pid line cell k rest)
   delayed_other line cell (kind.Monitor monitor) rest = either_other (is_true (slice_index_or m.permanents cell (pos 0))) _ _ refl refl
   delayed_other line cell kind.Class rest = refl
   delayed_other line cell (kind.Process number) rest = refl
@@ -139,7 +139,7 @@ module _ (r : Tables) (os : List Opening) (m : Machine) (pid : ℕ) (there : pid
   delay_other line rest (address.Permanent cell) = delayed_other line cell (component_at r (thread_at m.threads pid).frame.component).kind rest
   delay_other line rest (address.Local cell) = refl
 
-  continued_other : (n : Machine) (cell : ℕ) (es : List Entry) → IsOther (continued_from r n pid cell es)
+  continued_other : (n : Machine) (cell : ℕ) (es : List Entry) → IsOther (continue_from r n pid cell es)
   continued_other n cell (Return caller result (Some monitor) ∷ es) = refl
   continued_other n cell (Return caller result None ∷ es) = refl
   continued_other n cell [] = refl
@@ -147,7 +147,7 @@ module _ (r : Tables) (os : List Opening) (m : Machine) (pid : ℕ) (there : pid
   continued_other n cell (Successor at z last ∷ es) = refl
   continued_other n cell (InitEnd caller component ∷ es) = refl
 
-  in_place_other : (cell : ℕ) (k : ComponentKind) (rest : List Entry) → IsOther (continued_in m pid cell k rest)
+  in_place_other : (cell : ℕ) (k : ComponentKind) (rest : List Entry) → IsOther (continue_in m pid cell k rest)
   in_place_other cell (kind.Monitor monitor) rest = refl
   in_place_other cell kind.Class rest = refl
   in_place_other cell (kind.Process number) rest = refl
@@ -166,11 +166,11 @@ module _ (r : Tables) (os : List Opening) (m : Machine) (pid : ℕ) (there : pid
   act_other at item (Assign target value low high) es plain =
       (evaluated_other (value_of m pid value) _ _ (λ e. refl) (λ v.
       evaluated_other (address_of m pid target) _ _ (λ e. refl) (λ p.
-      evaluated_other (ranged low high v) _ _ (λ e. refl) (λ w. refl))))
+      evaluated_other (check_range low high v) _ _ (λ e. refl) (λ w. refl))))
   act_other at item (AssignSet target value low high) es plain =
       (evaluated_other (set_of m pid value) _ _ (λ e. refl) (λ v.
       evaluated_other (address_of m pid target) _ _ (λ e. refl) (λ p.
-      evaluated_other (sets.ranged low high v) _ _ (λ e. refl) (λ w. refl))))
+      evaluated_other (sets.check_members low high v) _ _ (λ e. refl) (λ w. refl))))
   act_other at item (Copy target source size) es plain =
       (evaluated_other (address_of m pid source) _ _ (λ e. refl) (λ from.
       evaluated_other (address_of m pid target) _ _ (λ e. refl) (λ to. refl)))
@@ -186,7 +186,7 @@ module _ (r : Tables) (os : List Opening) (m : Machine) (pid : ℕ) (there : pid
       (evaluated_other (value_of m pid first) _ _ (λ e. refl) (λ x.
       evaluated_other (value_of m pid last) _ _ (λ e. refl) (λ y.
       either_other (is_beyond down x y) _ _ refl
-      (evaluated_other (ranged low high x) _ _ (λ e. refl) (λ z. refl)))))
+      (evaluated_other (check_range low high x) _ _ (λ e. refl) (λ z. refl)))))
   act_other at item (Cycle list) es plain = refl
   act_other at item (Call routine component is_entry arguments result) es plain = absurd (cc)
   act_other at item (Start component routine arguments) es plain =
@@ -196,7 +196,7 @@ module _ (r : Tables) (os : List Opening) (m : Machine) (pid : ℕ) (there : pid
   act_other at item (Display value shown) es plain = (evaluated_other (value_of m pid value) _ _ (λ e. refl) (λ v. either_other (length m.output == MOST_SHOWN) _ _ refl refl))
   act_other at item (Continue place) es plain = evaluated_other (address_of m pid place) _ _ (λ e. refl) (λ p. continue_other item.next es p)
 
-  successor_other : (at : ℕ) (item : Item) (a : Action) (es : List Entry) (z last : ℤ) → IsOther (succeeded m pid at item a es z last)
+  successor_other : (at : ℕ) (item : Item) (a : Action) (es : List Entry) (z last : ℤ) → IsOther (successor_step m pid at item a es z last)
   successor_other at item (For variable low high first end down list) es z last =
       either_other (int_eq z last) _ _ refl
       (evaluated_other (next_value down low high z) _ _ (λ e. refl) (λ w. refl))

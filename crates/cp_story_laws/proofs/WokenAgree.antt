@@ -25,7 +25,7 @@ use Rattle.cp_machine.specs.declared.process.Status as slot_status
 use Rattle.cp_machine.specs.declared.process.Status.TheVariants as status
 use Rattle.cp_machine.specs.declared.discipline.Signals.{Signals}
 use Rattle.cp_machine.specs.declared.discipline.Signals.TheVariants as signals
-use Rattle.cp_machine.specs.Calls.{continue_at, continue_by, continued_from, continued_in}
+use Rattle.cp_machine.specs.Calls.{continue_at, continue_by, continue_from, continue_in}
 use Rattle.cp_machine.specs.Fits.{LinesFit}
 use Rattle.cp_machine.specs.Machine.{Machine, Thread, is_delayed_at, is_ready, no_thread, thread_at, with_stack}
 use Rattle.cp_machine.specs.Memory.{address_of}
@@ -54,7 +54,7 @@ abbrev Continues : Stepped → Type 0
 Continues x = is_told x.event ≡ true → x.event ≡ Kernel kernel.Continue
 
 module _ (r : Tables) (m : Machine) (pid w : ℕ) where
-  from_end_continues : (n : Machine) (cell : ℕ) (es : List Entry) → Continues (continued_from r n pid cell es)
+  from_end_continues : (n : Machine) (cell : ℕ) (es : List Entry) → Continues (continue_from r n pid cell es)
   from_end_continues n cell (Return caller result (Some monitor) ∷ es) = λ e. refl
   from_end_continues n cell [] = λ e. absurd (cc)
   from_end_continues n cell (Rest at ∷ es) = λ e. absurd (cc)
@@ -62,7 +62,7 @@ module _ (r : Tables) (m : Machine) (pid w : ℕ) where
   from_end_continues n cell (InitEnd caller component ∷ es) = λ e. absurd (cc)
   from_end_continues n cell (Return caller result None ∷ es) = λ e. absurd (cc)
 
-  in_place_continues : (cell : ℕ) (k : ComponentKind) (rest : List Entry) → Continues (continued_in m pid cell k rest)
+  in_place_continues : (cell : ℕ) (k : ComponentKind) (rest : List Entry) → Continues (continue_in m pid cell k rest)
   in_place_continues cell (kind.Monitor monitor) rest = λ e. refl
   in_place_continues cell kind.Class rest = λ e. absurd (cc)
   in_place_continues cell (kind.Process number) rest = λ e. absurd (cc)

@@ -87,7 +87,7 @@ module _ (t : Tree) (read : IsRead t.program) (ok : IsAccepted t) (n : ℕ) wher
   silent_annotation : (e : Expression) (r : Use) → IsSmallExpression e → statements.assertion s w e ≡ Ok r → expression_calls own.scope e ≡ []
   unfolding statements.assertion
   silent_annotation e r small is =
-      let k : Then (expression s (quiet w) false e) (λ (o : Operand). statements.tested (expression_at e) o o.uses) r = then_of (expression s (quiet w) false e) (λ (o : Operand). statements.tested (expression_at e) o o.uses) r is in
+      let k : Then (expression s (quiet w) false e) (λ (o : Operand). statements.check_test (expression_at e) o o.uses) r = then_of (expression s (quiet w) false e) (λ (o : Operand). statements.check_test (expression_at e) o o.uses) r is in
       expression_silent s (quiet w) refl tokens h agrees e small k.value k.is
 
   silent_one : (x : Statement) → IsSound s w x → IsSilent own.scope x

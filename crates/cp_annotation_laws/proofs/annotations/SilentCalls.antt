@@ -77,11 +77,11 @@ module _ (s : Scopes) (w : Context) (quiet : w.is_quiet ≡ true) where
       go : (v : Option ValueType) → calls.function_of s w at name_at b n os u v ≡ Ok p → A
       go None i = absurd (cc)
       go (Some v) i =
-          let t : Then (calls.called s w at name_at b n os u) (calls.with_result at v) p = then_of (calls.called s w at name_at b n os u) (calls.with_result at v) p i in
+          let t : Then (calls.check_routine_call s w at name_at b n os u) (calls.with_result at v) p = then_of (calls.check_routine_call s w at name_at b n os u) (calls.with_result at v) p i in
           never_called b n os u t.value (called_ok s w true at name_at b n os u t.value t.is)
 
   module _ (tokens : Tokens) (h : Here) (agrees : ScopesAgree tokens s h) where
-    name_uncalled : (at : ℕ) (i : Identifier) (ss : Selectors) (d : check_designated.DesignatedName) (n : Named) (os : List Operand) (o : Option Designated) (p : Operand) → NamedIs tokens s h i.name (find i.name h.scope) (last_field ss) n o → calls.value_named s w at d os n ≡ Ok p →
+    name_uncalled : (at : ℕ) (i : Identifier) (ss : Selectors) (d : check_designated.DesignatedName) (n : Named) (os : List Operand) (o : Option Designated) (p : Operand) → NamedIs tokens s h i.name (find i.name h.scope) (last_field ss) n o → calls.value_by_name s w at d os n ≡ Ok p →
         is_call_meant (find i.name h.scope) (last_field ss) ≡ false
     name_uncalled at i ss d (Constant b) os o p k is = constant_uncalled tokens b k.0 (find i.name h.scope) (last_field ss) k.1
     name_uncalled at i ss d (Variable v) os o p k is = (held_value tokens s h w (find i.name h.scope) (last_field ss) v o k).call
@@ -103,22 +103,22 @@ module _ (s : Scopes) (w : Context) (quiet : w.is_quiet ≡ true) where
       pub expression_silent : (e : Expression) → IsSmallExpression e → (p : Operand) → expression s w false e ≡ Ok p → expression_calls h.scope e ≡ []
       expression_silent (alone at a) m p is = sum_silent a m p is
       expression_silent (related at a r b) m p is =
-          let t : Then (both (sum_value s w false a) (sum_value s w false b)) (operations.related at r) p = then_of (both (sum_value s w false a) (sum_value s w false b)) (operations.related at r) p is in
+          let t : Then (both (sum_value s w false a) (sum_value s w false b)) (operations.relation_value at r) p = then_of (both (sum_value s w false a) (sum_value s w false b)) (operations.relation_value at r) p is in
           let q = both_of (sum_value s w false a) (sum_value s w false b) t.value t.is in
           no_items (sum_calls h.scope a) (sum_calls h.scope b) (sum_silent a m.0 t.value.0 q.first) (sum_silent b m.1 t.value.1 q.second)
 
       sum_silent : (a : Sum) → IsSmallSum a → (p : Operand) → sum_value s w false a ≡ Ok p → sum_calls h.scope a ≡ []
       sum_silent (sum at o t ts) m p is =
-          let all : more_terms s w at (term_value s w false t >>= expressions.signed at o) ts ≡ Ok (Some p) = agreed_some at (more_terms s w at (term_value s w false t >>= expressions.signed at o) ts) p is in
-          let rest = terms_silent at ts m.1 (term_value s w false t >>= expressions.signed at o) (Some p) all in
-          let one : Then (term_value s w false t) (expressions.signed at o) rest.value = then_of (term_value s w false t) (expressions.signed at o) rest.value rest.is in
+          let all : more_terms s w at (term_value s w false t >>= expressions.first_term at o) ts ≡ Ok (Some p) = agreed_some at (more_terms s w at (term_value s w false t >>= expressions.first_term at o) ts) p is in
+          let rest = terms_silent at ts m.1 (term_value s w false t >>= expressions.first_term at o) (Some p) all in
+          let one : Then (term_value s w false t) (expressions.first_term at o) rest.value = then_of (term_value s w false t) (expressions.first_term at o) rest.value rest.is in
           no_items (term_calls h.scope t) (terms_calls h.scope ts) (term_silent t m.0 one.value one.is) rest.none
 
       terms_silent : (at : ℕ) (ts : Terms) → AreSmallTerms ts → (j : Judged (Option Operand)) (r : Option Operand) → more_terms s w at j ts ≡ Ok r → Before j (terms_calls h.scope ts)
       terms_silent at no_terms m j r is = record { value = r; is = is; none = refl }
       terms_silent at (terms_more a t ts) m j r is =
-          let rest = terms_silent at ts m.1 (both j (term_value s w false t) >>= expressions.added at a) r is in
-          let k : Then (both j (term_value s w false t)) (expressions.added at a) rest.value = then_of (both j (term_value s w false t)) (expressions.added at a) rest.value rest.is in
+          let rest = terms_silent at ts m.1 (both j (term_value s w false t) >>= expressions.sum_so_far at a) r is in
+          let k : Then (both j (term_value s w false t)) (expressions.sum_so_far at a) rest.value = then_of (both j (term_value s w false t)) (expressions.sum_so_far at a) rest.value rest.is in
           let q = both_of j (term_value s w false t) k.value k.is in
           record { value = k.value.0; is = q.first; none = no_items (term_calls h.scope t) (terms_calls h.scope ts) (term_silent t m.0 k.value.1 q.second) rest.none }
 
@@ -132,8 +132,8 @@ module _ (s : Scopes) (w : Context) (quiet : w.is_quiet ≡ true) where
       factors_silent : (at : ℕ) (fs : Factors) → AreSmallFactors fs → (j : Judged (Option Operand)) (r : Option Operand) → more_factors s w at j fs ≡ Ok r → Before j (factors_calls h.scope fs)
       factors_silent at no_factors m j r is = record { value = r; is = is; none = refl }
       factors_silent at (factors_more o g fs) m j r is =
-          let rest = factors_silent at fs m.1 (both j (factor s w false g) >>= expressions.multiplied at o) r is in
-          let k : Then (both j (factor s w false g)) (expressions.multiplied at o) rest.value = then_of (both j (factor s w false g)) (expressions.multiplied at o) rest.value rest.is in
+          let rest = factors_silent at fs m.1 (both j (factor s w false g) >>= expressions.product_so_far at o) r is in
+          let k : Then (both j (factor s w false g)) (expressions.product_so_far at o) rest.value = then_of (both j (factor s w false g)) (expressions.product_so_far at o) rest.value rest.is in
           let q = both_of j (factor s w false g) k.value k.is in
           record { value = k.value.0; is = q.first; none = no_items (factor_calls h.scope g) (factors_calls h.scope fs) (factor_silent g m.0 k.value.1 q.second) rest.none }
 
@@ -142,8 +142,8 @@ module _ (s : Scopes) (w : Context) (quiet : w.is_quiet ≡ true) where
           let d : Designator = name_with i ss in
           let call : Bool = is_call_meant (find i.name h.scope) (last_field ss) in
           let k : NameParts s w d es at p = name_parts s w false d es at p (name_only false es p (never p)) is in
-          let t : Then (selectors s w (names.begun s i) ss) (names.known i.at) k.value = then_of (selectors s w (names.begun s i) ss) (names.known i.at) k.value k.is in
-          let x = selectors_silent ss m.0 (names.begun s i) t.value t.is in
+          let t : Then (selectors s w (names.meaning_of_name s i) ss) (names.check_selectors i.at) k.value = then_of (selectors s w (names.meaning_of_name s i) ss) (names.check_selectors i.at) k.value k.is in
+          let x = selectors_silent ss m.0 (names.meaning_of_name s i) t.value t.is in
           let y = arguments_silent 0 es m.1 k.operands k.arguments in
           let typed = designator_named tokens s h w agrees i ss k.value m.0 k.is in
           let z = name_uncalled at i ss k.value k.value.named k.operands (designator_form h d) p typed k.rest in
@@ -152,10 +152,10 @@ module _ (s : Scopes) (w : Context) (quiet : w.is_quiet ≡ true) where
           let t : Then (expression s w false e) (expressions.to_group at) p = then_of (expression s w false e) (expressions.to_group at) p is in
           expression_silent e m t.value t.is
       factor_silent (negated at g) m p is =
-          let t : Then (factor s w false g) (operations.negated at) p = then_of (factor s w false g) (operations.negated at) p is in
+          let t : Then (factor s w false g) (operations.negation_of at) p = then_of (factor s w false g) (operations.negation_of at) p is in
           factor_silent g m t.value t.is
       factor_silent (set_of at es) m p is =
-          let t : Then (arguments s w [] 0 es) (expressions.constructed at) p = then_of (arguments s w [] 0 es) (expressions.constructed at) p is in
+          let t : Then (arguments s w [] 0 es) (expressions.set_value at) p = then_of (arguments s w [] 0 es) (expressions.set_value at) p is in
           arguments_silent 0 es m t.value t.is
       factor_silent (number at n) m p is = refl
       factor_silent (character at c) m p is = refl
@@ -170,8 +170,8 @@ module _ (s : Scopes) (w : Context) (quiet : w.is_quiet ≡ true) where
       selectors_silent : (ss : Selectors) → AreSmallSelectors ss → (j : Judged check_designated.DesignatedName) (d : check_designated.DesignatedName) → selectors s w j ss ≡ Ok d → Before j (selectors_calls h.scope ss)
       selectors_silent no_selectors m j d is = record { value = d; is = is; none = refl }
       selectors_silent (more_selectors (field i) ss) m j d is =
-          let r = selectors_silent ss m.1 (j >>= names.selected s i) d is in
-          let t : Then j (names.selected s i) r.value = then_of j (names.selected s i) r.value r.is in
+          let r = selectors_silent ss m.1 (j >>= names.member_of s i) d is in
+          let t : Then j (names.member_of s i) r.value = then_of j (names.member_of s i) r.value r.is in
           record { value = t.value; is = t.is; none = r.none }
       selectors_silent (more_selectors (index e) ss) m j d is =
           let r = selectors_silent ss m.1 (both j (expression s w false e) >>= expressions.at_index s) d is in

@@ -161,13 +161,13 @@ module _ (tokens : Tokens) (s : Scopes) (h : Here) (w : Context) (f : Bool) (agr
   unless_never (y ∷ fs) x never = tt
 
   function_never : (P : Type 0) (at name_at : ℕ) (b : Bool) (n : ℕ) (os : List Operand) (u : Use) (o : Option ValueType) → All (λ (x : Operand). P) (calls.function_of s (quiet w) at name_at b n os u o)
-  unfolding calls.called
+  unfolding calls.check_routine_call
   function_never P at name_at b n os u None = tt
   function_never P at name_at b n os u (Some t) =
-      all_then (λ (v : Use). ⊥) (λ (x : Operand). P) (calls.called s (quiet w) at name_at b n os u) (calls.with_result at t) (unless_never (calls.call_faults s (quiet w) at name_at b n os) _ (never_quiet at name_at b n os)) (λ v k. absurd k)
+      all_then (λ (v : Use). ⊥) (λ (x : Operand). P) (calls.check_routine_call s (quiet w) at name_at b n os u) (calls.with_result at t) (unless_never (calls.call_faults s (quiet w) at name_at b n os) _ (never_quiet at name_at b n os)) (λ v k. absurd k)
 
   -- what is called is a routine, so it breaks a rule there
-  value_never : (P : Type 0) (at : ℕ) (d : DesignatedName) (os : List Operand) (m : Named) (i : _) (q : Option scopes.Meaning) (x : _) (o : Option Designated) → NamedIs tokens s h i q x m o → is_call_meant q x ≡ true → All (λ (y : Operand). P) (calls.value_named s (quiet w) at d os m)
+  value_never : (P : Type 0) (at : ℕ) (d : DesignatedName) (os : List Operand) (m : Named) (i : _) (q : Option scopes.Meaning) (x : _) (o : Option Designated) → NamedIs tokens s h i q x m o → is_call_meant q x ≡ true → All (λ (y : Operand). P) (calls.value_by_name s (quiet w) at d os m)
   unfolding calls.function_value
   value_never P at d os (name.Constant b) i q x o k is = called_not (is_call_meant q x) is (constant_uncalled tokens b k.0 q x k.1)
   value_never P at d os (name.Variable u) i q x o k is = (let z : IsValue tokens s h w q x = held_value tokens s h w q x u o k in called_not (is_call_meant q x) is z.call)
@@ -189,20 +189,20 @@ module _ (tokens : Tokens) (s : Scopes) (h : Here) (w : Context) (f : Bool) (agr
   selectors_follow : (ss : Selectors) (j k : Judged DesignatedName) → Follows j k → Follows (expressions.selectors s (quiet w) j ss) (expressions.selectors s w k ss)
   unfolding expressions.expression
   selectors_follow no_selectors j k fl = fl
-  selectors_follow (more_selectors (field i) ss) j k fl = selectors_follow ss (j >>= names.selected s i) (k >>= names.selected s i) (follow_then j k (names.selected s i) fl)
+  selectors_follow (more_selectors (field i) ss) j k fl = selectors_follow ss (j >>= names.member_of s i) (k >>= names.member_of s i) (follow_then j k (names.member_of s i) fl)
   selectors_follow (more_selectors (index e) ss) j k fl =
       selectors_follow ss (both j (expressions.expression s (quiet w) false e) >>= expressions.at_index s) (both k (expressions.expression s w false e) >>= expressions.at_index s)
       (follow_then (both j (expressions.expression s (quiet w) false e)) (both k (expressions.expression s w false e)) (expressions.at_index s) (follow_both j k (expressions.expression s (quiet w) false e) (expressions.expression s w false e) fl (expression_follows s w false e)))
 
   designator_follows : (d : Designator) → Follows (expressions.designator s (quiet w) d) (expressions.designator s w d)
   unfolding expressions.expression
-  designator_follows (name_with n ss) = follow_then (expressions.selectors s (quiet w) (names.begun s n) ss) (expressions.selectors s w (names.begun s n) ss) (names.known n.at) (selectors_follow ss (names.begun s n) (names.begun s n) (λ a e. e))
+  designator_follows (name_with n ss) = follow_then (expressions.selectors s (quiet w) (names.meaning_of_name s n) ss) (expressions.selectors s w (names.meaning_of_name s n) ss) (names.check_selectors n.at) (selectors_follow ss (names.meaning_of_name s n) (names.meaning_of_name s n) (λ a e. e))
 
   -- ---- nothing is called
 
   value_none : (at : ℕ) (d : Designator) (es : Expressions) (P : Type 0) → (b : Bool) → is_call c d ≡ b → Said (own_call b at d es) → (x : DesignatedName) (os : List Operand) → expressions.designator s w d ≡ Ok x → P → All (λ (o : Operand). P × (own_call b at d es ≡ [])) (calls.value_of s (quiet w) at (x, os))
   unfolding calls.value_of
-  value_none at d es P false is k x os e z = always (P × (none_there ≡ [])) (calls.value_named s (quiet w) at x os x.named) (z, refl)
+  value_none at d es P false is k x os e z = always (P × (none_there ≡ [])) (calls.value_by_name s (quiet w) at x os x.named) (z, refl)
   value_none at (name_with i ss) es P true is k x os e z =
       let y : FunctionSaid s w f c (name_with i ss) = k.0 in
       value_never (P × (function_call at (name_with i ss) es ∷ [] ≡ [])) at x os x.named i.name (scopes.find i.name c) (last_field ss) (designator_form h (name_with i ss)) (designator_named tokens s h w agrees i ss x y.small e) is
@@ -213,41 +213,41 @@ module _ (tokens : Tokens) (s : Scopes) (h : Here) (w : Context) (f : Bool) (agr
     expression_none : (e : Expression) → Said (expression_calls c e) → All (λ (o : Operand). expression_calls c e ≡ []) (expressions.expression s (quiet w) false e)
     expression_none (alone at a) k = sum_none a k
     expression_none (related at a r b) k =
-        all_then (λ (x : Operand × Operand). (sum_calls c a ≡ []) × (sum_calls c b ≡ [])) (λ (o : Operand). sum_calls c a ++ sum_calls c b ≡ []) (both (expressions.sum_value s (quiet w) false a) (expressions.sum_value s (quiet w) false b)) (operations.related at r)
+        all_then (λ (x : Operand × Operand). (sum_calls c a ≡ []) × (sum_calls c b ≡ [])) (λ (o : Operand). sum_calls c a ++ sum_calls c b ≡ []) (both (expressions.sum_value s (quiet w) false a) (expressions.sum_value s (quiet w) false b)) (operations.relation_value at r)
         (all_both (λ (o : Operand). sum_calls c a ≡ []) (λ (o : Operand). sum_calls c b ≡ []) _ _ (sum_none a (said_left (sum_calls c a) (sum_calls c b) k)) (sum_none b (said_right (sum_calls c a) (sum_calls c b) k)))
-        (λ x z. always (sum_calls c a ++ sum_calls c b ≡ []) (operations.related at r x) (both_none (sum_calls c a) (sum_calls c b) z.0 z.1))
+        (λ x z. always (sum_calls c a ++ sum_calls c b ≡ []) (operations.relation_value at r x) (both_none (sum_calls c a) (sum_calls c b) z.0 z.1))
 
     sum_none : (a : Sum) → Said (sum_calls c a) → All (λ (o : Operand). sum_calls c a ≡ []) (expressions.sum_value s (quiet w) false a)
     sum_none (sum at sign t ts) k =
-        all_then (λ (o : Option Operand). (term_calls c t ≡ []) × (terms_calls c ts ≡ [])) (λ (o : Operand). term_calls c t ++ terms_calls c ts ≡ []) _ (operations.agreed at)
+        all_then (λ (o : Option Operand). (term_calls c t ≡ []) × (terms_calls c ts ≡ [])) (λ (o : Operand). term_calls c t ++ terms_calls c ts ≡ []) _ (operations.check_agreement at)
         (terms_none at ts _ (term_calls c t)
-        (all_then (λ (o : Operand). term_calls c t ≡ []) (λ (o : Option Operand). term_calls c t ≡ []) _ (expressions.signed at sign) (term_none t (said_left (term_calls c t) (terms_calls c ts) k)) (λ o z. z))
+        (all_then (λ (o : Operand). term_calls c t ≡ []) (λ (o : Option Operand). term_calls c t ≡ []) _ (expressions.first_term at sign) (term_none t (said_left (term_calls c t) (terms_calls c ts) k)) (λ o z. z))
         (said_right (term_calls c t) (terms_calls c ts) k))
-        (λ o z. always (term_calls c t ++ terms_calls c ts ≡ []) (operations.agreed at o) (both_none (term_calls c t) (terms_calls c ts) z.0 z.1))
+        (λ o z. always (term_calls c t ++ terms_calls c ts ≡ []) (operations.check_agreement at o) (both_none (term_calls c t) (terms_calls c ts) z.0 z.1))
 
     terms_none : (at : ℕ) (ts : Terms) (j : Judged (Option Operand)) (xs : List Item) → All (λ (o : Option Operand). xs ≡ []) j → Said (terms_calls c ts) → All (λ (o : Option Operand). (xs ≡ []) × (terms_calls c ts ≡ [])) (expressions.more_terms s (quiet w) at j ts)
     terms_none at no_terms j xs z k = all_as (λ (o : Option Operand). xs ≡ []) (λ (o : Option Operand). (xs ≡ []) × (none_there ≡ [])) j z (λ o x. (x, refl))
     terms_none at (terms_more a t ts) j xs z k =
         all_as (λ (o : Option Operand). (xs ++ term_calls c t ≡ []) × (terms_calls c ts ≡ [])) (λ (o : Option Operand). (xs ≡ []) × (term_calls c t ++ terms_calls c ts ≡ [])) _
         (terms_none at ts _ (xs ++ term_calls c t)
-        (all_then (λ (x : Option Operand × Operand). (xs ≡ []) × (term_calls c t ≡ [])) (λ (o : Option Operand). xs ++ term_calls c t ≡ []) _ (expressions.added at a) (all_both (λ (o : Option Operand). xs ≡ []) (λ (o : Operand). term_calls c t ≡ []) j _ z (term_none t (said_left (term_calls c t) (terms_calls c ts) k))) (λ x y. both_none xs (term_calls c t) y.0 y.1))
+        (all_then (λ (x : Option Operand × Operand). (xs ≡ []) × (term_calls c t ≡ [])) (λ (o : Option Operand). xs ++ term_calls c t ≡ []) _ (expressions.sum_so_far at a) (all_both (λ (o : Option Operand). xs ≡ []) (λ (o : Operand). term_calls c t ≡ []) j _ z (term_none t (said_left (term_calls c t) (terms_calls c ts) k))) (λ x y. both_none xs (term_calls c t) y.0 y.1))
         (said_right (term_calls c t) (terms_calls c ts) k))
         (λ o x. (left_none xs (term_calls c t) x.0, both_none (term_calls c t) (terms_calls c ts) (right_none xs (term_calls c t) x.0) x.1))
 
     term_none : (t : Term) → Said (term_calls c t) → All (λ (o : Operand). term_calls c t ≡ []) (expressions.term_value s (quiet w) false t)
     term_none (term at x fs) k =
-        all_then (λ (o : Option Operand). (factor_calls c x ≡ []) × (factors_calls c fs ≡ [])) (λ (o : Operand). factor_calls c x ++ factors_calls c fs ≡ []) _ (operations.agreed at)
+        all_then (λ (o : Option Operand). (factor_calls c x ≡ []) × (factors_calls c fs ≡ [])) (λ (o : Operand). factor_calls c x ++ factors_calls c fs ≡ []) _ (operations.check_agreement at)
         (factors_none at fs _ (factor_calls c x)
         (all_then (λ (o : Operand). factor_calls c x ≡ []) (λ (o : Option Operand). factor_calls c x ≡ []) _ expressions.some_operand (factor_none x (said_left (factor_calls c x) (factors_calls c fs) k)) (λ o z. z))
         (said_right (factor_calls c x) (factors_calls c fs) k))
-        (λ o z. always (factor_calls c x ++ factors_calls c fs ≡ []) (operations.agreed at o) (both_none (factor_calls c x) (factors_calls c fs) z.0 z.1))
+        (λ o z. always (factor_calls c x ++ factors_calls c fs ≡ []) (operations.check_agreement at o) (both_none (factor_calls c x) (factors_calls c fs) z.0 z.1))
 
     factors_none : (at : ℕ) (fs : Factors) (j : Judged (Option Operand)) (xs : List Item) → All (λ (o : Option Operand). xs ≡ []) j → Said (factors_calls c fs) → All (λ (o : Option Operand). (xs ≡ []) × (factors_calls c fs ≡ [])) (expressions.more_factors s (quiet w) at j fs)
     factors_none at no_factors j xs z k = all_as (λ (o : Option Operand). xs ≡ []) (λ (o : Option Operand). (xs ≡ []) × (none_there ≡ [])) j z (λ o x. (x, refl))
     factors_none at (factors_more m x fs) j xs z k =
         all_as (λ (o : Option Operand). (xs ++ factor_calls c x ≡ []) × (factors_calls c fs ≡ [])) (λ (o : Option Operand). (xs ≡ []) × (factor_calls c x ++ factors_calls c fs ≡ [])) _
         (factors_none at fs _ (xs ++ factor_calls c x)
-        (all_then (λ (y : Option Operand × Operand). (xs ≡ []) × (factor_calls c x ≡ [])) (λ (o : Option Operand). xs ++ factor_calls c x ≡ []) _ (expressions.multiplied at m) (all_both (λ (o : Option Operand). xs ≡ []) (λ (o : Operand). factor_calls c x ≡ []) j _ z (factor_none x (said_left (factor_calls c x) (factors_calls c fs) k))) (λ y u. both_none xs (factor_calls c x) u.0 u.1))
+        (all_then (λ (y : Option Operand × Operand). (xs ≡ []) × (factor_calls c x ≡ [])) (λ (o : Option Operand). xs ++ factor_calls c x ≡ []) _ (expressions.product_so_far at m) (all_both (λ (o : Option Operand). xs ≡ []) (λ (o : Operand). factor_calls c x ≡ []) j _ z (factor_none x (said_left (factor_calls c x) (factors_calls c fs) k))) (λ y u. both_none xs (factor_calls c x) u.0 u.1))
         (said_right (factor_calls c x) (factors_calls c fs) k))
         (λ o y. (left_none xs (factor_calls c x) y.0, both_none (factor_calls c x) (factors_calls c fs) (right_none xs (factor_calls c x) y.0) y.1))
 
@@ -266,13 +266,13 @@ module _ (tokens : Tokens) (s : Scopes) (h : Here) (w : Context) (f : Bool) (agr
         (value_none at d es (before ≡ []) (is_call c d) refl (said_right before own k) x.0 x.1 z.0.1 (both_none (designator_calls c d) (expressions_calls c es) z.0.0 z.1))
         (λ o y. both_none before own y.0 y.1))
     factor_none (group at e) k = all_then (λ (o : Operand). expression_calls c e ≡ []) (λ (o : Operand). expression_calls c e ≡ []) _ (expressions.to_group at) (expression_none e k) (λ o z. z)
-    factor_none (negated at x) k = all_then (λ (o : Operand). factor_calls c x ≡ []) (λ (o : Operand). factor_calls c x ≡ []) _ (operations.negated at) (factor_none x k) (λ o z. always (factor_calls c x ≡ []) (operations.negated at o) z)
-    factor_none (set_of at es) k = all_then (λ (os : List Operand). expressions_calls c es ≡ []) (λ (o : Operand). expressions_calls c es ≡ []) _ (expressions.constructed at) (arguments_none 0 es k) (λ os z. always (expressions_calls c es ≡ []) (expressions.constructed at os) z)
+    factor_none (negated at x) k = all_then (λ (o : Operand). factor_calls c x ≡ []) (λ (o : Operand). factor_calls c x ≡ []) _ (operations.negation_of at) (factor_none x k) (λ o z. always (factor_calls c x ≡ []) (operations.negation_of at o) z)
+    factor_none (set_of at es) k = all_then (λ (os : List Operand). expressions_calls c es ≡ []) (λ (o : Operand). expressions_calls c es ≡ []) _ (expressions.set_value at) (arguments_none 0 es k) (λ os z. always (expressions_calls c es ≡ []) (expressions.set_value at os) z)
 
     designator_none : (d : Designator) → Said (designator_calls c d) → All (λ (x : DesignatedName). designator_calls c d ≡ []) (expressions.designator s (quiet w) d)
     designator_none (name_with n ss) k =
-        all_then (λ (x : DesignatedName). (none_there ≡ []) × (selectors_calls c ss ≡ [])) (λ (x : DesignatedName). selectors_calls c ss ≡ []) _ (names.known n.at) (selectors_none ss (names.begun s n) [] (always (none_there ≡ []) (names.begun s n) refl) k)
-        (λ x z. always (selectors_calls c ss ≡ []) (names.known n.at x) z.1)
+        all_then (λ (x : DesignatedName). (none_there ≡ []) × (selectors_calls c ss ≡ [])) (λ (x : DesignatedName). selectors_calls c ss ≡ []) _ (names.check_selectors n.at) (selectors_none ss (names.meaning_of_name s n) [] (always (none_there ≡ []) (names.meaning_of_name s n) refl) k)
+        (λ x z. always (selectors_calls c ss ≡ []) (names.check_selectors n.at x) z.1)
 
     selectors_none : (ss : Selectors) (j : Judged DesignatedName) (xs : List Item) → All (λ (x : DesignatedName). xs ≡ []) j → Said (selectors_calls c ss) → All (λ (x : DesignatedName). (xs ≡ []) × (selectors_calls c ss ≡ [])) (expressions.selectors s (quiet w) j ss)
     selectors_none no_selectors j xs z k = all_as (λ (x : DesignatedName). xs ≡ []) (λ (x : DesignatedName). (xs ≡ []) × (none_there ≡ [])) j z (λ x y. (y, refl))
@@ -282,7 +282,7 @@ module _ (tokens : Tokens) (s : Scopes) (h : Here) (w : Context) (f : Bool) (agr
         (λ y u. (left_none xs (selector_calls c x) u.0, both_none (selector_calls c x) (selectors_calls c ss) (right_none xs (selector_calls c x) u.0) u.1))
 
     selector_none : (x : Selector) (j : Judged DesignatedName) (xs : List Item) → All (λ (y : DesignatedName). xs ≡ []) j → Said (selector_calls c x) → All (λ (y : DesignatedName). xs ++ selector_calls c x ≡ []) (expressions.selector s (quiet w) j x)
-    selector_none (field i) j xs z k = all_then (λ (y : DesignatedName). xs ≡ []) (λ (y : DesignatedName). xs ++ [] ≡ []) j (names.selected s i) z (λ y u. always (xs ++ [] ≡ []) (names.selected s i y) (both_none xs [] u refl))
+    selector_none (field i) j xs z k = all_then (λ (y : DesignatedName). xs ≡ []) (λ (y : DesignatedName). xs ++ [] ≡ []) j (names.member_of s i) z (λ y u. always (xs ++ [] ≡ []) (names.member_of s i y) (both_none xs [] u refl))
     selector_none (index e) j xs z k =
         all_then (λ (y : DesignatedName × Operand). (xs ≡ []) × (expression_calls c e ≡ [])) (λ (y : DesignatedName). xs ++ expression_calls c e ≡ []) _ (expressions.at_index s) (all_both (λ (y : DesignatedName). xs ≡ []) (λ (o : Operand). expression_calls c e ≡ []) j _ z (expression_none e k)) (λ y u. both_none xs (expression_calls c e) u.0 u.1)
 
@@ -301,7 +301,7 @@ module _ (tokens : Tokens) (s : Scopes) (h : Here) (w : Context) (f : Bool) (agr
   said_quiet (asserted at a e t) i r is k =
       let x : Then (both (statements.assertion s w e) (statements.statement s w t)) statements.together r = then_of (both (statements.assertion s w e) (statements.statement s w t)) statements.together r is in
       let y : Both (statements.assertion s w e) (statements.statement s w t) x.value = both_of (statements.assertion s w e) (statements.statement s w t) x.value x.is in
-      let z = then_of (expressions.expression s (quiet w) false e) (λ (o : Operand). statements.tested (expression_at e) o o.uses) x.value.0 y.first in
+      let z = then_of (expressions.expression s (quiet w) false e) (λ (o : Operand). statements.check_test (expression_at e) o o.uses) x.value.0 y.first in
       (of_all (λ (o : Operand). expression_calls c e ≡ []) (expressions.expression s (quiet w) false e) z.value z.is (expression_none e k.0), said_quiet t i x.value.1 y.second k.1)
   said_quiet _ i r e k = absurd i
 

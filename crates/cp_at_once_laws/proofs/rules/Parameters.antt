@@ -13,12 +13,12 @@ use Rattle.cp_check.specs.declared.types.Holding.{Holding}
 use Rattle.cp_check.specs.declared.types.Holding.TheVariants as holds
 use Rattle.cp_check.specs.Types as typing
 use Rattle.cp_check.specs.Types.{Step, Typed}
-use Rattle.cp_check.specs.Declarations.{as_declared, to_kind, reserve_name, reserve_names, add_all}
+use Rattle.cp_check.specs.Declarations.{meaning_or_none, to_kind, reserve_name, reserve_names, add_all}
 use Rattle.cp_check.specs.Routines.{routine_steps}
 use Rattle.cp_check.specs.Statements.{statements}
 use Rattle.cp_check.specs.Systems as systems_of
 use Rattle.cp_check.specs.Systems.{inside, definition_step, definition_steps, program_part_step, program_part_steps}
-use Rattle.cp_check.specs.Faults.{declarations, program_context, opened, faults_of}
+use Rattle.cp_check.specs.Faults.{declarations, program_context, declarations_and_body, faults_of}
 use Rattle.cp_meaning.specs.Types as named
 use Rattle.cp_meaning.specs.Scopes as scopes
 use Rattle.cp_meaning.specs.Scopes.{seen_inside, predeclared}
@@ -60,27 +60,27 @@ module _ (p : Program) where
   no_process_of : (s : Scopes) (t : Ty) (v : ValueType) (h : Holding) → typing.holding s v ≡ h → (h ≡ holds.Component system_kind.Process → ⊥) → TypeIs (W (tokens_of p) s.shapes) t v → NoProcess t
   no_process_of s t v h e other i j is process = other (sym e ∙ process_held s t v i j is process)
 
-  component_none : (at : ℕ) (o k : SystemKind) (s : Scopes) (t : Ty) (v : ValueType) → typing.holding s v ≡ holds.Component k → TypeIs (W (tokens_of p) s.shapes) t v → Good (λ (u : ValueType). NoProcess t) (systems_of.component_admitted at o k v)
+  component_none : (at : ℕ) (o k : SystemKind) (s : Scopes) (t : Ty) (v : ValueType) → typing.holding s v ≡ holds.Component k → TypeIs (W (tokens_of p) s.shapes) t v → Good (λ (u : ValueType). NoProcess t) (systems_of.check_component_parameter at o k v)
   component_none at system_kind.Class system_kind.Class s t v e i = no_process_of s t v (holds.Component system_kind.Class) e (λ bad. cc) i
   component_none at system_kind.Class system_kind.Monitor s t v e i = no_process_of s t v (holds.Component system_kind.Monitor) e (λ bad. cc) i
   component_none at system_kind.Monitor system_kind.Monitor s t v e i = no_process_of s t v (holds.Component system_kind.Monitor) e (λ bad. cc) i
   component_none at system_kind.Process system_kind.Monitor s t v e i = no_process_of s t v (holds.Component system_kind.Monitor) e (λ bad. cc) i
   component_none at _ _ s t v e i = tt
 
-  admitted_none : (at : ℕ) (o : SystemKind) (s : Scopes) (t : Ty) (v : ValueType) (h : Holding) → typing.holding s v ≡ h → TypeIs (W (tokens_of p) s.shapes) t v → Good (λ (u : ValueType). NoProcess t) (systems_of.admitted at o h v)
+  admitted_none : (at : ℕ) (o : SystemKind) (s : Scopes) (t : Ty) (v : ValueType) (h : Holding) → typing.holding s v ≡ h → TypeIs (W (tokens_of p) s.shapes) t v → Good (λ (u : ValueType). NoProcess t) (systems_of.check_parameter_type at o h v)
   admitted_none at o s t v holds.Plain e i = no_process_of s t v holds.Plain e (λ bad. cc) i
   admitted_none at o s t v (holds.Component k) e i = component_none at o k s t v e i
   admitted_none at o s t v _ e i = tt
 
   -- the same keeps the type that it is
-  component_kept : (at : ℕ) (o k : SystemKind) (P : ValueType → Type 0) (v : ValueType) → P v → Good P (systems_of.component_admitted at o k v)
+  component_kept : (at : ℕ) (o k : SystemKind) (P : ValueType → Type 0) (v : ValueType) → P v → Good P (systems_of.check_component_parameter at o k v)
   component_kept at system_kind.Class system_kind.Class P v h = h
   component_kept at system_kind.Class system_kind.Monitor P v h = h
   component_kept at system_kind.Monitor system_kind.Monitor P v h = h
   component_kept at system_kind.Process system_kind.Monitor P v h = h
   component_kept at _ _ P v h = tt
 
-  admitted_kept : (at : ℕ) (o : SystemKind) (h : Holding) (P : ValueType → Type 0) (v : ValueType) → P v → Good P (systems_of.admitted at o h v)
+  admitted_kept : (at : ℕ) (o : SystemKind) (h : Holding) (P : ValueType → Type 0) (v : ValueType) → P v → Good P (systems_of.check_parameter_type at o h v)
   admitted_kept at o holds.Plain P v k = k
   admitted_kept at o (holds.Component j) P v k = component_kept at o j P v k
   admitted_kept at o _ P v k = tt
@@ -89,13 +89,13 @@ module _ (p : Program) where
   unfolding systems_of.parameter_type
   parameter_kind o s m g h =
       let K : ValueType → Type 0 = KindOf (tokens_of p) s.shapes (meant.type_named m g.type_name.name) in
-      good_then K K (typing.type_named s g.type_name.at g.type_name.name) (systems_of.admitted_in s g.type_name.at o) (type_named (tokens_of p) s m g.type_name.at g.type_name.name h) (λ v k. admitted_kept g.type_name.at o (typing.holding s v) K v k)
+      good_then K K (typing.type_named s g.type_name.at g.type_name.name) (systems_of.check_parameter_type_in s g.type_name.at o) (type_named (tokens_of p) s m g.type_name.at g.type_name.name h) (λ v k. admitted_kept g.type_name.at o (typing.holding s v) K v k)
 
   parameter_none : (o : SystemKind) (s : Scopes) (m : scopes.Scope) (g : Group) → IsKnown (tokens_of p) s m g.type_name.name (look g.type_name.name s) → Good (λ (u : ValueType). NoProcess (meant.type_named m g.type_name.name)) (systems_of.parameter_type o s g)
   unfolding systems_of.parameter_type
   parameter_none o s m g h =
       let t : Ty = meant.type_named m g.type_name.name in
-      good_then (KindOf (tokens_of p) s.shapes t) (λ (u : ValueType). NoProcess t) (typing.type_named s g.type_name.at g.type_name.name) (systems_of.admitted_in s g.type_name.at o) (type_named (tokens_of p) s m g.type_name.at g.type_name.name h)
+      good_then (KindOf (tokens_of p) s.shapes t) (λ (u : ValueType). NoProcess t) (typing.type_named s g.type_name.at g.type_name.name) (systems_of.check_parameter_type_in s g.type_name.at o) (type_named (tokens_of p) s m g.type_name.at g.type_name.name h)
       (λ v k. admitted_none g.type_name.at o s t v (typing.holding s v) refl k.belongs)
 
   -- ---- groups of parameters
@@ -128,7 +128,7 @@ module _ (p : Program) where
       let v = good_sound (KindOf (tokens_of p) a.shapes t) j (parameter_kind o a m g seen) sound in
       let w = good_sound (λ (u : ValueType). NoProcess t) j (parameter_none o a m g seen) sound in
       record {
-        step = subst (λ (i : Judged ValueType). StepResult (tokens_of p) p false None s (add_all a g.names (as_declared (i >>= systems_of.to_parameter))) (meant.with_names (meant.names_of g.names) (scopes.permanent_variable t) m) below ks) (sym v.is)
+        step = subst (λ (i : Judged ValueType). StepResult (tokens_of p) p false None s (add_all a g.names (meaning_or_none (i >>= systems_of.to_parameter))) (meant.with_names (meant.names_of g.names) (scopes.permanent_variable t) m) below ks) (sym v.is)
             (all_declared (tokens_of p) p false None s a g.names m below ks (meaning.Parameter v.value) (scopes.permanent_variable t) (pending_fresh a.inner g.names a.inner.pending r.reserved.pends r.reserved.all) r.reserved.others (λ i. absurd (cc))
             (λ u i n. new_parameter a.shapes u n t v.value i v.holds) r.outer (λ k d i. ap (shape_in k) r.shapes ∙ i) (appends_none s.inner.names a.inner.names r.reserved.names) r.agree);
         none = w.holds;
@@ -147,13 +147,13 @@ module _ (p : Program) where
 
   -- ---- a system type
 
-  system_none : (s : Scopes) (m below : scopes.Scope) (ks : List ℕ) (y : System) → faults (systems_of.system_typed s y).type ≡ [] → Agree (tokens_of p) p true None s m below (system_tokens y ks) → HasNoProcess p (system_in (seen_inside m) y).parameters
-  unfolding systems_of.system_typed systems_of.opened inside enter
+  system_none : (s : Scopes) (m below : scopes.Scope) (ks : List ℕ) (y : System) → faults (systems_of.system_type s y).type ≡ [] → Agree (tokens_of p) p true None s m below (system_tokens y ks) → HasNoProcess p (system_in (seen_inside m) y).parameters
+  unfolding systems_of.system_type systems_of.enter_system inside enter
   system_none s m below ks y e h =
       let a : Scopes = enter true s in
       let d : Step = inside a y in
       let j : Judged Use = statements d.scopes (systems_of.initial_context y.kind) (Ok no_use) y.body.statements in
-      let none : d.faults ≡ [] = none_before d.faults j (none_first (systems_of.opened a y).uses (systems_of.to_component y.kind y.at) e) in
+      let none : d.faults ≡ [] = none_before d.faults j (none_first (systems_of.enter_system a y).uses (systems_of.to_component y.kind y.at) e) in
       let b : Step = systems_of.group_steps y.kind a y.parameters in
       groups_none y.kind a (record { parameters = []; scope = seen_inside m }) (seen_inside m) (system_tokens y ks) y.parameters (none_left b.faults _ none) refl (entered_agrees (tokens_of p) p s m below (system_tokens y ks) h) tt
 
@@ -166,8 +166,8 @@ module _ (p : Program) where
   each_last [] m h g = (g, tt)
   each_last (x ∷ ms) m h g = (h.0, each_last ms m h.1 g)
 
-  defined_none : (a : Scopes) (d : Declared) (below : scopes.Scope) (ks : List ℕ) (n : SystemDefinition) (v : Definition) → Agree (tokens_of p) p true None a d.scope below (definition_tokens v ks) → faults (systems_of.defined a v).type ≡ [] → HaveNone d.systems → HaveNone (definition_in d n v).systems
-  unfolding systems_of.defined
+  defined_none : (a : Scopes) (d : Declared) (below : scopes.Scope) (ks : List ℕ) (n : SystemDefinition) (v : Definition) → Agree (tokens_of p) p true None a d.scope below (definition_tokens v ks) → faults (systems_of.type_of_definition a v).type ≡ [] → HaveNone d.systems → HaveNone (definition_in d n v).systems
+  unfolding systems_of.type_of_definition
   defined_none a d below ks n (type_definition t) h e all = all
   defined_none a d below ks n (system_definition y) h e all = each_last d.systems (system_in (seen_inside d.scope) y) all (system_none a d.scope below ks y e h)
 
@@ -177,7 +177,7 @@ module _ (p : Program) where
   definitions_none s d below ks [] e number small few empty h all = all
   definitions_none s d below ks (n ∷ ns) e number small few empty h all =
       let a : Scopes = (reserve_name s n.name).scopes in
-      let x : Typed = systems_of.defined a n.value in
+      let x : Typed = systems_of.type_of_definition a n.value in
       let t : Scopes = (definition_step s n).scopes in
       let js : List ℕ = all_tokens (λ (c : SystemDefinition). definition_tokens c.value) ns ks in
       let k : Declared = definition_in d n n.value in
@@ -211,9 +211,9 @@ module _ (p : Program) where
       (part_none s d below js q here number.0 small.0 first empty h all)
 
   systems_none : (t : Tree) → p ≡ t.program → faults_of t ≡ [] → AreNumberedParts (tokens_of p) p nothing_declared p.parts → IsSmallProgram p → Each (IsFew (tokens_of p)) (enumerations_of p) → AreDifferent (program_tokens p) → HaveNone (declared p).systems
-  unfolding faults_of opened declarations
+  unfolding faults_of declarations_and_body declarations
   systems_none t is e number small few different =
-      let none : faults (opened start p).uses ≡ [] = subst (λ (q : Program). faults (opened start q).uses ≡ []) (sym is) (uses_sound (tokens_of p) p t.program.period (opened start t.program).scopes (opened start t.program).uses e) in
+      let none : faults (declarations_and_body start p).uses ≡ [] = subst (λ (q : Program). faults (declarations_and_body start q).uses ≡ []) (sym is) (uses_sound (tokens_of p) p t.program.period (declarations_and_body start t.program).scopes (declarations_and_body start t.program).uses e) in
       let d : Step = declarations start p in
       let j : Judged Use = statements d.scopes program_context (Ok no_use) p.body.statements in
       let sound : d.faults ≡ [] = none_before d.faults j none in

@@ -5,7 +5,7 @@ use Rattle.cp_endless.proofs.Words.{◌==◌, Tables, Entry, Shown, MOST_SHOWN, 
 use Rattle.std.proofs.lemmas.Bool.{cases_order, ne_eqb, eqb-false}
 use Rattle.cp_machine.specs.declared.event.Kernel.TheVariants as call
 use Rattle.cp_machine.specs.Machine.{Machine, is_ready, is_pending, in_line, waits, with_stack, with_output}
-use Rattle.cp_machine.specs.Opening.{admitted, admitted_at}
+use Rattle.cp_machine.specs.Opening.{admit_waiting, admit_at}
 use Rattle.cp_machine.specs.Statements.{Stepped, show}
 use Rattle.cp_machine.proofs.StepKeeps.{step_twins}
 use Rattle.cp_endless.specs.Silent.{ShowsLess, SlotsForgetLaw, without_output}
@@ -21,9 +21,9 @@ module _ (m n : Machine) (a : ShowsLess m n) where
   still_less : (k : Machine) → k.output ≡ m.output → ShowsLess k (with_output k n.output)
   still_less k e = record { same = refl; less = subst (λ l. length n.output ≤ length l) (sym e) a.less; room = subst (λ l. length l ≤ MOST_SHOWN) (sym e) a.room }
 
-  admitted_at_less : (pending : Option ℕ) (pid : ℕ) → ShowsLess (admitted_at pending m pid) (admitted_at pending (with_output m n.output) pid)
+  admitted_at_less : (pending : Option ℕ) (pid : ℕ) → ShowsLess (admit_at pending m pid) (admit_at pending (with_output m n.output) pid)
   admitted_at_less None pid = still_less m refl
-  admitted_at_less (Some monitor) pid = still_less (admitted_at (Some monitor) m pid) refl
+  admitted_at_less (Some monitor) pid = still_less (admit_at (Some monitor) m pid) refl
 
   -- ---- display
 
@@ -71,8 +71,8 @@ step_less r m n pid a =
     subst (λ k. Twins (step_at r m pid) (step_at r k pid)) (sym a.same)
     (step_twins n.output Twins r m pid (λ k event e. inr (refl, still_less m n a k e)) (show_twins m n a pid))
 
-admitted_less : (m n : Machine) (pid : ℕ) → ShowsLess m n → ShowsLess (admitted m pid) (admitted n pid)
-admitted_less m n pid a = subst (λ k. ShowsLess (admitted m pid) (admitted k pid)) (sym a.same) (admitted_at_less m n a m.pending pid)
+admitted_less : (m n : Machine) (pid : ℕ) → ShowsLess m n → ShowsLess (admit_waiting m pid) (admit_waiting n pid)
+admitted_less m n pid a = subst (λ k. ShowsLess (admit_waiting m pid) (admit_waiting k pid)) (sym a.same) (admitted_at_less m n a m.pending pid)
 
 silent_less : (m n : Machine) → ShowsLess m n → ShowsLess m (without_output n)
 silent_less m n a = record { same = ap without_output a.same; less = omega arith; room = a.room }

@@ -5,7 +5,7 @@ use Rattle.cp_endless.proofs.Words.{Tables, slots, Discipline, step_at, StaysRea
 use Rattle.cp_machine.specs.declared.process.Status.{Status}
 use Rattle.cp_machine.specs.declared.process.Status.TheVariants.{Ready, AtGate}
 use Rattle.cp_machine.specs.Machine.{Machine, Thread, thread_at, no_thread, is_delayed_at, is_ready, is_ready_status}
-use Rattle.cp_machine.specs.Opening.{admitted_at}
+use Rattle.cp_machine.specs.Opening.{admit_at}
 use Rattle.cp_machine.proofs.ListLemmas.{set_related}
 use Rattle.cp_machine.proofs.StepKeeps.{step_keeps}
 use Rattle.cp_endless.specs.Silent.{SlotsStayReadyLaw}
@@ -36,7 +36,7 @@ step_others r m pid q ne =
 
 -- ---- admission
 
-admitted_at_keeps : (pending : Option ℕ) (m : Machine) (pid q : ℕ) → is_ready m q ≡ true → is_ready (admitted_at pending m pid) q ≡ true
+admitted_at_keeps : (pending : Option ℕ) (m : Machine) (pid q : ℕ) → is_ready m q ≡ true → is_ready (admit_at pending m pid) q ≡ true
 admitted_at_keeps None m pid q h = h
 admitted_at_keeps (Some monitor) m pid q h = made_ready m.threads pid q h
 

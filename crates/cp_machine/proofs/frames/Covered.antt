@@ -1,7 +1,7 @@
 -- What the frame of a process may name is there.
 use Rattle.cp_machine.proofs.Words.{◌≡◌, ℕ, ◌+◌, ◌<◌, ◌≤◌, List, [], ◌∷◌, length, ap, arith, slice_index_or, IsSound, IsOf, IsTyped, own_of, Tables, component_at}
 use Rattle.cp_machine.proofs.Words.{routine_at, system_at, Address, Permanent, Local, Frame, Memory, Entry, Rest, Successor, FrameFits, ThreadFits, MachineFits, size_of}
-use Rattle.cp_machine.proofs.Words.{Machine, thread_at, memory_at, IsBehind, FrameReaches, StackReaches, ThreadReaches, referred}
+use Rattle.cp_machine.proofs.Words.{Machine, thread_at, memory_at, IsBehind, FrameReaches, StackReaches, ThreadReaches, reference_at}
 use Rattle.cp_store.specs.Inside.{HasCells, Covers}
 use Rattle.cp_machine.proofs.rooms.Keeping.{frame_fits}
 
@@ -45,7 +45,7 @@ covered r m pid lt sound typed fits reaches =
       own = omega (arith, has, at, permanents);
       cells = omega (arith, long);
       references = omega (arith, named, extents);
-      behind = λ k there. behind_has r (memory_at m pid) t.frame (referred t.references (t.frame.references + k)) (slice_index_or (routine_at r t.frame.routine).extents k 0) permanents (omega (arith, long)) (own.behind k there);
+      behind = λ k there. behind_has r (memory_at m pid) t.frame (reference_at t.references (t.frame.references + k)) (slice_index_or (routine_at r t.frame.routine).extents k 0) permanents (omega (arith, long)) (own.behind k there);
       permanents_few = omega (arith, permanents, typed.words.permanents);
       cells_few = omega (arith, long, room, image, typed.words.cells);
       references_few = omega (arith, named, rooms, count, typed.words.references);

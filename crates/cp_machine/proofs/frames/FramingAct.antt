@@ -2,15 +2,15 @@
 use Rattle.std.proofs.Common.{◌≡◌, ℕ, ◌<◌, List, [], ◌∷◌, length, Option, Some, None, Result, Ok, Err, if◌then◌else◌, Bool, true, false, sym, refl, subst, arith, get_or-set_same}
 use Rattle.cp_machine.proofs.Words.{ℤ, ◌==◌, slice_index_or, ◌&&◌, IsTrue, pos, int_eq, length-set, Tables, item_at, routine_at, component_at, IsSound, ListFits}
 use Rattle.cp_machine.proofs.Words.{CallFits, ActionFits, IsOf, IsTyped, Names, ActionNames, Action, Argument, ComponentPlace, PlaceOrigin, ComponentKind, Bound}
-use Rattle.cp_machine.proofs.Words.{ErrorName, Address, SetValue, bound_in_component, put_number, put_copy, ranged, is_true, and_left, and_right, Entry, Rest, Successor}
+use Rattle.cp_machine.proofs.Words.{ErrorName, Address, SetValue, bind_component, put_number, put_copy, check_range, is_true, and_left, and_right, Entry, Rest, Successor}
 use Rattle.cp_machine.proofs.Words.{Return, InitEnd, Ready, Ended, MOST_SHOWN, EntryFits, StackFits, MachineFits, size_of, StackReaches, rest_of, from_end, act, take_top}
 use Rattle.cp_machine.proofs.Words.{step_at, action_inside, component_inside, arguments_inside, binds_from, result_inside, Empty, Assign, AssignSet, Copy, Block, If}
 use Rattle.cp_machine.proofs.Words.{Case, Assert, While, Until, For, Cycle, Call, Start, Delay, Continue, Display, Machine, Thread, thread_at, no_thread, phase_at}
-use Rattle.cp_machine.proofs.Words.{is_initialised, is_uninitialised, is_unstarted, with_stack, Stepped, arm_for, is_beyond, next_value, succeeded, with_value, gone_on}
+use Rattle.cp_machine.proofs.Words.{is_initialised, is_uninitialised, is_unstarted, with_stack, Stepped, arm_for, is_beyond, next_value, successor_step, with_value, gone_on}
 use Rattle.cp_slots.specs.declared.tables.ComponentKind.TheVariants as kind
 use Rattle.cp_store.specs.declared.memory.Address.TheVariants as address
 use Rattle.cp_store.specs.Sets as sets
-use Rattle.cp_machine.specs.Calls.{called, left, called_in, called_by, start_inside, started, opened, delayed_in, delay_at, continued_from, continued_in, continue_by, continue_at}
+use Rattle.cp_machine.specs.Calls.{open_call, leave_frame, call_in, call_by, start_inside, start_by, open_frame, delay_in, delay_at, continue_from, continue_in, continue_by, continue_at}
 use Rattle.cp_machine.specs.declared.discipline.Signals.{Signals}
 use Rattle.cp_machine.specs.declared.discipline.Signals.TheVariants as signals
 use Rattle.cp_machine.specs.Memory.{memory_at, value_of, set_of, address_of, component_of, arguments_of, origin_of, number_put, set_put, set_written, cells_put, parameters_bound}
@@ -44,7 +44,7 @@ cells_framed r m pid to from size h = memory_framed r m pid (put_copy (memory_at
 -- parameters of a component are bound
 parameters_framed : (r : Tables) (m : Machine) (pid base : ℕ) (arguments : List Argument) (bounds : List Bound) → Framed r m → Framed r (parameters_bound m pid base arguments bounds)
 parameters_framed r m pid base arguments bounds h =
-    memory_framed r m pid (bound_in_component (memory_at m pid) base arguments bounds) (names_component (memory_at m pid) base arguments bounds) h
+    memory_framed r m pid (bind_component (memory_at m pid) base arguments bounds) (names_component (memory_at m pid) base arguments bounds) h
 
 -- what is known of components: what a statement of the process names is of the system type that it wants
 abbrev pub Finds : Tables → Machine → ℕ → Type 0
@@ -88,15 +88,15 @@ module _ (r : Tables) (m : Machine) (pid : ℕ) (lt : pid < length m.threads) (s
 
     module _ (routine : ℕ) (arguments : List Argument) (fit : CallFits r t.frame.routine (item_at r at).need routine arguments) (component : ℕ) (of : IsOf r (routine_at r routine).system component) (bounds : List Bound) (given : arguments_of m pid arguments ≡ Ok bounds) where
       module _ (inside : arguments_inside (routine_at r t.frame.routine) (routine_at r routine) (size_of r routine) arguments ≡ true) (ends : binds_from (length (routine_at r routine).extents) 0 arguments ≡ true) (slot : Option ℕ) (takes : result_inside (routine_at r t.frame.routine) (routine_at r routine) slot ≡ true) where
-        calls : (monitor : Option ℕ) → Framed r (called r m pid routine component arguments bounds slot monitor next)
+        calls : (monitor : Option ℕ) → Framed r (open_call r m pid routine component arguments bounds slot monitor next)
         calls monitor = called_framed r m pid lt sound typed fits framed routine component (item_at r at).need arguments fit of next next_fits next_below bounds inside ends given slot monitor takes
 
-        calls_in : (k : ComponentKind) → Good r (called_in r m pid k routine component arguments bounds slot next)
-        calls_in (kind.Monitor monitor) = entered_framed r (called r m pid routine component arguments bounds slot (Some monitor) next) pid monitor (calls (Some monitor))
+        calls_in : (k : ComponentKind) → Good r (call_in r m pid k routine component arguments bounds slot next)
+        calls_in (kind.Monitor monitor) = entered_framed r (open_call r m pid routine component arguments bounds slot (Some monitor) next) pid monitor (calls (Some monitor))
         calls_in kind.Class = calls None
         calls_in (kind.Process number) = going
 
-        calls_by : (is_entry : Bool) → Good r (called_by r m pid (item_at r at).line is_entry routine component arguments bounds slot next)
+        calls_by : (is_entry : Bool) → Good r (call_by r m pid (item_at r at).line is_entry routine component arguments bounds slot next)
         calls_by false = calls None
         calls_by true = either_good r (is_initialised (phase_at m component)) _ _ (calls_in (component_at r component).kind) framed
 
@@ -104,9 +104,9 @@ module _ (r : Tables) (m : Machine) (pid : ℕ) (lt : pid < length m.threads) (s
         starts_inside : Good r (start_inside r m pid (item_at r at).line routine component arguments bounds next)
         starts_inside =
             either_good r (is_uninitialised (phase_at m component)) _ _
-            (parameters_framed r (opened r m pid routine component (InitEnd t.frame component) next) pid (component_at r component).base arguments bounds (opened_framed r m pid lt sound typed fits framed routine component (item_at r at).need arguments fit of next next_fits next_below none)) framed
+            (parameters_framed r (open_frame r m pid routine component (InitEnd t.frame component) next) pid (component_at r component).base arguments bounds (opened_framed r m pid lt sound typed fits framed routine component (item_at r at).need arguments fit of next next_fits next_below none)) framed
 
-        starts : (k : ComponentKind) → Good r (started r m pid (item_at r at).line k routine component arguments bounds next)
+        starts : (k : ComponentKind) → Good r (start_by r m pid (item_at r at).line k routine component arguments bounds next)
         starts (kind.Process q) =
             either_good r (is_unstarted (thread_at m.threads q).status) _ _
             (status_framed r (parameters_bound (with_stack m pid next) pid (component_at r component).base arguments bounds) q Ready (parameters_framed r (with_stack m pid next) pid (component_at r component).base arguments bounds going)) framed
@@ -114,7 +114,7 @@ module _ (r : Tables) (m : Machine) (pid : ℕ) (lt : pid < length m.threads) (s
 
     -- ---- queues
 
-    delays_in : (cell : ℕ) (k : ComponentKind) → Good r (delayed_in m pid (item_at r at).line cell k next)
+    delays_in : (cell : ℕ) (k : ComponentKind) → Good r (delay_in m pid (item_at r at).line cell k next)
     delays_in cell (kind.Monitor monitor) = either_good r (is_true (slice_index_or m.permanents cell (pos 0))) _ _ framed (delayed_framed r (with_stack m pid next) pid monitor cell going)
     delays_in cell _ = going
 
@@ -132,11 +132,11 @@ module _ (r : Tables) (m : Machine) (pid : ℕ) (lt : pid < length m.threads) (s
     acts (Assign target value low high) a =
         value_good r (value_of m pid value) _ _ (λ e. framed) (λ v is.
         value_good r (address_of m pid target) _ _ (λ e. framed) (λ p is.
-        value_good r (ranged low high v) _ _ (λ e. framed) (λ w is. number_framed r (with_stack m pid next) pid p w going)))
+        value_good r (check_range low high v) _ _ (λ e. framed) (λ w is. number_framed r (with_stack m pid next) pid p w going)))
     acts (AssignSet target value low high) a =
         value_good r (set_of m pid value) _ _ (λ e. framed) (λ v is.
         value_good r (address_of m pid target) _ _ (λ e. framed) (λ p is.
-        value_good r (sets.ranged low high v) _ _ (λ e. framed) (λ w is. set_framed r (with_stack m pid next) pid p w going)))
+        value_good r (sets.check_members low high v) _ _ (λ e. framed) (λ w is. set_framed r (with_stack m pid next) pid p w going)))
     acts (Copy target source size) a =
         value_good r (address_of m pid source) _ _ (λ e. framed) (λ from is.
         value_good r (address_of m pid target) _ _ (λ e. framed) (λ to is. cells_framed r (with_stack m pid next) pid to from size going))
@@ -156,7 +156,7 @@ module _ (r : Tables) (m : Machine) (pid : ℕ) (lt : pid < length m.threads) (s
         value_good r (value_of m pid first) _ _ (λ e. framed) (λ x is.
         value_good r (value_of m pid last) _ _ (λ e. framed) (λ y is.
         either_good r (is_beyond down x y) _ _ going
-        (value_good r (ranged low high x) _ _ (λ e. framed) (λ z is. goes variable list y z))))
+        (value_good r (check_range low high x) _ _ (λ e. framed) (λ z is. goes variable list y z))))
     acts (Cycle list) a = with_entries _ (with_rest list (Rest at ∷ es) below)
     acts (Call routine component is_entry arguments slot) a =
         let caller = routine_at r t.frame.routine in
@@ -177,20 +177,20 @@ module _ (r : Tables) (m : Machine) (pid : ℕ) (lt : pid < length m.threads) (s
     acts (Delay place) a = value_good r (address_of m pid place) _ _ (λ e. framed) (λ p is. delays p)
     acts (Continue place) a = value_good r (address_of m pid place) _ _ (λ e. framed) (λ p is. continues p)
       where
-        continued_good : (n : Machine) (es : List Entry) (cell : ℕ) → pid < length n.threads → MachineFits r n → Framed r n → StackFits r (thread_at n.threads pid).frame es → StackReaches r (thread_at n.threads pid).references (thread_at n.threads pid).frame es → Good r (continued_from r n pid cell es)
+        continued_good : (n : Machine) (es : List Entry) (cell : ℕ) → pid < length n.threads → MachineFits r n → Framed r n → StackFits r (thread_at n.threads pid).frame es → StackReaches r (thread_at n.threads pid).references (thread_at n.threads pid).frame es → Good r (continue_from r n pid cell es)
         continued_good n [] cell l f h s b = h
         continued_good n (Rest at ∷ es) cell l f h s b = h
         continued_good n (Successor at z last ∷ es) cell l f h s b = h
         continued_good n (InitEnd caller component ∷ es) cell l f h s b = h
         continued_good n (Return caller slot None ∷ es) cell l f h s b = h
-        continued_good n (Return caller slot (Some monitor) ∷ es) cell l f h s b = continued_framed r (left r n pid caller slot es) monitor cell (left_framed r n pid l sound typed f h caller slot es s.0 s.3 b.2)
+        continued_good n (Return caller slot (Some monitor) ∷ es) cell l f h s b = continued_framed r (leave_frame r n pid caller slot es) monitor cell (left_framed r n pid l sound typed f h caller slot es s.0 s.3 b.2)
 
-        goes_on : (cell : ℕ) (k : ComponentKind) → Good r (continued_in m pid cell k (rest_of (item_at r at).next es))
+        goes_on : (cell : ℕ) (k : ComponentKind) → Good r (continue_in m pid cell k (rest_of (item_at r at).next es))
         goes_on cell (kind.Monitor monitor) = signalled_framed r (with_stack m pid (rest_of (item_at r at).next es)) pid monitor cell going
         goes_on cell kind.Class = going
         goes_on cell (kind.Process number) = going
 
-        returns : (cell : ℕ) → Good r (continued_from r (with_stack m pid (from_end es)) pid cell (from_end es))
+        returns : (cell : ℕ) → Good r (continue_from r (with_stack m pid (from_end es)) pid cell (from_end es))
         returns cell =
             let e = end_fits r t.frame es s.1 in
             let b = end_reaches r t.references t.frame es below in
@@ -212,7 +212,7 @@ module _ (r : Tables) (m : Machine) (pid : ℕ) (lt : pid < length m.threads) (s
     acts (Display value kind) a =
         value_good r (value_of m pid value) _ _ (λ e. framed) (λ v is. either_good r (length m.output == MOST_SHOWN) _ _ framed going)
 
-    succeeds_good : (a : Action) (z last : ℤ) → Good r (succeeded m pid at (item_at r at) a es z last)
+    succeeds_good : (a : Action) (z last : ℤ) → Good r (successor_step m pid at (item_at r at) a es z last)
     succeeds_good (For variable low high first end down list) z last =
         either_good r (int_eq z last) _ _ going
         (value_good r (next_value down low high z) _ _ (λ e. framed) (λ w is. goes variable list last w))
@@ -231,7 +231,7 @@ module _ (r : Tables) (m : Machine) (pid : ℕ) (lt : pid < length m.threads) (s
   top_framed (Rest at ∷ es) s b = acts at es b s (list_fits r m pid at (length es) sound s.0) (item_at r at).action (facts_at at (length es) s.0)
   top_framed (Successor at z last ∷ es) s b = succeeds_good at es b s (list_fits r m pid at (length es) sound s.0) (item_at r at).action z last
   top_framed (Return caller slot None ∷ es) s b = left_framed r m pid lt sound typed fits framed caller slot es s.0 s.3 b.2
-  top_framed (Return caller slot (Some monitor) ∷ es) s b = let_in_framed r (left r m pid caller slot es) monitor (left_framed r m pid lt sound typed fits framed caller slot es s.0 s.3 b.2)
+  top_framed (Return caller slot (Some monitor) ∷ es) s b = let_in_framed r (leave_frame r m pid caller slot es) monitor (left_framed r m pid lt sound typed fits framed caller slot es s.0 s.3 b.2)
   top_framed (InitEnd caller component ∷ es) s b = left_framed r m pid lt sound typed fits framed caller None es s.0 s.2 b.2
 
   -- a step keeps what the frames of all processes may name

@@ -1,8 +1,8 @@
--- What the frames of a process may name stays there where frames are opened and given up.
+-- What the frames of a process may name stays there where frames are open_frame and given up.
 use Rattle.std.proofs.Common.{◌≡◌, ℕ, ◌+◌, ◌^◌, ◌<◌, ◌≤◌, ◌∙◌, List, ◌∷◌, ◌++◌, length, take, Option, Some, None, Ok, true, ap, sym, refl, subst, arith, get_or-set_same, get_or-set_other}
 use Rattle.cp_machine.proofs.Words.{slice_set, replicate, nat_lt, ltb-true, Tables, routine_at, IsSound, CallFits, arguments_inside, binds_from, result_inside, IsOf}
-use Rattle.cp_machine.proofs.Words.{IsTyped, Argument, Bound, Address, Permanent, Local, Frame, bound_in_frame, Memory, nowhere, and_left, and_right, Entry, Return}
-use Rattle.cp_machine.proofs.Words.{InitEnd, frame_behind, opened, left, called, Machine, Thread, thread_at, no_thread, with_permanents, memory_at, frame_opened}
+use Rattle.cp_machine.proofs.Words.{IsTyped, Argument, Bound, Address, Permanent, Local, Frame, bind_frame, Memory, nowhere, and_left, and_right, Entry, Return}
+use Rattle.cp_machine.proofs.Words.{InitEnd, frame_behind, open_frame, leave_frame, open_call, Machine, Thread, thread_at, no_thread, with_permanents, memory_at, add_frame}
 use Rattle.cp_machine.proofs.Words.{arguments_of, rest_of, FrameFits, Follows, StackFits, ThreadFits, MachineFits, size_of}
 use Rattle.std.proofs.lemmas.List.{length-set, get_or-take, get_or_append_left}
 use Rattle.cp_store.specs.Inside.{HasCells}
@@ -35,7 +35,7 @@ module _ (r : Tables) (m : Machine) (pid : ℕ) (lt : pid < length m.threads) (s
   own_fits = fits.each pid lt
 
   -- the innermost frame is given up
-  pub left_framed : (caller : Frame) (slot : Option ℕ) (es : List Entry) → Follows r own.frame caller → StackFits r caller es → StackReaches r own.references caller es → Framed r (left r m pid caller slot es)
+  pub left_framed : (caller : Frame) (slot : Option ℕ) (es : List Entry) → Follows r own.frame caller → StackFits r caller es → StackReaches r own.references caller es → Framed r (leave_frame r m pid caller slot es)
   left_framed caller slot es follows stack reaches =
       let back : own.frame.references ≡ caller.references + (routine_at r caller.routine).references = follows.references in
       let agree : Agree own.frame.references own.references (take own.frame.references own.references) = λ k below. sym (get_or-take own.frame.references own.references k nowhere below) in
@@ -62,7 +62,7 @@ module _ (r : Tables) (m : Machine) (pid : ℕ) (lt : pid < length m.threads) (s
     fits_behind = (behind_follows r own own_fits routine component need arguments fit).fits
 
     -- a start: the routine has no `var` parameters
-    pub opened_framed : (routine_at r routine).references ≡ 0 → Framed r (opened r m pid routine component (InitEnd own.frame component) rest)
+    pub opened_framed : (routine_at r routine).references ≡ 0 → Framed r (open_frame r m pid routine component (InitEnd own.frame component) rest)
     opened_framed none =
         let extents : length (routine_at r routine).extents ≡ (routine_at r routine).references = (sound.routines routine fit.routine).extents in
         let new = own.references ++ replicate (routine_at r routine).references nowhere in
@@ -74,10 +74,10 @@ module _ (r : Tables) (m : Machine) (pid : ℕ) (lt : pid < length m.threads) (s
       end = Return own.frame slot monitor
 
       abbrev memory : Memory
-      memory = store.opened (memory_at m pid) (routine_at r routine).image (routine_at r routine).references
+      memory = store.open_frame (memory_at m pid) (routine_at r routine).image (routine_at r routine).references
 
       abbrev names : List Address
-      names = (bound_in_frame memory g arguments bounds).references
+      names = (bind_frame memory g arguments bounds).references
 
       few : length own.references + (routine_at r routine).references < 2 ^ 64
       few =
@@ -97,19 +97,19 @@ module _ (r : Tables) (m : Machine) (pid : ℕ) (lt : pid < length m.threads) (s
           }
 
       abbrev t : Thread
-      t = frame_opened (record own { frame = g; stack = rest_of (routine_at r routine).body (end ∷ rest) }) (routine_at r routine)
+      t = add_frame (record own { frame = g; stack = rest_of (routine_at r routine).body (end ∷ rest) }) (routine_at r routine)
 
       abbrev Bound_reaches : Thread → Type 0
-      Bound_reaches x = StackReaches r (bound_in_frame (record { permanents = m.permanents; cells = x.cells; references = x.references }) x.frame arguments bounds).references x.frame x.stack
+      Bound_reaches x = StackReaches r (bind_frame (record { permanents = m.permanents; cells = x.cells; references = x.references }) x.frame arguments bounds).references x.frame x.stack
 
       t_reaches : Bound_reaches t
       t_reaches =
           let agree : Agree (length own.references) (own.references ++ replicate (routine_at r routine).references nowhere) names = names_below memory g arguments bounds (omega (arith, few)) in
           rest_reaches r names g (routine_at r routine).body (end ∷ rest) (frame, result_reaches r g own.frame slot result_fits, below_agree names routine agree rest stack reaches)
 
-      pub called_framed : Framed r (called r m pid routine component arguments bounds slot monitor rest)
+      pub called_framed : Framed r (open_call r m pid routine component arguments bounds slot monitor rest)
       called_framed =
-          let n = opened r m pid routine component end rest in
-          let x = bound_in_frame (memory_at n pid) (thread_at n.threads pid).frame arguments bounds in
+          let n = open_frame r m pid routine component end rest in
+          let x = bind_frame (memory_at n pid) (thread_at n.threads pid).frame arguments bounds in
           let same : thread_at n.threads pid ≡ t = get_or-set_same m.threads pid t no_thread lt in
           thread_framed r (with_permanents n x.permanents) pid _ (λ l. subst Bound_reaches (sym same) t_reaches) (others n t refl)

@@ -1,6 +1,6 @@
 -- A step, an admission and the opening keep what the frames of all processes may name there.
 use Rattle.cp_machine.proofs.Words.{◌≡◌, ℕ, ◌<◌, length, true, IsSound, IsTyped, parameter_count, Tables, component_at, process_at, Discipline, LinesFit}
-use Rattle.cp_machine.proofs.Words.{MachineFits, Machine, in_line, is_ready, admitted, opening, Reaches, step_at}
+use Rattle.cp_machine.proofs.Words.{MachineFits, Machine, in_line, is_ready, admit_waiting, opening, Reaches, step_at}
 use Rattle.cp_machine.proofs.parameters.Executing.{admitted_executes}
 use Rattle.cp_machine.proofs.parameters.ExecutingAct.{process_finds, step_executes}
 use Rattle.cp_machine.proofs.parameters.ExecutingLemmas.{Executing}
@@ -22,8 +22,8 @@ step_reaches r m pid lt sound typed fits lines ready h =
     (step_framed r m pid lt sound typed fits h.frames (process_finds r m pid lt typed fits ready (h.frames pid lt) known))
     (step_executes r m pid lt typed fits lines ready (h.frames pid lt) known)
 
-pub admitted_reaches : (r : Tables) (m : Machine) (pid : ℕ) → in_line m pid ≡ true → Reaches r m → Reaches r (admitted m pid)
-admitted_reaches r m pid waits h = reaches_of r (admitted m pid) (admitted_framed r m pid h.frames) (admitted_executes r m pid waits (executing_of r m h))
+pub admitted_reaches : (r : Tables) (m : Machine) (pid : ℕ) → in_line m pid ≡ true → Reaches r m → Reaches r (admit_waiting m pid)
+admitted_reaches r m pid waits h = reaches_of r (admit_waiting m pid) (admitted_framed r m pid h.frames) (admitted_executes r m pid waits (executing_of r m h))
 
 -- the program has no parameters
 pub opening_reaches : (r : Tables) (discipline : Discipline) → IsSound r → IsTyped r → parameter_count r (component_at r (process_at r 0).component).system ≡ 0 → Reaches r (opening r discipline)

@@ -1,11 +1,11 @@
 -- What the kernel does keeps each line the line of those at its gate.
 use Rattle.std.proofs.Common.{◌≡◌, ◌∙◌, ℕ, suc, ◌<◌, ◌≤◌, ◌⊎◌, inl, inr, List, [], ◌∷◌, ◌++◌, length, Option, Some, None, true, false, eqb, ap, sym, refl, subst, arith, length-append}
-use Rattle.cp_machine.proofs.Words.{IfSome, pos, slice_index_or, slice_set, IsDistinct, First, Any, Status, Unstarted, Ready, AtGate, Delayed, LinesFit, admitted}
+use Rattle.cp_machine.proofs.Words.{IfSome, pos, slice_index_or, slice_set, IsDistinct, First, Any, Status, Unstarted, Ready, AtGate, Delayed, LinesFit, admit_waiting}
 use Rattle.cp_machine.specs.declared.discipline.Gates.{Gates}
-use Rattle.cp_machine.proofs.Words.{admitted_at, without, let_in, let_in_by, first_in, one_in, freed, goes_in, entered, entered_by, delayed, continued, resumed, waits_in}
+use Rattle.cp_machine.proofs.Words.{admit_at, without, let_in, let_in_by, first_in, one_in, free, goes_in, enter_caller, enter_by, delay_caller, resume, go_on_inside, waits_in}
 use Rattle.cp_machine.specs.declared.discipline.Signals.{Signals}
 use Rattle.cp_machine.specs.declared.discipline.Signals.TheVariants as signals
-use Rattle.cp_machine.specs.Kernel.{joined, changed_places, signalled_by, signalled}
+use Rattle.cp_machine.specs.Kernel.{join_line, change_places, signal_by, signal}
 use Rattle.std.proofs.lemmas.Bool.{cases_eq, eq-eqb, eqb-true, ne_eqb}
 use Rattle.std.proofs.lemmas.List.{get_or-set_same, get_or-set_other}
 use Rattle.std.proofs.lemmas.List.Quantifiers.{position-Some}
@@ -148,12 +148,12 @@ first_still m g [] still = still
 first_still m g (q ∷ line) still = still
 
 one_lines : (m : Machine) (g : ℕ) (line : List ℕ) → line ≡ line_of m.monitors g → Lined m.threads m.monitors → m.pending ≡ None → LinesFit (one_in m g line)
-one_lines m g [] e h still = lines_still (freed m g []) (first_lined m g [] e h) still
+one_lines m g [] e h still = lines_still (free m g []) (first_lined m g [] e h) still
 one_lines m g (q ∷ []) e h still = lines_still (goes_in m g q []) (first_lined m g (q ∷ []) e h) still
 one_lines m g (p ∷ q ∷ line) e h still =
-    let kept : Lined m.threads (freed m g (p ∷ q ∷ line)).monitors = held_lined m.threads m.monitors g _ e h in
-    let same : (monitor_at (freed m g (p ∷ q ∷ line)) g).line ≡ p ∷ q ∷ line = line_set m.monitors g _ e g ∙ sym e in
-    let long : length (monitor_at (freed m g (p ∷ q ∷ line)) g).line ≡ suc (suc (length line)) = ap length same in
+    let kept : Lined m.threads (free m g (p ∷ q ∷ line)).monitors = held_lined m.threads m.monitors g _ e h in
+    let same : (monitor_at (free m g (p ∷ q ∷ line)) g).line ≡ p ∷ q ∷ line = line_set m.monitors g _ e g ∙ sym e in
+    let long : length (monitor_at (free m g (p ∷ q ∷ line)) g).line ≡ suc (suc (length line)) = ap length same in
     record { gate = kept.0; once = kept.1; pending = omega (arith, long) }
 
 let_in_by_lines : (gates : Gates) (m : Machine) (g : ℕ) (line : List ℕ) → line ≡ line_of m.monitors g → Lined m.threads m.monitors → m.pending ≡ None → LinesFit (let_in_by gates m g line)
@@ -163,23 +163,23 @@ let_in_by_lines Any m g line e h still = one_lines m g line e h still
 pub let_in_lines : (m : Machine) (g : ℕ) → Lined m.threads m.monitors → m.pending ≡ None → LinesFit (let_in m g)
 let_in_lines m g h still = let_in_by_lines m.discipline.gates m g (monitor_at m g).line refl h still
 
-pub entered_lines : (m : Machine) (p g : ℕ) → Lined m.threads m.monitors → m.pending ≡ None → p < length m.threads → IsOff (thread_at m.threads p).status → g < length m.monitors → LinesFit (entered m p g)
+pub entered_lines : (m : Machine) (p g : ℕ) → Lined m.threads m.monitors → m.pending ≡ None → p < length m.threads → IsOff (thread_at m.threads p).status → g < length m.monitors → LinesFit (enter_caller m p g)
 entered_lines m p g h still there off here = go (monitor_at m g).holder
   where
-    go : (holder : Option ℕ) → LinesFit (entered_by holder m p g)
-    go None = lines_still (entered_by None m p g) (held_lined m.threads m.monitors g _ refl h) still
-    go (Some q) = lines_still (entered_by (Some q) m p g) (joined_lined m.threads m.monitors g p _ _ h there here off refl refl) still
+    go : (holder : Option ℕ) → LinesFit (enter_by holder m p g)
+    go None = lines_still (enter_by None m p g) (held_lined m.threads m.monitors g _ refl h) still
+    go (Some q) = lines_still (enter_by (Some q) m p g) (joined_lined m.threads m.monitors g p _ _ h there here off refl refl) still
 
-pub delayed_lines : (m : Machine) (p g cell : ℕ) → Lined m.threads m.monitors → m.pending ≡ None → IsOff (thread_at m.threads p).status → LinesFit (delayed m p g cell)
+pub delayed_lines : (m : Machine) (p g cell : ℕ) → Lined m.threads m.monitors → m.pending ≡ None → IsOff (thread_at m.threads p).status → LinesFit (delay_caller m p g cell)
 delayed_lines m p g cell h still off = let_in_lines (with_status (record m { permanents = slice_set m.permanents cell (pos 1) }) p (Delayed cell)) g (off_lined m.threads m.monitors p _ off (λ k. refl) h) still
 
-pub continued_lines : (m : Machine) (g cell : ℕ) → Lined m.threads m.monitors → m.pending ≡ None → LinesFit (continued m g cell)
+pub continued_lines : (m : Machine) (g cell : ℕ) → Lined m.threads m.monitors → m.pending ≡ None → LinesFit (resume m g cell)
 continued_lines m g cell h still = go (waits_in m cell) refl
   where
     marked : Machine
     marked = record m { permanents = slice_set m.permanents cell (pos 0) }
 
-    go : (waiter : Option ℕ) → waits_in m cell ≡ waiter → LinesFit (resumed waiter marked g)
+    go : (waiter : Option ℕ) → waits_in m cell ≡ waiter → LinesFit (go_on_inside waiter marked g)
     go None e = let_in_lines marked g h still
     go (Some q) e =
         let found = position-Some (λ (t : Thread). is_delayed_at cell t.status) m.threads q no_thread e in
@@ -190,7 +190,7 @@ ready_delayed cell Ready h k = absurd (cc)
 ready_delayed cell s h k = absurd (cc)
 
 signalled_by_lines : (signals : Signals) (waiter : Option ℕ) (m : Machine) (p g cell : ℕ) → Lined m.threads m.monitors → m.pending ≡ None → p < length m.threads → is_ready_status (thread_at m.threads p).status ≡ true → g < length m.monitors → ((q : ℕ) → waiter ≡ Some q → (q < length m.threads) × (is_delayed_at cell (thread_at m.threads q).status ≡ true)) →
-    LinesFit (signalled_by signals waiter m p g)
+    LinesFit (signal_by signals waiter m p g)
 signalled_by_lines signals None m p g cell h still there ready here found = lines_still m h still
 signalled_by_lines signals.Wait (Some q) m p g cell h still there ready here found =
     let at = (found q refl).1 in
@@ -198,18 +198,18 @@ signalled_by_lines signals.Wait (Some q) m p g cell h still there ready here fou
     let first = first_joined m.threads m.monitors g p caller (record { holder = Some q; line = p ∷ line_of m.monitors g }) h there here (ready_off _ ready) refl refl in
     let other : q ≡ p → ⊥ = λ e. ready_delayed cell (thread_at m.threads q).status (ap (λ j. is_ready_status (thread_at m.threads j).status) e ∙ ready) at in
     let same : thread_at (slice_set m.threads p caller) q ≡ thread_at m.threads q = get_or-set_other m.threads p q caller no_thread other in
-    lines_still (changed_places m g p q) (off_lined (slice_set m.threads p caller) _ q _ (delayed_off cell _ (ap (λ (t : Thread). is_delayed_at cell t.status) same ∙ at)) (λ k. refl) first) still
+    lines_still (change_places m g p q) (off_lined (slice_set m.threads p caller) _ q _ (delayed_off cell _ (ap (λ (t : Thread). is_delayed_at cell t.status) same ∙ at)) (λ k. refl) first) still
 signalled_by_lines signals.Return (Some q) m p g cell h still there ready here found =
-    lines_still (joined m g q) (joined_lined m.threads m.monitors g q _ _ h (found q refl).0 here (delayed_off cell _ (found q refl).1) refl refl) still
+    lines_still (join_line m g q) (joined_lined m.threads m.monitors g q _ _ h (found q refl).0 here (delayed_off cell _ (found q refl).1) refl refl) still
 signalled_by_lines signals.Continue (Some q) m p g cell h still there ready here found =
-    lines_still (joined m g q) (joined_lined m.threads m.monitors g q _ _ h (found q refl).0 here (delayed_off cell _ (found q refl).1) refl refl) still
+    lines_still (join_line m g q) (joined_lined m.threads m.monitors g q _ _ h (found q refl).0 here (delayed_off cell _ (found q refl).1) refl refl) still
 
-pub signalled_lines : (m : Machine) (p g cell : ℕ) → Lined m.threads m.monitors → m.pending ≡ None → p < length m.threads → is_ready_status (thread_at m.threads p).status ≡ true → g < length m.monitors → LinesFit (signalled m p g cell)
+pub signalled_lines : (m : Machine) (p g cell : ℕ) → Lined m.threads m.monitors → m.pending ≡ None → p < length m.threads → is_ready_status (thread_at m.threads p).status ≡ true → g < length m.monitors → LinesFit (signal m p g cell)
 signalled_lines m p g cell h still there ready here =
     signalled_by_lines m.discipline.signals (waits_in m cell) (record m { permanents = slice_set m.permanents cell (pos 0) }) p g cell h still there ready here
     (λ q e. (let found = position-Some (λ (t : Thread). is_delayed_at cell t.status) m.threads q no_thread e in (found.0, found.1)))
 
-admitted_at_lines : (pending : Option ℕ) (m : Machine) (p : ℕ) → Lined m.threads m.monitors → in_line_of pending (thread_at m.threads p).status ≡ true → LinesFit (admitted_at pending m p)
+admitted_at_lines : (pending : Option ℕ) (m : Machine) (p : ℕ) → Lined m.threads m.monitors → in_line_of pending (thread_at m.threads p).status ≡ true → LinesFit (admit_at pending m p)
 admitted_at_lines None m p h at = absurd (cc)
 admitted_at_lines (Some g) m p h at =
     let line = (monitor_at m g).line in
@@ -217,7 +217,7 @@ admitted_at_lines (Some g) m p h at =
     record { gate = moved.0; once = moved.1; pending = tt }
 
 -- an admission keeps the lines
-pub admitted_lines : (m : Machine) (p : ℕ) → LinesFit m → in_line m p ≡ true → LinesFit (admitted m p)
+pub admitted_lines : (m : Machine) (p : ℕ) → LinesFit m → in_line m p ≡ true → LinesFit (admit_waiting m p)
 admitted_lines m p h at = admitted_at_lines m.pending m p (lines_as m h) at
 
 -- ---- what follows

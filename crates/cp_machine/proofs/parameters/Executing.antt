@@ -2,11 +2,11 @@
 use Rattle.std.proofs.Common.{◌≡◌, ◌∙◌, ℕ, ◌+◌, ◌<◌, List, [], ◌∷◌, length, Option, Some, None, true, false, ap, sym, refl, subst, arith}
 use Rattle.cp_machine.proofs.Words.{pos, slice_index_or, slice_set, length-set, IsOf, Tables, component_at, parameter_at, ComponentKind, Memory, Frame}
 use Rattle.cp_machine.proofs.Words.{First, Any, Entry, Rest, Successor, Return, InitEnd, Status, Ready, AtGate, Delayed, Phase, Uninitialised, LinesFit, with_memory}
-use Rattle.cp_machine.proofs.Words.{admitted, admitted_at, AreBound, EndsBegun, ExecutesAs, HasBegunAs, StackExecutes}
+use Rattle.cp_machine.proofs.Words.{admit_waiting, admit_at, AreBound, EndsBegun, ExecutesAs, HasBegunAs, StackExecutes}
 use Rattle.std.proofs.lemmas.List.Quantifiers.{position-Some}
 use Rattle.cp_slots.specs.declared.tables.ComponentKind.TheVariants as kind
 use Rattle.cp_machine.specs.declared.discipline.Gates.{Gates}
-use Rattle.cp_machine.specs.Kernel.{let_in, let_in_by, first_in, one_in, goes_in, entered, entered_by, delayed, continued, resumed, waits_in, signalled_by, signalled}
+use Rattle.cp_machine.specs.Kernel.{let_in, let_in_by, first_in, one_in, goes_in, enter_caller, enter_by, delay_caller, resume, go_on_inside, waits_in, signal_by, signal}
 use Rattle.cp_machine.specs.declared.discipline.Signals.{Signals}
 use Rattle.cp_machine.specs.declared.discipline.Signals.TheVariants as signals
 use Rattle.cp_machine.specs.Machine.{Machine, Thread, in_line, in_line_of, is_at_gate, is_delayed_at, is_uninitialised, is_unstarted, monitor_at, no_thread, phase_at, thread_at, with_permanents, with_phase, with_stack, with_status, with_thread}
@@ -161,21 +161,21 @@ let_in_by_executes r Any m monitor line started h = one_in_executes r m monitor 
 pub let_in_executes : (r : Tables) (m : Machine) (monitor : ℕ) → LineStarted m (monitor_at m monitor).line → Executing r m → Executing r (let_in m monitor)
 let_in_executes r m monitor started h = let_in_by_executes r m.discipline.gates m monitor (monitor_at m monitor).line started h
 
-pub entered_executes : (r : Tables) (m : Machine) (pid monitor : ℕ) → HasStarted m pid → Executing r m → Executing r (entered m pid monitor)
+pub entered_executes : (r : Tables) (m : Machine) (pid monitor : ℕ) → HasStarted m pid → Executing r m → Executing r (enter_caller m pid monitor)
 entered_executes r m pid monitor started h = go (monitor_at m monitor).holder
   where
-    go : (holder : Option ℕ) → Executing r (entered_by holder m pid monitor)
+    go : (holder : Option ℕ) → Executing r (enter_by holder m pid monitor)
     go None = same_executes r m _ refl refl refl h
     go (Some q) = same_executes r (with_status m pid (AtGate monitor)) _ refl refl refl (status_executes r m pid (AtGate monitor) (sym started) h)
 
-pub delayed_executes : (r : Tables) (m : Machine) (pid monitor cell : ℕ) → HasStarted m pid → LineStarted m (monitor_at m monitor).line → Executing r m → Executing r (delayed m pid monitor cell)
+pub delayed_executes : (r : Tables) (m : Machine) (pid monitor cell : ℕ) → HasStarted m pid → LineStarted m (monitor_at m monitor).line → Executing r m → Executing r (delay_caller m pid monitor cell)
 delayed_executes r m pid monitor cell started line h =
     let marked : Machine = record m { permanents = slice_set m.permanents cell (pos 1) } in
     let n = with_status marked pid (Delayed cell) in
     let waits = read_set (λ (u : Thread). is_unstarted u.status) m.threads pid (record (thread_at m.threads pid) { status = Delayed cell }) (sym started) in
     let_in_executes r n monitor (λ q there. (waits q ∙ line q there)) (status_executes r marked pid (Delayed cell) (sym started) (same_executes r m marked refl refl refl h))
 
-pub continued_executes : (r : Tables) (m : Machine) (monitor cell : ℕ) → LineStarted m (monitor_at m monitor).line → Executing r m → Executing r (continued m monitor cell)
+pub continued_executes : (r : Tables) (m : Machine) (monitor cell : ℕ) → LineStarted m (monitor_at m monitor).line → Executing r m → Executing r (resume m monitor cell)
 continued_executes r m monitor cell line h = go (waits_in m cell) refl
   where
     marked : Machine
@@ -184,13 +184,13 @@ continued_executes r m monitor cell line h = go (waits_in m cell) refl
     calm : Executing r marked
     calm = same_executes r m marked refl refl refl h
 
-    go : (waiter : Option ℕ) → waits_in m cell ≡ waiter → Executing r (resumed waiter marked monitor)
+    go : (waiter : Option ℕ) → waits_in m cell ≡ waiter → Executing r (go_on_inside waiter marked monitor)
     go None e = let_in_executes r marked monitor line calm
     go (Some q) e =
         let found = position-Some (λ (t : Thread). is_delayed_at cell t.status) m.threads q no_thread e in
         goes_in_executes r marked monitor q (monitor_at m monitor).line (delayed_started cell _ found.1) calm
 
-signalled_by_executes : (r : Tables) (signals : Signals) (waiter : Option ℕ) (m : Machine) (pid monitor : ℕ) → HasStarted m pid → ((q : ℕ) → waiter ≡ Some q → HasStarted m q) → Executing r m → Executing r (signalled_by signals waiter m pid monitor)
+signalled_by_executes : (r : Tables) (signals : Signals) (waiter : Option ℕ) (m : Machine) (pid monitor : ℕ) → HasStarted m pid → ((q : ℕ) → waiter ≡ Some q → HasStarted m q) → Executing r m → Executing r (signal_by signals waiter m pid monitor)
 signalled_by_executes r signals None m pid monitor started found h = h
 signalled_by_executes r signals.Wait (Some q) m pid monitor started found h =
     let waits = read_set (λ (u : Thread). is_unstarted u.status) m.threads pid (record (thread_at m.threads pid) { status = AtGate monitor }) (sym started) in
@@ -198,7 +198,7 @@ signalled_by_executes r signals.Wait (Some q) m pid monitor started found h =
 signalled_by_executes r signals.Return (Some q) m pid monitor started found h = same_executes r (with_status m q (AtGate monitor)) _ refl refl refl (status_executes r m q (AtGate monitor) (sym (found q refl)) h)
 signalled_by_executes r signals.Continue (Some q) m pid monitor started found h = same_executes r (with_status m q (AtGate monitor)) _ refl refl refl (status_executes r m q (AtGate monitor) (sym (found q refl)) h)
 
-pub signalled_executes : (r : Tables) (m : Machine) (pid monitor cell : ℕ) → HasStarted m pid → Executing r m → Executing r (signalled m pid monitor cell)
+pub signalled_executes : (r : Tables) (m : Machine) (pid monitor cell : ℕ) → HasStarted m pid → Executing r m → Executing r (signal m pid monitor cell)
 signalled_executes r m pid monitor cell started h =
     let marked : Machine = record m { permanents = slice_set m.permanents cell (pos 0) } in
     signalled_by_executes r m.discipline.signals (waits_in m cell) marked pid monitor started
@@ -206,11 +206,11 @@ signalled_executes r m pid monitor cell started h =
 
 -- ---- admission
 
-admitted_at_executes : (r : Tables) (pending : Option ℕ) (m : Machine) (pid : ℕ) → in_line_of pending (thread_at m.threads pid).status ≡ true → Executing r m → Executing r (admitted_at pending m pid)
+admitted_at_executes : (r : Tables) (pending : Option ℕ) (m : Machine) (pid : ℕ) → in_line_of pending (thread_at m.threads pid).status ≡ true → Executing r m → Executing r (admit_at pending m pid)
 admitted_at_executes r None m pid at h = h
 admitted_at_executes r (Some monitor) m pid at h =
     same_executes r (with_status m pid Ready) _ refl refl refl (status_executes r m pid Ready (sym (at_gate_started monitor _ at)) h)
 
 -- an admission keeps what is known of components
-pub admitted_executes : (r : Tables) (m : Machine) (pid : ℕ) → in_line m pid ≡ true → Executing r m → Executing r (admitted m pid)
+pub admitted_executes : (r : Tables) (m : Machine) (pid : ℕ) → in_line m pid ≡ true → Executing r m → Executing r (admit_waiting m pid)
 admitted_executes r m pid at h = admitted_at_executes r m.pending m pid at h

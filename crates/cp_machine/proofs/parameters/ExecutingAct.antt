@@ -1,9 +1,9 @@
 -- A step keeps what is known of components.
 use Rattle.std.proofs.Common.{◌≡◌, ℕ, ◌<◌, List, [], ◌∷◌, length, Option, Some, None, Ok, IsTrue, true, sym, refl, subst, if◌then◌else◌}
 use Rattle.cp_machine.proofs.Words.{ℤ, ◌==◌, int_eq, component_inside, ActionNames, IsOf, IsTyped, Names, Tables, RoutineView, component_at, item_at, routine_at, Action}
-use Rattle.cp_machine.proofs.Words.{Item, ComponentPlace, FindsComponent, Memory, put_copy, put_number, is_true, ranged, Frame, Entry, Rest, Successor, Return, InitEnd}
-use Rattle.cp_machine.proofs.Words.{Ended, Initialised, MOST_SHOWN, left, EntryFits, LinesFit, MachineFits, StackFits, Machine, is_ready, thread_at, with_stack, Executes}
-use Rattle.cp_machine.proofs.Words.{FrameReaches, ThreadReaches, rest_of, arm_for, is_beyond, next_value, succeeded, act, step_at, take_top}
+use Rattle.cp_machine.proofs.Words.{Item, ComponentPlace, FindsComponent, Memory, put_copy, put_number, is_true, check_range, Frame, Entry, Rest, Successor, Return, InitEnd}
+use Rattle.cp_machine.proofs.Words.{Ended, Initialised, MOST_SHOWN, leave_frame, EntryFits, LinesFit, MachineFits, StackFits, Machine, is_ready, thread_at, with_stack, Executes}
+use Rattle.cp_machine.proofs.Words.{FrameReaches, ThreadReaches, rest_of, arm_for, is_beyond, next_value, successor_step, act, step_at, take_top}
 use Rattle.cp_slots.specs.declared.item.Action.TheVariants.{Empty, Assign, AssignSet, Copy, Block, If, Case, Assert, While, Until, For, Cycle, Call, Start, Delay, Continue, Display}
 use Rattle.cp_store.specs.Sets as sets
 use Rattle.cp_machine.specs.Memory.{address_of, arguments_of, component_of, memory_at, set_of, set_written, value_of, with_memory}
@@ -33,11 +33,11 @@ module _ (r : Tables) (m : Machine) (pid : ℕ) (typed : IsTyped r) (fits : Mach
   act_going at item (Assign target value low high) es n s =
       value_going r (value_of m pid value) _ _ (λ e. h) (λ v of_v.
       value_going r (address_of m pid target) _ _ (λ e. h) (λ p of_p.
-      value_going r (ranged low high v) _ _ (λ e. h) (λ w of_w. writes _ (put_number (memory_at (with_stack m pid (rest_of item.next es)) pid) p w) (above item.next es s))))
+      value_going r (check_range low high v) _ _ (λ e. h) (λ w of_w. writes _ (put_number (memory_at (with_stack m pid (rest_of item.next es)) pid) p w) (above item.next es s))))
   act_going at item (AssignSet target value low high) es n s =
       value_going r (set_of m pid value) _ _ (λ e. h) (λ v of_v.
       value_going r (address_of m pid target) _ _ (λ e. h) (λ p of_p.
-      value_going r (sets.ranged low high v) _ _ (λ e. h) (λ w of_w. writes _ (set_written (memory_at (with_stack m pid (rest_of item.next es)) pid) p w) (above item.next es s))))
+      value_going r (sets.check_members low high v) _ _ (λ e. h) (λ w of_w. writes _ (set_written (memory_at (with_stack m pid (rest_of item.next es)) pid) p w) (above item.next es s))))
   act_going at item (Copy target source size) es n s =
       value_going r (address_of m pid source) _ _ (λ e. h) (λ from of_from.
       value_going r (address_of m pid target) _ _ (λ e. h) (λ to of_to. writes _ (put_copy (memory_at (with_stack m pid (rest_of item.next es)) pid) to from size) (above item.next es s)))
@@ -57,7 +57,7 @@ module _ (r : Tables) (m : Machine) (pid : ℕ) (typed : IsTyped r) (fits : Mach
       value_going r (value_of m pid first) _ _ (λ e. h) (λ x of_x.
       value_going r (value_of m pid last) _ _ (λ e. h) (λ y of_y.
       either_going r (is_beyond down x y) _ _ (λ e. goes _ (above item.next es s))
-      (value_going r (ranged low high x) _ _ (λ e. h) (λ v of_v. gone_going r m pid typed fits lines ready reaches h at variable list es y v s))))
+      (value_going r (check_range low high x) _ _ (λ e. h) (λ v of_v. gone_going r m pid typed fits lines ready reaches h at variable list es y v s))))
   act_going at item (Cycle list) es n s = goes _ (above list (Rest at ∷ es) s)
   act_going at item (Call routine place is_entry arguments slot) es n s =
       value_going r (component_of m pid place) _ _ (λ e. h) (λ c is.
@@ -74,13 +74,13 @@ module _ (r : Tables) (m : Machine) (pid : ℕ) (typed : IsTyped r) (fits : Mach
       value_going r (value_of m pid value) _ _ (λ e. h) (λ v of_v.
       either_going r (length m.output == MOST_SHOWN) _ _ (λ e. h) (same_executes r (with_stack m pid (rest_of item.next es)) _ refl refl refl (goes _ (above item.next es s))))
 
-  successor_going : (at : ℕ) (item : Item) (a : Action) (es : List Entry) (z last : ℤ) → Stands es → Going r (succeeded m pid at item a es z last)
+  successor_going : (at : ℕ) (item : Item) (a : Action) (es : List Entry) (z last : ℤ) → Stands es → Going r (successor_step m pid at item a es z last)
   successor_going at item (For variable low high first end down list) es z last s =
       either_going r (int_eq z last) _ _ (λ e. goes _ (above item.next es s))
       (value_going r (next_value down low high z) _ _ (λ e. h) (λ v of_v. gone_going r m pid typed fits lines ready reaches h at variable list es last v s))
   successor_going at item _ es z last s = goes _ (above item.next es s)
 
-  leaves : (caller : Frame) (slot : Option ℕ) (es : List Entry) → Runs r m pid caller es → Executing r (left r m pid caller slot es)
+  leaves : (caller : Frame) (slot : Option ℕ) (es : List Entry) → Runs r m pid caller es → Executing r (leave_frame r m pid caller slot es)
   leaves caller slot es s = left_going r m pid typed fits lines ready reaches h m caller slot es h s
 
   -- what an item on the control stack names
@@ -93,10 +93,10 @@ module _ (r : Tables) (m : Machine) (pid : ℕ) (typed : IsTyped r) (fits : Mach
   top_going (Successor at z last ∷ es) f s = successor_going at (item_at r at) (item_at r at).action es z last s
   top_going (Return caller slot None ∷ es) f s = leaves caller slot es (s.0.1, s.1)
   top_going (Return caller slot (Some monitor) ∷ es) f s =
-      let n = left r m pid caller slot es in
+      let n = leave_frame r m pid caller slot es in
       let calm : Calm m n = thread_calm m pid _ refl in
       let_in_executes r n monitor (calm_line r m pid typed fits lines ready reaches h n monitor calm) (leaves caller slot es (s.0.1, s.1))
-  top_going (InitEnd caller component ∷ es) f s = phase_executes r (left r m pid caller None es) component Initialised s.1.0 refl (leaves caller None es (s.0.1, s.1.1))
+  top_going (InitEnd caller component ∷ es) f s = phase_executes r (leave_frame r m pid caller None es) component Initialised s.1.0 refl (leaves caller None es (s.0.1, s.1.1))
 
 -- what a process names is a component of the system type that its statement wants
 pub process_finds : (r : Tables) (m : Machine) (pid : ℕ) → pid < length m.threads → IsTyped r → MachineFits r m → is_ready m pid ≡ true → ThreadReaches r (thread_at m.threads pid) → Executing r m → (place : ComponentPlace) (named component : ℕ) → Names r (routine_at r (thread_at m.threads pid).frame.routine).system place named → component_of m pid place ≡ Ok component → IsOf r named component

@@ -2,10 +2,10 @@
 use Rattle.std.proofs.Common.{◌≡◌, ◌∙◌, ℕ, ◌+◌, ◌<◌, ◌≤◌, ◌⊎◌, inl, inr, List, [], ◌∷◌, ◌++◌, length, Result, Ok, Err, ap, sym, refl, subst, arith, get_or-set_same, get_or-set_other}
 use Rattle.cp_machine.proofs.Words.{ℤ, slice_index_or, slice_set, cases_eq, cases_lt, Tables, component_at, parameter_at, system_at, Argument, ComponentPlace}
 use Rattle.cp_machine.proofs.Words.{OrdinalExpression, Place, Memory, onward, Bound, ErrorName, Frame, Machine, append-nil, append_assoc, length-set, Hands, HandsOne}
-use Rattle.cp_machine.proofs.Words.{IsOf, IsTyped, Names, own_of, parameter_count, ArgumentValue, ranged, then_with}
+use Rattle.cp_machine.proofs.Words.{IsOf, IsTyped, Names, own_of, parameter_count, ArgumentValue, check_range, then_with}
 use Rattle.cp_slots.specs.declared.place.ArgumentValue.TheVariants as value
 use Rattle.cp_slots.specs.declared.place.SetExpression.{SetExpression}
-use Rattle.cp_store.specs.Arguments.{bindings_after, bound_at, bounds_after, bounds_at, put_binding}
+use Rattle.cp_store.specs.Arguments.{bindings_after, evaluate_argument, bounds_after, bounds_at, put_binding}
 use Rattle.cp_store.specs.Components as components
 use Rattle.cp_store.specs.Places.{address_at, set_at, value_at}
 use Rattle.cp_store.specs.Sets as sets
@@ -27,16 +27,16 @@ module _ (x : Memory) (known : List ℕ) (f : Frame) (bindings : List ℕ) (numb
   plain : (c : Bound) → IsPlain c → ◌≡◌ {A = Result Bound ErrorName} (Ok c) (Ok b) → IsPlain b
   plain c p is = subst IsPlain (ok_is is) p
 
-  scalar_plain : (e : OrdinalExpression) (low high : ℤ) → bound_at x known f (value.Scalar e low high) ≡ Ok b → IsPlain b
-  scalar_plain e low high is = from_ok IsPlain b (value_at x f e) _ (λ z. from_ok IsPlain b (ranged low high z) _ (λ v. plain (Scalar v) refl)) is
+  scalar_plain : (e : OrdinalExpression) (low high : ℤ) → evaluate_argument x known f (value.Scalar e low high) ≡ Ok b → IsPlain b
+  scalar_plain e low high is = from_ok IsPlain b (value_at x f e) _ (λ z. from_ok IsPlain b (check_range low high z) _ (λ v. plain (Scalar v) refl)) is
 
-  set_plain : (e : SetExpression) (low high : ℕ) → bound_at x known f (value.Set e low high) ≡ Ok b → IsPlain b
-  set_plain e low high is = from_ok IsPlain b (set_at x f e) _ (λ s. from_ok IsPlain b (sets.ranged low high s) _ (λ v. plain (Set v) refl)) is
+  set_plain : (e : SetExpression) (low high : ℕ) → evaluate_argument x known f (value.Set e low high) ≡ Ok b → IsPlain b
+  set_plain e low high is = from_ok IsPlain b (set_at x f e) _ (λ s. from_ok IsPlain b (sets.check_members low high s) _ (λ v. plain (Set v) refl)) is
 
-  copy_plain : (source : Place) (size : ℕ) → bound_at x known f (value.Copy source size) ≡ Ok b → IsPlain b
+  copy_plain : (source : Place) (size : ℕ) → evaluate_argument x known f (value.Copy source size) ≡ Ok b → IsPlain b
   copy_plain source size is = from_ok IsPlain b (address_at x f source) _ (λ at. plain (Copy at size) refl) is
 
-  reference_plain : (place : Place) → bound_at x known f (value.Reference place) ≡ Ok b → IsPlain b
+  reference_plain : (place : Place) → evaluate_argument x known f (value.Reference place) ≡ Ok b → IsPlain b
   reference_plain place is = from_ok IsPlain b (address_at x f place) _ (λ at. plain (Reference at) refl) is
 
 -- ---- arguments, one after the other
@@ -47,13 +47,13 @@ module _ (r : Tables) (typed : IsTyped r) (x : Memory) (known : List ℕ) (f : F
   Gives [] [] = Unit {0}
   Gives [] (b ∷ bs) = ⊥
   Gives (y ∷ xs) [] = ⊥
-  Gives (y ∷ xs) (b ∷ bs) = (bound_at x known f y.value ≡ Ok b) × Gives xs bs
+  Gives (y ∷ xs) (b ∷ bs) = (evaluate_argument x known f y.value ≡ Ok b) × Gives xs bs
 
   gives : (before : List Bound) (xs : List Argument) (all : List Bound) → bounds_after x known f before xs ≡ Ok all → (bs : List Bound) × (all ≡ before ++ bs) × Gives xs bs
   gives before [] all is = ([], sym (ok_is is) ∙ sym (append-nil before), tt)
-  gives before (y ∷ xs) all is = go (λ b. gives (before ++ b ∷ []) xs all) (bound_at x known f y.value) refl is
+  gives before (y ∷ xs) all is = go (λ b. gives (before ++ b ∷ []) xs all) (evaluate_argument x known f y.value) refl is
     where
-      go : ((b : Bound) → bounds_after x known f (before ++ b ∷ []) xs ≡ Ok all → (bs : List Bound) × (all ≡ (before ++ b ∷ []) ++ bs) × Gives xs bs) → (o : Result Bound ErrorName) → bound_at x known f y.value ≡ o → then_with o (λ b. bounds_after x known f (before ++ b ∷ []) xs) ≡ Ok all → (bs : List Bound) × (all ≡ before ++ bs) × Gives (y ∷ xs) bs
+      go : ((b : Bound) → bounds_after x known f (before ++ b ∷ []) xs ≡ Ok all → (bs : List Bound) × (all ≡ (before ++ b ∷ []) ++ bs) × Gives xs bs) → (o : Result Bound ErrorName) → evaluate_argument x known f y.value ≡ o → then_with o (λ b. bounds_after x known f (before ++ b ∷ []) xs) ≡ Ok all → (bs : List Bound) × (all ≡ before ++ bs) × Gives (y ∷ xs) bs
       go more (Ok b) given is =
           let rest = more b is in
           (b ∷ rest.0, rest.1 ∙ append_assoc before (b ∷ []) rest.0, (given, rest.2))
@@ -102,7 +102,7 @@ module _ (r : Tables) (typed : IsTyped r) (x : Memory) (known : List ℕ) (f : F
     plain_handed : put_binding bindings (onward base slot) b ≡ bindings → Hands r system started next xs → AreHanded next bindings (after slot b bindings xs bs)
     plain_handed same hands = subst (λ now. AreHanded next bindings (bindings_after now base xs bs)) (sym same) (others next bindings long hands)
 
-    component_handed : (place : ComponentPlace) → HandsOne r system started (value.Component place) slot next (λ further. Hands r system started further xs) → bound_at x known f (value.Component place) ≡ Ok b → AreHanded next bindings (after slot b bindings xs bs)
+    component_handed : (place : ComponentPlace) → HandsOne r system started (value.Component place) slot next (λ further. Hands r system started further xs) → evaluate_argument x known f (value.Component place) ≡ Ok b → AreHanded next bindings (after slot b bindings xs bs)
     component_handed place hands is = go (components.component_at x known f place) refl is
       where
         exact : cell_of next ≡ onward base slot
@@ -115,7 +115,7 @@ module _ (r : Tables) (typed : IsTyped r) (x : Memory) (known : List ℕ) (f : F
             subst (λ now. AreHanded next bindings (bindings_after now base xs bs)) set (one_handed bindings _ next c long hands.0 (named place _ c hands.2 found) rest)
         go (Err e) found is = absurd (cc)
 
-    value_handed : (v : ArgumentValue) → HandsOne r system started v slot next (λ further. Hands r system started further xs) → bound_at x known f v ≡ Ok b → AreHanded next bindings (after slot b bindings xs bs)
+    value_handed : (v : ArgumentValue) → HandsOne r system started v slot next (λ further. Hands r system started further xs) → evaluate_argument x known f v ≡ Ok b → AreHanded next bindings (after slot b bindings xs bs)
     value_handed (value.Component place) hands is = component_handed place hands is
     value_handed (value.Scalar e low high) hands is = plain_handed (scalar_plain x known f bindings (onward base slot) b e low high is) hands
     value_handed (value.Set e low high) hands is = plain_handed (set_plain x known f bindings (onward base slot) b e low high is) hands

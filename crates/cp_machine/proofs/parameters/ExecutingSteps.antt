@@ -1,14 +1,14 @@
 -- A step keeps what is known of components: calls, queues and starts.
 use Rattle.std.proofs.Common.{◌≡◌, ◌∙◌, ℕ, ◌+◌, ◌<◌, ◌≤◌, ◌⊎◌, List, [], ◌∷◌, length, Option, Some, None, Result, Ok, Err, Bool, true, false, sym, refl, subst, arith, if◌then◌else◌}
 use Rattle.cp_machine.proofs.Words.{ℤ, pos, slice_index_or, Tables, component_at, parameter_at, routine_at, Argument, ComponentPlace, PlaceOrigin, ComponentKind}
-use Rattle.cp_machine.proofs.Words.{bindings_after, bound_in_component, bound_in_frame, Memory, put_number, is_true, Bound, ErrorName, Address, Frame, Entry, Rest}
+use Rattle.cp_machine.proofs.Words.{bindings_after, bind_component, bind_frame, Memory, put_number, is_true, Bound, ErrorName, Address, Frame, Entry, Rest}
 use Rattle.cp_machine.proofs.Words.{Successor, Return, InitEnd, Phase, Uninitialised, Initialising, LinesFit, MachineFits, arguments_of, component_of, memory_at}
 use Rattle.cp_machine.proofs.Words.{origin_of, with_memory, EndsBegun, Executes, ExecutesAs, FrameReaches, StackExecutes, from_end, rest_of, Stepped, gone_on, with_value}
 use Rattle.cp_slots.specs.Systems.{Hands, IsOf, IsOwn, IsTyped, StaysInside, own_of, parameter_count}
 use Rattle.cp_slots.specs.declared.place.ComponentPlace.TheVariants.{Own}
 use Rattle.cp_slots.specs.declared.tables.ComponentKind.TheVariants as kind
 use Rattle.cp_store.specs.declared.memory.Address.TheVariants as address
-use Rattle.cp_machine.specs.Calls.{called, called_by, called_in, continue_at, continue_by, continued_from, continued_in, delay_at, delayed_in, frame_behind, left, opened, start_inside, start_process, started}
+use Rattle.cp_machine.specs.Calls.{open_call, call_by, call_in, continue_at, continue_by, continue_from, continue_in, delay_at, delay_in, frame_behind, leave_frame, open_frame, start_inside, start_process, start_by}
 use Rattle.cp_machine.specs.Machine.{Machine, Thread, is_initialised, is_ready, is_uninitialised, is_unstarted, monitor_at, phase_at, thread_at, with_bindings, with_phase, with_stack, with_thread}
 use Rattle.cp_machine.specs.declared.discipline.Signals.{Signals}
 use Rattle.cp_machine.specs.declared.discipline.Signals.TheVariants as signals
@@ -95,17 +95,17 @@ module _ (r : Tables) (m : Machine) (pid : ℕ) (typed : IsTyped r) (fits : Mach
 
   -- ---- calls
 
-  called_going : (routine c : ℕ) (arguments : List Argument) (bounds : List Bound) (slot monitor : Option ℕ) (rest : List Entry) → Executes r m pid c → Runs r m pid own.frame rest → Executing r (called r m pid routine c arguments bounds slot monitor rest)
+  called_going : (routine c : ℕ) (arguments : List Argument) (bounds : List Bound) (slot monitor : Option ℕ) (rest : List Entry) → Executes r m pid c → Runs r m pid own.frame rest → Executing r (open_call r m pid routine c arguments bounds slot monitor rest)
   called_going routine c arguments bounds slot monitor rest executes s =
       let end = Return own.frame slot monitor in
-      let n = opened r m pid routine c end rest in
+      let n = open_frame r m pid routine c end rest in
       let runs = rest_runs r m pid (frame_behind r own routine c) (routine_at r routine).body (end ∷ rest) ((executes, s.0), s.1) in
-      memory_executes r n pid (bound_in_frame (memory_at n pid) (thread_at n.threads pid).frame arguments bounds) (thread_executes r m pid _ (λ lt. runs) refl h)
+      memory_executes r n pid (bind_frame (memory_at n pid) (thread_at n.threads pid).frame arguments bounds) (thread_executes r m pid _ (λ lt. runs) refl h)
 
-  called_in_going : (k : ComponentKind) (routine c : ℕ) (arguments : List Argument) (bounds : List Bound) (slot : Option ℕ) (rest : List Entry) → (component_at r c).kind ≡ k → is_uninitialised (phase_at m c) ≡ false → Runs r m pid own.frame rest → Going r (called_in r m pid k routine c arguments bounds slot rest)
+  called_in_going : (k : ComponentKind) (routine c : ℕ) (arguments : List Argument) (bounds : List Bound) (slot : Option ℕ) (rest : List Entry) → (component_at r c).kind ≡ k → is_uninitialised (phase_at m c) ≡ false → Runs r m pid own.frame rest → Going r (call_in r m pid k routine c arguments bounds slot rest)
   called_in_going (kind.Monitor monitor) routine c arguments bounds slot rest is begun s =
-      let n = opened r m pid routine c (Return own.frame slot (Some monitor)) rest in
-      let o = called r m pid routine c arguments bounds slot (Some monitor) rest in
+      let n = open_frame r m pid routine c (Return own.frame slot (Some monitor)) rest in
+      let o = open_call r m pid routine c arguments bounds slot (Some monitor) rest in
       let entering : HasStarted n pid = thread_calm m pid _ refl pid ∙ has_started in
       let inside : HasStarted o pid = thread_calm n pid _ refl pid ∙ entering in
       let executes : Executes r m pid c = subst (ExecutesAs m pid c) (sym is) begun in
@@ -114,7 +114,7 @@ module _ (r : Tables) (m : Machine) (pid : ℕ) (typed : IsTyped r) (fits : Mach
       called_going routine c arguments bounds slot None rest (subst (ExecutesAs m pid c) (sym is) begun) s
   called_in_going (kind.Process number) routine c arguments bounds slot rest is begun s = stack_going rest s
 
-  pub called_by_going : (line : ℕ) (is_entry : Bool) (routine c : ℕ) (place : ComponentPlace) (arguments : List Argument) (bounds : List Bound) (slot : Option ℕ) (rest : List Entry) → StaysInside is_entry place → component_of m pid place ≡ Ok c → Executes r m pid own.frame.component → Runs r m pid own.frame rest → Going r (called_by r m pid line is_entry routine c arguments bounds slot rest)
+  pub called_by_going : (line : ℕ) (is_entry : Bool) (routine c : ℕ) (place : ComponentPlace) (arguments : List Argument) (bounds : List Bound) (slot : Option ℕ) (rest : List Entry) → StaysInside is_entry place → component_of m pid place ≡ Ok c → Executes r m pid own.frame.component → Runs r m pid own.frame rest → Going r (call_by r m pid line is_entry routine c arguments bounds slot rest)
   called_by_going line false routine c place arguments bounds slot rest inside is executes s =
       called_going routine c arguments bounds slot None rest (subst (Executes r m pid) (stays m pid place c inside is) executes) s
   called_by_going line true routine c place arguments bounds slot rest inside is executes s =
@@ -122,7 +122,7 @@ module _ (r : Tables) (m : Machine) (pid : ℕ) (typed : IsTyped r) (fits : Mach
 
   -- ---- queues
 
-  delayed_in_going : (line cell : ℕ) (k : ComponentKind) (rest : List Entry) → Runs r m pid own.frame rest → Going r (delayed_in m pid line cell k rest)
+  delayed_in_going : (line cell : ℕ) (k : ComponentKind) (rest : List Entry) → Runs r m pid own.frame rest → Going r (delay_in m pid line cell k rest)
   delayed_in_going line cell (kind.Monitor monitor) rest s =
       let n = with_stack m pid rest in
       let calm : Calm m n = thread_calm m pid _ refl in
@@ -135,17 +135,17 @@ module _ (r : Tables) (m : Machine) (pid : ℕ) (typed : IsTyped r) (fits : Mach
   delay_at_going line rest (address.Local cell) s = stack_going rest s
 
   -- the innermost frame is given up
-  pub left_going : (n : Machine) (caller : Frame) (slot : Option ℕ) (es : List Entry) → Executing r n → Runs r n pid caller es → Executing r (left r n pid caller slot es)
+  pub left_going : (n : Machine) (caller : Frame) (slot : Option ℕ) (es : List Entry) → Executing r n → Runs r n pid caller es → Executing r (leave_frame r n pid caller slot es)
   left_going n caller slot es k s = thread_executes r n pid _ (λ lt. s) refl k
 
-  continued_from_going : (n : Machine) → Executing r n → ((monitor : ℕ) → LineStarted n (monitor_at n monitor).line) → (cell : ℕ) (f : Frame) (es : List Entry) → Runs r n pid f es → Going r (continued_from r n pid cell es)
+  continued_from_going : (n : Machine) → Executing r n → ((monitor : ℕ) → LineStarted n (monitor_at n monitor).line) → (cell : ℕ) (f : Frame) (es : List Entry) → Runs r n pid f es → Going r (continue_from r n pid cell es)
   continued_from_going n k line cell f (Return caller slot (Some monitor) ∷ es) s =
-      let o = left r n pid caller slot es in
+      let o = leave_frame r n pid caller slot es in
       let later : Calm n o = thread_calm n pid _ refl in
       continued_executes r o monitor cell (λ q there. (later q ∙ line monitor q there)) (left_going n caller slot es k (s.0.1, s.1))
   continued_from_going n k line cell f _ s = k
 
-  continued_in_going : (cell : ℕ) (k : ComponentKind) (rest : List Entry) → Runs r m pid own.frame rest → Going r (continued_in m pid cell k rest)
+  continued_in_going : (cell : ℕ) (k : ComponentKind) (rest : List Entry) → Runs r m pid own.frame rest → Going r (continue_in m pid cell k rest)
   continued_in_going cell (kind.Monitor monitor) rest s =
       let n = with_stack m pid rest in
       let calm : Calm m n = thread_calm m pid _ refl in
@@ -191,7 +191,7 @@ module _ (r : Tables) (m : Machine) (pid : ℕ) (typed : IsTyped r) (fits : Mach
     start_process_going : (line q : ℕ) → (component_at r c).kind ≡ kind.Process q → Going r (start_process r m pid line q c arguments bounds rest)
     start_process_going line q is =
         let n = with_stack m pid rest in
-        let written : Memory = bound_in_component (memory_at n pid) base arguments bounds in
+        let written : Memory = bind_component (memory_at n pid) base arguments bounds in
         either_going r (is_unstarted (thread_at m.threads q).status) _ _
         (λ e. process_begins r typed (with_memory n pid written) (memory_going rest written s) c of.0 after all_handed.0 all_handed.1 q is)
         h
@@ -202,7 +202,7 @@ module _ (r : Tables) (m : Machine) (pid : ℕ) (typed : IsTyped r) (fits : Mach
     start_inside_going : (line : ℕ) → (is_uninitialised (phase_at Begun c) ≡ false → ExecutesAs Begun pid c (component_at r c).kind) → Going r (start_inside r m pid line routine c arguments bounds rest)
     start_inside_going line inside =
         let end = InitEnd own.frame c in
-        let o = opened r Begun pid routine c end rest in
+        let o = open_frame r Begun pid routine c end rest in
         let there : c < length m.phases = omega (arith, of.0, fits.phases) in
         let begun = initialising_begun (with_bindings m after) c there in
         let keeps : KeepsPhases m Begun = initialising_keeps m c in
@@ -210,9 +210,9 @@ module _ (r : Tables) (m : Machine) (pid : ℕ) (typed : IsTyped r) (fits : Mach
         let runs = rest_runs r Begun pid (frame_behind r own routine c) (routine_at r routine).body (end ∷ rest) ((inside begun, caller.0), (begun, caller.1)) in
         let all = inside_begins r typed m h c of.0 after all_handed.0 all_handed.1 in
         either_going r (is_uninitialised (phase_at m c)) _ _
-        (λ e. memory_executes r o pid (bound_in_component (memory_at o pid) base arguments bounds) (thread_executes r Begun pid _ (λ lt. runs) refl all))
+        (λ e. memory_executes r o pid (bind_component (memory_at o pid) base arguments bounds) (thread_executes r Begun pid _ (λ lt. runs) refl all))
         h
 
-    pub started_going : (line : ℕ) (k : ComponentKind) → (component_at r c).kind ≡ k → Going r (started r m pid line k routine c arguments bounds rest)
+    pub started_going : (line : ℕ) (k : ComponentKind) → (component_at r c).kind ≡ k → Going r (start_by r m pid line k routine c arguments bounds rest)
     started_going line (kind.Process q) is = start_process_going line q is
     started_going line _ is = start_inside_going line (λ begun. subst (ExecutesAs Begun pid c) (sym is) begun)

@@ -1,8 +1,8 @@
 -- What a call or a start names is a component of the routine's system type, and its arguments fit.
 use Rattle.std.proofs.Common.{◌≡◌, ◌∙◌, ℕ, ◌+◌, ◌<◌, ◌≤◌, Bool, List, ◌∷◌, length, Option, true, ap, sym, refl, subst, arith, get_or-set_same}
 use Rattle.cp_machine.proofs.Words.{◌&&◌, length-append, ActionNames, IsOf, Names, own_of, Tables, RoutineView, component_at, item_at, routine_at, system_at, Action}
-use Rattle.cp_machine.proofs.Words.{Call, Start, Item, Argument, ComponentPlace, Bound, Covers, and_left, and_right, Entry, State, frame_behind, opened, Machine, Thread}
-use Rattle.cp_machine.proofs.Words.{machine_of, no_thread, thread_at, under, with_stack, frame_opened, memory_at, rest_of, IsTaken}
+use Rattle.cp_machine.proofs.Words.{Call, Start, Item, Argument, ComponentPlace, Bound, Covers, and_left, and_right, Entry, State, frame_behind, open_frame, Machine, Thread}
+use Rattle.cp_machine.proofs.Words.{machine_of, no_thread, thread_at, under, with_stack, add_frame, memory_at, rest_of, IsTaken}
 use Rattle.std.specs.declared.alloc.Global.{Global}
 use Rattle.std.specs.declared.vec.Vec.{Vec}
 use Rattle.cp_slots.specs.Inside.{action_inside, arguments_inside, binds_from, component_inside, result_inside}
@@ -103,16 +103,16 @@ module _ (r : Tables) (s : State) (pid at : ℕ) (item : Item) (t : IsTaken r s 
 
 -- ---- where what fits is bound
 
--- the frame that is opened is the one that is executed
-pub opened_fits : (r : Tables) (s : State) (n : Machine) (pid routine component : ℕ) (end : Entry) (rest : List Entry) (arguments : List Argument) (bounds : List Bound) → pid < length s.processes.items → n ≡ opened r (machine_of s) pid routine component end rest → FitsNew r (machine_of s) pid routine component arguments bounds → FitsOwn n pid arguments bounds
+-- the frame that is open_frame is the one that is executed
+pub opened_fits : (r : Tables) (s : State) (n : Machine) (pid routine component : ℕ) (end : Entry) (rest : List Entry) (arguments : List Argument) (bounds : List Bound) → pid < length s.processes.items → n ≡ open_frame r (machine_of s) pid routine component end rest → FitsNew r (machine_of s) pid routine component arguments bounds → FitsOwn n pid arguments bounds
 opened_fits r s n pid routine component end rest arguments bounds lt after h =
     let m = machine_of s in
     let t = thread_at m.threads pid in
-    let u : Thread = frame_opened (record t { frame = frame_behind r t routine component; stack = rest_of (routine_at r routine).body (end ∷ rest) }) (routine_at r routine) in
+    let u : Thread = add_frame (record t { frame = frame_behind r t routine component; stack = rest_of (routine_at r routine).body (end ∷ rest) }) (routine_at r routine) in
     let P : Thread → Type 0 = λ x. store.AllFitFrame (record { permanents = m.permanents; cells = x.cells; references = x.references }) x.frame arguments bounds in
     subst (λ k. FitsOwn k pid arguments bounds) (sym after) (subst P (sym (get_or-set_same m.threads pid u no_thread (within s pid lt))) h)
 
--- the parameters of a component fit where the control stack changes, and after a frame that is opened
+-- the parameters of a component fit where the control stack changes, and after a frame that is open_frame
 pub replaced_fits : (r : Tables) (s : State) (n : Machine) (pid component : ℕ) (stack : List Entry) (arguments : List Argument) (bounds : List Bound) → pid < length s.processes.items → n ≡ with_stack (machine_of s) pid stack → FitsComponent r (machine_of s) pid component arguments bounds → FitsComponent r n pid component arguments bounds
 replaced_fits r s n pid component stack arguments bounds lt after h =
     let m = machine_of s in
@@ -120,11 +120,11 @@ replaced_fits r s n pid component stack arguments bounds lt after h =
     let P : Thread → Type 0 = λ x. store.AllFitComponent (record { permanents = m.permanents; cells = x.cells; references = x.references }) m.bindings (component_at r component).base arguments bounds in
     subst (λ k. FitsComponent r k pid component arguments bounds) (sym after) (subst P (sym (get_or-set_same m.threads pid u no_thread (within s pid lt))) h)
 
-pub begun_fits : (r : Tables) (s : State) (n : Machine) (pid routine component : ℕ) (end : Entry) (rest : List Entry) (arguments : List Argument) (bounds : List Bound) → pid < length s.processes.items → n ≡ opened r (machine_of s) pid routine component end rest → FitsComponent r (machine_of s) pid component arguments bounds → FitsComponent r n pid component arguments bounds
+pub begun_fits : (r : Tables) (s : State) (n : Machine) (pid routine component : ℕ) (end : Entry) (rest : List Entry) (arguments : List Argument) (bounds : List Bound) → pid < length s.processes.items → n ≡ open_frame r (machine_of s) pid routine component end rest → FitsComponent r (machine_of s) pid component arguments bounds → FitsComponent r n pid component arguments bounds
 begun_fits r s n pid routine component end rest arguments bounds lt after h =
     let m = machine_of s in
     let t = thread_at m.threads pid in
-    let u : Thread = frame_opened (record t { frame = frame_behind r t routine component; stack = rest_of (routine_at r routine).body (end ∷ rest) }) (routine_at r routine) in
+    let u : Thread = add_frame (record t { frame = frame_behind r t routine component; stack = rest_of (routine_at r routine).body (end ∷ rest) }) (routine_at r routine) in
     let P : Thread → Type 0 = λ x. store.AllFitComponent (record { permanents = m.permanents; cells = x.cells; references = x.references }) m.bindings (component_at r component).base arguments bounds in
     let long = length-append t.cells (routine_at r routine).image in
     let more = components_grow (memory_at m pid) (record { permanents = m.permanents; cells = u.cells; references = u.references }) m.bindings (component_at r component).base arguments bounds (omega arith) (omega (arith, long)) h in

@@ -1,12 +1,12 @@
 -- A step keeps each process inside what was reserved for it.
 use Rattle.std.proofs.Common.{◌≡◌, ℕ, ◌+◌, ◌-◌, ◌<◌, ◌≤◌, ◌∙◌, ◌⊎◌, inl, inr, List, [], ◌∷◌, length, take, Option, Some, None, Result, Ok, Err, Bool, true, false, sym, refl, subst, arith, length-append, if◌then◌else◌}
 use Rattle.cp_machine.proofs.Words.{ℤ, pos, slice_index_or, replicate, cases_lt, IsSound, ListFits, InnerFits, CallFits, KindFits, Argument, Bound, ErrorName, Frame}
-use Rattle.cp_machine.proofs.Words.{Memory, nowhere, onward, Entry, Rest, Successor, Return, InitEnd, Phase, memory_at, with_memory, frame_opened, parameters_bound}
+use Rattle.cp_machine.proofs.Words.{Memory, nowhere, onward, Entry, Rest, Successor, Return, InitEnd, Phase, memory_at, with_memory, add_frame, parameters_bound}
 use Rattle.cp_machine.proofs.Words.{rest_of, from_end, Stepped, with_value, Shown, FrameFits, Follows, StackFits, ThreadFits, MachineFits}
 use Rattle.std.proofs.lemmas.List.{get_or_past, length-set, length-take-le, length-replicate}
 use Rattle.cp_slots.specs.Tables.{Tables, item_at, routine_at, component_at, no_component}
 use Rattle.cp_slots.specs.declared.tables.Component.{Component}
-use Rattle.cp_machine.specs.Calls.{frame_behind, with_result, given_up, left}
+use Rattle.cp_machine.specs.Calls.{frame_behind, with_result, give_up_frame, leave_frame}
 use Rattle.cp_machine.specs.Machine.{Machine, Thread, thread_at, with_bindings, with_phase, with_stack, with_output}
 use Rattle.cp_machine.proofs.rooms.KernelFits.{thread_fits, permanents_fit}
 use Rattle.cp_machine.proofs.StoreLemmas.{Kept, kept_component, length-bindings}
@@ -117,7 +117,7 @@ module _ (r : Tables) (t : Thread) (h : ThreadFits r t) (routine component : ℕ
       }
 
   -- the frame is opened, and its end stands above the rest of the caller
-  pub opened_thread : (end : Entry) (rest : List Entry) (n : ℕ) → length rest ≤ n + 1 → n + 1 + need ≤ r.depth → StackFits r (frame_behind r t routine component) (end ∷ rest) → ThreadFits r (frame_opened (record t { frame = frame_behind r t routine component; stack = rest_of (routine_at r routine).body (end ∷ rest) }) (routine_at r routine))
+  pub opened_thread : (end : Entry) (rest : List Entry) (n : ℕ) → length rest ≤ n + 1 → n + 1 + need ≤ r.depth → StackFits r (frame_behind r t routine component) (end ∷ rest) → ThreadFits r (add_frame (record t { frame = frame_behind r t routine component; stack = rest_of (routine_at r routine).body (end ∷ rest) }) (routine_at r routine))
   opened_thread end rest n few deep s =
       let two : 2 ≤ need = c.deep in
       record {
@@ -130,7 +130,7 @@ result_length : (slot : Option ℕ) (z : ℤ) (caller : Frame) (cells : List ℤ
 result_length None z caller cells = refl
 result_length (Some slot) z caller cells = length-set cells _ z
 
-given_up_fits : (r : Tables) (t : Thread) (caller : Frame) (slot : Option ℕ) (es : List Entry) → ThreadFits r t → Follows r t.frame caller → StackFits r caller es → ThreadFits r (given_up r t caller slot es)
+given_up_fits : (r : Tables) (t : Thread) (caller : Frame) (slot : Option ℕ) (es : List Entry) → ThreadFits r t → Follows r t.frame caller → StackFits r caller es → ThreadFits r (give_up_frame r t caller slot es)
 given_up_fits r t caller slot es h f s =
     let z = slice_index_or t.cells (onward t.frame.base (routine_at r t.frame.routine).result) (pos 0) in
     record {
@@ -139,5 +139,5 @@ given_up_fits r t caller slot es h f s =
       references = omega (arith, length-take-le t.frame.references t.references (omega (arith, h.references)), f.references);
     }
 
-pub left_fits : (r : Tables) (m : Machine) (pid : ℕ) (caller : Frame) (slot : Option ℕ) (es : List Entry) → Follows r (thread_at m.threads pid).frame caller → StackFits r caller es → MachineFits r m → MachineFits r (left r m pid caller slot es)
+pub left_fits : (r : Tables) (m : Machine) (pid : ℕ) (caller : Frame) (slot : Option ℕ) (es : List Entry) → Follows r (thread_at m.threads pid).frame caller → StackFits r caller es → MachineFits r m → MachineFits r (leave_frame r m pid caller slot es)
 left_fits r m pid caller slot es f s h = thread_fits r m pid _ (λ lt. given_up_fits r (thread_at m.threads pid) caller slot es (h.each pid lt) f s) h

@@ -1,9 +1,9 @@
 -- A step keeps each process inside what was reserved for it.
 use Rattle.std.proofs.Common.{◌≡◌, ℕ, ◌<◌, ◌≤◌, List, [], ◌∷◌, length, Option, Some, None, Result, Ok, Err, if◌then◌else◌, Bool, true, false, refl, subst, arith}
-use Rattle.cp_machine.proofs.Words.{ℤ, ◌==◌, int_eq, Tables, item_at, component_at, IsSound, ListFits, InnerFits, ActionFits, Action, ErrorName, ranged}
+use Rattle.cp_machine.proofs.Words.{ℤ, ◌==◌, int_eq, Tables, item_at, component_at, IsSound, ListFits, InnerFits, ActionFits, Action, ErrorName, check_range}
 use Rattle.cp_machine.proofs.Words.{is_true, Entry, Rest, Successor, Return, InitEnd, Ended, Initialised, MOST_SHOWN, StackFits, MachineFits, EntryFits}
 use Rattle.cp_machine.proofs.Words.{Machine, thread_at, with_stack, value_of, set_of, address_of, component_of, arguments_of, rest_of, arm_for, is_beyond}
-use Rattle.cp_machine.proofs.Words.{next_value, succeeded, local, fault, with_value, act, take_top, step_at}
+use Rattle.cp_machine.proofs.Words.{next_value, successor_step, local, fault, with_value, act, take_top, step_at}
 use Rattle.cp_slots.specs.declared.item.Action.TheVariants.{Empty, Assign, AssignSet, Copy, Block, If, Case, Assert, While, Until, For, Cycle, Call, Start, Delay, Continue, Display}
 use Rattle.cp_store.specs.Sets as sets
 use Rattle.cp_machine.proofs.rooms.Keeping.{Fit, value_fits, either_fits, either_stack, stack_fits, phase_fits, output_fits, memory_fits, left_fits}
@@ -34,11 +34,11 @@ module _ (r : Tables) (m : Machine) (pid : ℕ) (lt : pid < length m.threads) (s
   act_fits (Assign target value low high) a =
       value_fits r (value_of m pid value) _ _ (λ e. h) (λ v.
       value_fits r (address_of m pid target) _ _ (λ e. h) (λ p.
-      value_fits r (ranged low high v) _ _ (λ e. h) (λ w. memory_fits r _ pid _ (kept_number _ p w) going)))
+      value_fits r (check_range low high v) _ _ (λ e. h) (λ w. memory_fits r _ pid _ (kept_number _ p w) going)))
   act_fits (AssignSet target value low high) a =
       value_fits r (set_of m pid value) _ _ (λ e. h) (λ v.
       value_fits r (address_of m pid target) _ _ (λ e. h) (λ p.
-      value_fits r (sets.ranged low high v) _ _ (λ e. h) (λ w. memory_fits r _ pid _ (kept_set _ p w) going)))
+      value_fits r (sets.check_members low high v) _ _ (λ e. h) (λ w. memory_fits r _ pid _ (kept_set _ p w) going)))
   act_fits (Copy target source size) a =
       value_fits r (address_of m pid source) _ _ (λ e. h) (λ from.
       value_fits r (address_of m pid target) _ _ (λ e. h) (λ to. memory_fits r _ pid _ (kept_copy _ to from size) going))
@@ -61,7 +61,7 @@ module _ (r : Tables) (m : Machine) (pid : ℕ) (lt : pid < length m.threads) (s
       value_fits r (value_of m pid first) _ _ (λ e. h) (λ x.
       value_fits r (value_of m pid last) _ _ (λ e. h) (λ y.
       either_fits r (is_beyond down x y) _ _ going
-      (value_fits r (ranged low high x) _ _ (λ e. h) (λ z. goes_fits r m pid lt sound h at variable list es (item_at r at).need z y a s.0.deep s))))
+      (value_fits r (check_range low high x) _ _ (λ e. h) (λ z. goes_fits r m pid lt sound h at variable list es (item_at r at).need z y a s.0.deep s))))
   act_fits (Cycle list) a = stack_fits r m pid _ (with_again list at a (let same : (item_at r at).need ≤ (item_at r at).need = omega arith in record { place = s.0.nests.place; same = s.0.nests.same; fits = same })) h
   act_fits (Call routine component is_entry arguments slot) a =
       value_fits r (component_of m pid component) _ _ (λ e. h) (λ c.
@@ -75,7 +75,7 @@ module _ (r : Tables) (m : Machine) (pid : ℕ) (lt : pid < length m.threads) (s
   act_fits (Display value kind) a =
       value_fits r (value_of m pid value) _ _ (λ e. h) (λ v. either_fits r (length m.output == MOST_SHOWN) _ _ h (output_fits r _ _ going))
 
-  successor_fits : (a : Action) → Fits a → (z last : ℤ) → Fit r (succeeded m pid at (item_at r at) a es z last)
+  successor_fits : (a : Action) → Fits a → (z last : ℤ) → Fit r (successor_step m pid at (item_at r at) a es z last)
   successor_fits (For variable low high first end down list) a z last =
       either_fits r (int_eq z last) _ _ going
       (value_fits r (next_value down low high z) _ _ (λ e. h) (λ w. goes_fits r m pid lt sound h at variable list es (item_at r at).need w last a s.0.deep s))

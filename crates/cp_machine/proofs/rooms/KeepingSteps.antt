@@ -5,7 +5,7 @@ use Rattle.cp_machine.proofs.Words.{ResolvedArm, Argument, PlaceOrigin, Componen
 use Rattle.cp_machine.proofs.Words.{InitEnd, Ready, Initialising, StackFits, MachineFits, rest_of, from_end}
 use Rattle.cp_slots.specs.declared.tables.ComponentKind.TheVariants as kind
 use Rattle.cp_store.specs.declared.memory.Address.TheVariants as address
-use Rattle.cp_machine.specs.Calls.{called, called_in, called_by, start_inside, started, delayed_in, delay_at, continued_from, continued_in, continue_by, continue_at}
+use Rattle.cp_machine.specs.Calls.{open_call, call_in, call_by, start_inside, start_by, delay_in, delay_at, continue_from, continue_in, continue_by, continue_at}
 use Rattle.cp_machine.specs.declared.discipline.Signals.{Signals}
 use Rattle.cp_machine.specs.declared.discipline.Signals.TheVariants as signals
 use Rattle.cp_machine.specs.Machine.{Machine, Thread, thread_at, no_thread, phase_at, is_initialised, is_uninitialised, is_unstarted, with_stack}
@@ -50,7 +50,7 @@ module _ (r : Tables) (m : Machine) (pid : ℕ) (lt : pid < length m.threads) (s
         let one : length (Rest again ∷ es) ≤ length es + 1 = omega arith in
         inner_fits r own.frame list (item_at r at).need (length es) _ i one s.0.deep (rest_fits r own.frame (Some again) (item_at r at).need es a s.0.deep s.1)
 
-    called_fits : (routine component : ℕ) (arguments : List Argument) (bounds : List Bound) (slot monitor : Option ℕ) → CallFits r own.frame.routine (item_at r at).need routine arguments → IfSome monitor (λ number. number < r.monitors) → MachineFits r (called r m pid routine component arguments bounds slot monitor (rest_of (item_at r at).next es))
+    called_fits : (routine component : ℕ) (arguments : List Argument) (bounds : List Bound) (slot monitor : Option ℕ) → CallFits r own.frame.routine (item_at r at).need routine arguments → IfSome monitor (λ number. number < r.monitors) → MachineFits r (open_call r m pid routine component arguments bounds slot monitor (rest_of (item_at r at).next es))
     called_fits routine component arguments bounds slot monitor c inside =
         let follows = behind_follows r own (h.each pid lt) routine component (item_at r at).need arguments c in
         let few = length_rest (item_at r at).next es in
@@ -59,12 +59,12 @@ module _ (r : Tables) (m : Machine) (pid : ℕ) (lt : pid < length m.threads) (s
         let t = opened_thread r own (h.each pid lt) routine component (item_at r at).need arguments c (Return own.frame slot monitor) (rest_of (item_at r at).next es) (length es) few s.0.deep (follows, room, inside, next_fits) in
         memory_fits r _ pid _ (kept_frame _ _ arguments bounds) (thread_fits r m pid _ (λ l. t) h)
 
-    called_in_fits : (k : ComponentKind) (routine component : ℕ) (arguments : List Argument) (bounds : List Bound) (slot : Option ℕ) → KindFits r k → CallFits r own.frame.routine (item_at r at).need routine arguments → Fit r (called_in r m pid k routine component arguments bounds slot (rest_of (item_at r at).next es))
+    called_in_fits : (k : ComponentKind) (routine component : ℕ) (arguments : List Argument) (bounds : List Bound) (slot : Option ℕ) → KindFits r k → CallFits r own.frame.routine (item_at r at).need routine arguments → Fit r (call_in r m pid k routine component arguments bounds slot (rest_of (item_at r at).next es))
     called_in_fits (kind.Monitor monitor) routine component arguments bounds slot inside c = entered_fits r _ pid monitor (called_fits routine component arguments bounds slot (Some monitor) c inside)
     called_in_fits kind.Class routine component arguments bounds slot inside c = called_fits routine component arguments bounds slot None c tt
     called_in_fits (kind.Process number) routine component arguments bounds slot inside c = next_machine
 
-    pub called_by_fits : (is_entry : Bool) (routine component : ℕ) (arguments : List Argument) (bounds : List Bound) (slot : Option ℕ) → CallFits r own.frame.routine (item_at r at).need routine arguments → Fit r (called_by r m pid (item_at r at).line is_entry routine component arguments bounds slot (rest_of (item_at r at).next es))
+    pub called_by_fits : (is_entry : Bool) (routine component : ℕ) (arguments : List Argument) (bounds : List Bound) (slot : Option ℕ) → CallFits r own.frame.routine (item_at r at).need routine arguments → Fit r (call_by r m pid (item_at r at).line is_entry routine component arguments bounds slot (rest_of (item_at r at).next es))
     called_by_fits false routine component arguments bounds slot c = called_fits routine component arguments bounds slot None c tt
     called_by_fits true routine component arguments bounds slot c =
         either_fits r (is_initialised (phase_at m component)) _ _ (called_in_fits (component_at r component).kind routine component arguments bounds slot (kind_fits r component sound) c) h
@@ -78,12 +78,12 @@ module _ (r : Tables) (m : Machine) (pid : ℕ) (lt : pid < length m.threads) (s
         let t = opened_thread r own (h.each pid lt) routine component (item_at r at).need arguments c (InitEnd own.frame component) (rest_of (item_at r at).next es) (length es) few s.0.deep (follows, room, next_fits) in
         either_fits r (is_uninitialised (phase_at m component)) _ _ (phase_fits r _ component Initialising (parameters_fit r _ pid _ arguments bounds (thread_fits r m pid _ (λ l. t) h))) h
 
-    pub started_fits : (k : ComponentKind) (routine component : ℕ) (arguments : List Argument) (bounds : List Bound) → CallFits r own.frame.routine (item_at r at).need routine arguments → Fit r (started r m pid (item_at r at).line k routine component arguments bounds (rest_of (item_at r at).next es))
+    pub started_fits : (k : ComponentKind) (routine component : ℕ) (arguments : List Argument) (bounds : List Bound) → CallFits r own.frame.routine (item_at r at).need routine arguments → Fit r (start_by r m pid (item_at r at).line k routine component arguments bounds (rest_of (item_at r at).next es))
     started_fits (kind.Process q) routine component arguments bounds c =
         either_fits r (is_unstarted (thread_at m.threads q).status) _ _ (status_fits r _ q Ready (parameters_fit r _ pid _ arguments bounds next_machine)) h
     started_fits _ routine component arguments bounds c = start_inside_fits routine component arguments bounds c
 
-    delayed_in_fits : (cell : ℕ) (k : ComponentKind) → KindFits r k → Fit r (delayed_in m pid (item_at r at).line cell k (rest_of (item_at r at).next es))
+    delayed_in_fits : (cell : ℕ) (k : ComponentKind) → KindFits r k → Fit r (delay_in m pid (item_at r at).line cell k (rest_of (item_at r at).next es))
     delayed_in_fits cell (kind.Monitor monitor) inside =
         either_fits r (is_true (slice_index_or m.permanents cell (pos 0))) _ _ h (delayed_fits r _ pid monitor cell next_machine inside)
     delayed_in_fits cell _ inside = next_machine
@@ -92,7 +92,7 @@ module _ (r : Tables) (m : Machine) (pid : ℕ) (lt : pid < length m.threads) (s
     delay_at_fits (address.Permanent cell) = delayed_in_fits cell _ (kind_fits r own.frame.component sound)
     delay_at_fits (address.Local cell) = next_machine
 
-continued_from_fits : (r : Tables) (m : Machine) (pid cell : ℕ) (es : List Entry) → StackFits r (thread_at m.threads pid).frame es → MachineFits r m → Fit r (continued_from r m pid cell es)
+continued_from_fits : (r : Tables) (m : Machine) (pid cell : ℕ) (es : List Entry) → StackFits r (thread_at m.threads pid).frame es → MachineFits r m → Fit r (continue_from r m pid cell es)
 continued_from_fits r m pid cell (Return caller slot (Some monitor) ∷ es) s h = continued_fits r _ monitor cell (left_fits r m pid caller slot es s.0 s.3 h) s.2
 continued_from_fits r m pid cell _ s h = h
 
@@ -100,7 +100,7 @@ continued_from_fits r m pid cell _ s h = h
 pub frame_kept : (m : Machine) (pid : ℕ) (stack : List Entry) → pid < length m.threads → (thread_at (with_stack m pid stack).threads pid).frame ≡ (thread_at m.threads pid).frame
 frame_kept m pid stack lt = ap (λ t. t.frame) (get_or-set_same m.threads pid (record (thread_at m.threads pid) { stack = stack }) no_thread lt)
 
-continued_in_fits : (r : Tables) (m : Machine) (pid cell : ℕ) (k : ComponentKind) (rest : List Entry) → MachineFits r m → StackFits r (thread_at m.threads pid).frame rest → Fit r (continued_in m pid cell k rest)
+continued_in_fits : (r : Tables) (m : Machine) (pid cell : ℕ) (k : ComponentKind) (rest : List Entry) → MachineFits r m → StackFits r (thread_at m.threads pid).frame rest → Fit r (continue_in m pid cell k rest)
 continued_in_fits r m pid cell (kind.Monitor monitor) rest h n = signalled_fits r _ pid monitor cell (stack_fits r m pid rest n h)
 continued_in_fits r m pid cell kind.Class rest h n = stack_fits r m pid rest n h
 continued_in_fits r m pid cell (kind.Process number) rest h n = stack_fits r m pid rest n h

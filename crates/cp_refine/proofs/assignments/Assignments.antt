@@ -31,7 +31,7 @@ module _ (g : Ground) (p : Program) (l : Layouts) (s : State) (m : Machine) (q a
   line = slice_index g.lines token
 
   in_range : (place : Place) (a : Address) (z : ℤ) (o : Option ℕ) → o ≡ mid → PlaceAt g.tables l fs place (ordinal range) a →
-      StepIs g p l q line (settled p s q (assigned (view_of p s q) (record { place = place; ty = ordinal range }) (number_value z) >>= λ u. becomes u (xs ++ ys))) (statements.assigned m q line range.low range.high (rest_of o es) z a)
+      StepIs g p l q line (settled p s q (assigned (view_of p s q) (record { place = place; ty = ordinal range }) (number_value z) >>= λ u. becomes u (xs ++ ys))) (statements.assign_number m q line range.low range.high (rest_of o es) z a)
   in_range place a z o n h = go (is_within range z) refl
     where
       go : (b : Bool) → is_within range z ≡ b →
@@ -42,14 +42,14 @@ module _ (g : Ground) (p : Program) (l : Layouts) (s : State) (m : Machine) (q a
 
   outcomes : (t : Ty) (o : Outcome Typed) (r : Result ℤ slots.ErrorName) (w : Outcome Target) (a : Result Address slots.ErrorName) (n : Option ℕ) → n ≡ mid → OrdinalAgrees o t r → TargetAgrees g.tables l fs w (ordinal range) a →
       StepIs g p l q line (settled p s q (o >>= λ x. w >>= λ y. assigned (view_of p s q) y x.value >>= λ u. becomes u (xs ++ ys)))
-      (statements.with_value r (statements.fault m q line) (λ v. statements.with_value a (statements.fault m q line) (statements.assigned m q line range.low range.high (rest_of n es) v)))
+      (statements.with_value r (statements.fault m q line) (λ v. statements.with_value a (statements.fault m q line) (statements.assign_number m q line range.low range.high (rest_of n es) v)))
   outcomes t (Err b) (Err c) w a n i h j = fails g p l s m q at (statement_item (assign token d e)) mid es xs ys k line b c h
   outcomes t (Ok x) (Ok z) (Err b) (Err c) n i h j = fails g p l s m q at (statement_item (assign token d e)) mid es xs ys k line b c j
   outcomes t (Ok x) (Ok z) (Err b) (Ok a) n i h j = absurd j
   outcomes t (Ok x) (Ok z) (Ok y) (Err c) n i h j = absurd j
   outcomes t (Ok x) (Ok z) (Ok y) (Ok a) n i h j =
-      subst (λ (v : Value). StepIs g p l q line (settled p s q (assigned (view_of p s q) y v >>= λ u. becomes u (xs ++ ys))) (statements.assigned m q line range.low range.high (rest_of n es) z a)) (sym h.1)
-      (subst (λ (u : Ty). StepIs g p l q line (settled p s q (assigned (view_of p s q) (record { place = y.place; ty = u }) (number_value z) >>= λ v. becomes v (xs ++ ys))) (statements.assigned m q line range.low range.high (rest_of n es) z a)) (sym j.0) (in_range y.place a z n i j.1))
+      subst (λ (v : Value). StepIs g p l q line (settled p s q (assigned (view_of p s q) y v >>= λ u. becomes u (xs ++ ys))) (statements.assign_number m q line range.low range.high (rest_of n es) z a)) (sym h.1)
+      (subst (λ (u : Ty). StepIs g p l q line (settled p s q (assigned (view_of p s q) (record { place = y.place; ty = u }) (number_value z) >>= λ v. becomes v (xs ++ ys))) (statements.assign_number m q line range.low range.high (rest_of n es) z a)) (sym j.0) (in_range y.place a z n i j.1))
   outcomes t _ _ w a n i h j = absurd h
 
 -- the whole step, for any variable that is found
@@ -65,9 +65,9 @@ assign_runs g p l s m q at token d e mid es xs ys k ex range t c spot item targe
     acts g p l s m q at (statement_item (assign token d e)) mid es xs ys k (slice_index g.lines token) token (code.assign spot c range.low range.high) (action.Assign a.0 a.1 range.low range.high) _ item a.2
     (λ it n w.
     subst (λ (j : ℕ). StepIs g p l q (slice_index g.lines token) result (statements.assign m q j a.0 a.1 range.low range.high (rest_of it.next es))) (sym w)
-    (subst (λ (r : Result ℤ slots.ErrorName). StepIs g p l q (slice_index g.lines token) result (statements.with_value r (statements.fault m q (slice_index g.lines token)) (λ v. statements.with_value (address_of m q a.0) (statements.fault m q (slice_index g.lines token)) (statements.assigned m q (slice_index g.lines token) range.low range.high (rest_of it.next es) v))))
+    (subst (λ (r : Result ℤ slots.ErrorName). StepIs g p l q (slice_index g.lines token) result (statements.with_value r (statements.fault m q (slice_index g.lines token)) (λ v. statements.with_value (address_of m q a.0) (statements.fault m q (slice_index g.lines token)) (statements.assign_number m q (slice_index g.lines token) range.low range.high (rest_of it.next es) v))))
     (sym (views_agree.value (memory_at m q) (thread_at m.threads q).frame a.1 ∙ ap (plain_value (memory_at m q) (thread_at m.threads q).frame) a.4))
-    (subst (λ (r : Result Address slots.ErrorName). StepIs g p l q (slice_index g.lines token) result (statements.with_value (plain_value (memory_at m q) (thread_at m.threads q).frame c) (statements.fault m q (slice_index g.lines token)) (λ v. statements.with_value r (statements.fault m q (slice_index g.lines token)) (statements.assigned m q (slice_index g.lines token) range.low range.high (rest_of it.next es) v))))
+    (subst (λ (r : Result Address slots.ErrorName). StepIs g p l q (slice_index g.lines token) result (statements.with_value (plain_value (memory_at m q) (thread_at m.threads q).frame c) (statements.fault m q (slice_index g.lines token)) (λ v. statements.with_value r (statements.fault m q (slice_index g.lines token)) (statements.assign_number m q (slice_index g.lines token) range.low range.high (rest_of it.next es) v))))
     (sym (views_agree.place (memory_at m q) (thread_at m.threads q).frame a.0 ∙ ap (plain_address (memory_at m q) (thread_at m.threads q).frame) a.3))
     (outcomes g p l s m q at token d e mid es xs ys k range fs success t (value (view_of p s q) e) (plain_value (memory_at m q) (thread_at m.threads q).frame c) (target_value (view_of p s q) d) (plain_address (memory_at m q) (thread_at m.threads q).frame spot) it.next n
     (expression_ok g.tables l fs (view_of p s q) (memory_at m q) (thread_at m.threads q).frame this sees e (record { ty = t; form = as_ordinal c }) (kept_right this (designator_calls this.scope d) (expression_calls this.scope e) k.kept) formed)

@@ -1,7 +1,7 @@
 -- Cells that are written one after the other: a set, and the copy of an array or a record.
 use Rattle.std.proofs.Common.{◌≡◌, ◌≢◌, ◌∙◌, ℕ, zero, suc, ◌+◌, ◌*◌, ◌-◌, ◌/◌, ◌%◌, ◌^◌, ◌<◌, ◌≤◌, ◌⊎◌, inl, inr, List, [], ◌∷◌, Some, ap, sym, refl, subst, arith, length, get_or}
 use Rattle.cp_refine.proofs.Words.{ℤ, pos, slice_index_or, cases_lt, Address, Permanent, Local, HasCells, Ty, Value, Choice, with_part, cells_of, encode, set_cells}
-use Rattle.cp_refine.proofs.Words.{HasType, chosen_at, Few, further, LiesAt, Memory, cell_at, moved, put_number, put_copy}
+use Rattle.cp_refine.proofs.Words.{HasType, chosen_at, Few, further, LiesAt, Memory, cell_at, address_onward, put_number, put_copy}
 use Rattle.std.specs.Int.{cast_signed, w16}
 use Rattle.cp_store.specs.Sets.{put_word, put_pair, put_quad, put_set}
 use Rattle.cp_refine.specs.Given.{OthersKept, PutsBlock}
@@ -76,35 +76,35 @@ pub copy_writes : (m : Memory) (to from : Address) (ws : List ℤ) (size n : ℕ
 copy_writes m to from ws size zero few has source lies reads le = none_written m to ws
 copy_writes m to from ws size (suc n) few has source lies reads le =
     let ih = copy_writes m to from ws size n few has source lies reads (omega (arith, le)) in
-    let read : cell_at (put_copy m to from n) (moved from n) ≡ slice_index_or ws n (pos 0) =
+    let read : cell_at (put_copy m to from n) (address_onward from n) ≡ slice_index_or ws n (pos 0) =
     ap (cell_at (put_copy m to from n)) (moved_on m from size n few source (omega (arith, le))) ∙ (ih.there (further from n) (λ i less. reads i n less (omega (arith, le))) ∙ lies n (omega (arith, le))) in
-    subst (λ (b : Address). WritesFirst m (put_number (put_copy m to from n) b (cell_at (put_copy m to from n) (moved from n))) to ws (suc n)) (sym (moved_on m to size n few has (omega (arith, le))))
-    (one_written m (put_copy m to from n) to ws n size (cell_at (put_copy m to from n) (moved from n)) ih has (omega (arith, le)) (sym read))
+    subst (λ (b : Address). WritesFirst m (put_number (put_copy m to from n) b (cell_at (put_copy m to from n) (address_onward from n))) to ws (suc n)) (sym (moved_on m to size n few has (omega (arith, le))))
+    (one_written m (put_copy m to from n) to ws n size (cell_at (put_copy m to from n) (address_onward from n)) ih has (omega (arith, le)) (sym read))
 
 -- ---- a set
 
-pair_put : (m : Memory) (at a0 a1 : Address) (x y0 y1 : ℕ) → at ≡ a0 → moved at 1 ≡ a1 → x % 2 ^ 16 ≡ y0 → x / 2 ^ 16 ≡ y1 → put_pair m at x ≡ put_word (put_word m a0 y0) a1 y1
+pair_put : (m : Memory) (at a0 a1 : Address) (x y0 y1 : ℕ) → at ≡ a0 → address_onward at 1 ≡ a1 → x % 2 ^ 16 ≡ y0 → x / 2 ^ 16 ≡ y1 → put_pair m at x ≡ put_word (put_word m a0 y0) a1 y1
 pair_put m at a0 a1 x y0 y1 e0 e1 d0 d1 =
-    ap (λ b. put_word (put_word m b (x % 2 ^ 16)) (moved at 1) (x / 2 ^ 16)) e0 ∙ (ap (λ b. put_word (put_word m a0 (x % 2 ^ 16)) b (x / 2 ^ 16)) e1
+    ap (λ b. put_word (put_word m b (x % 2 ^ 16)) (address_onward at 1) (x / 2 ^ 16)) e0 ∙ (ap (λ b. put_word (put_word m a0 (x % 2 ^ 16)) b (x / 2 ^ 16)) e1
     ∙ (ap (λ y. put_word (put_word m a0 y) a1 (x / 2 ^ 16)) d0 ∙ ap (λ y. put_word (put_word m a0 y0) a1 y) d1))
 
 abbrev four : Memory → (a0 a1 a2 a3 : Address) → (y0 y1 y2 y3 : ℕ) → Memory
 four m a0 a1 a2 a3 y0 y1 y2 y3 = put_word (put_word (put_word (put_word m a0 y0) a1 y1) a2 y2) a3 y3
 
-quad_put : (m : Memory) (at a0 a1 a2 a3 : Address) (x y0 y1 y2 y3 : ℕ) → at ≡ a0 → moved at 1 ≡ a1 → moved at 2 ≡ a2 → moved (moved at 2) 1 ≡ a3 →
+quad_put : (m : Memory) (at a0 a1 a2 a3 : Address) (x y0 y1 y2 y3 : ℕ) → at ≡ a0 → address_onward at 1 ≡ a1 → address_onward at 2 ≡ a2 → address_onward (address_onward at 2) 1 ≡ a3 →
     (x % 2 ^ 32) % 2 ^ 16 ≡ y0 → (x % 2 ^ 32) / 2 ^ 16 ≡ y1 → (x / 2 ^ 32) % 2 ^ 16 ≡ y2 → (x / 2 ^ 32) / 2 ^ 16 ≡ y3 → put_quad m at x ≡ four m a0 a1 a2 a3 y0 y1 y2 y3
 quad_put m at a0 a1 a2 a3 x y0 y1 y2 y3 e0 e1 e2 e3 d0 d1 d2 d3 =
-    ap (λ k. put_pair k (moved at 2) (x / 2 ^ 32)) (pair_put m at a0 a1 (x % 2 ^ 32) y0 y1 e0 e1 d0 d1) ∙ pair_put (put_word (put_word m a0 y0) a1 y1) (moved at 2) a2 a3 (x / 2 ^ 32) y2 y3 e2 e3 d2 d3
+    ap (λ k. put_pair k (address_onward at 2) (x / 2 ^ 32)) (pair_put m at a0 a1 (x % 2 ^ 32) y0 y1 e0 e1 d0 d1) ∙ pair_put (put_word (put_word m a0 y0) a1 y1) (address_onward at 2) a2 a3 (x / 2 ^ 32) y2 y3 e2 e3 d2 d3
 
 abbrev word : ℕ → ℕ → ℕ
 word b k = (b / 2 ^ (16 * k)) % 2 ^ 16
 
 module _ (m : Memory) (a : Address) (b : ℕ) (few : Few m) (has : HasCells m a 8) (small : b < 2 ^ 128) where
-  from : (j k n : ℕ) → j + k ≡ n → n ≤ 8 → moved (further a j) k ≡ further a n
+  from : (j k n : ℕ) → j + k ≡ n → n ≤ 8 → address_onward (further a j) k ≡ further a n
   from j k n e le = on_from m a j k few has (omega (arith, e, le)) ∙ ap (further a) e
 
-  to_four : moved a 4 ≡ further a 4
-  to_four = ap (λ c. moved c 4) (sym (no_further a)) ∙ from 0 4 4 refl (omega arith)
+  to_four : address_onward a 4 ≡ further a 4
+  to_four = ap (λ c. address_onward c 4) (sym (no_further a)) ∙ from 0 4 4 refl (omega arith)
 
   abbrev lower : Memory
   lower = four m (further a 0) (further a 1) (further a 2) (further a 3) (word b 0) (word b 1) (word b 2) (word b 3)
@@ -115,17 +115,17 @@ module _ (m : Memory) (a : Address) (b : ℕ) (few : Few m) (has : HasCells m a 
   lower_is : put_quad m a (b % 2 ^ 64) ≡ lower
   lower_is =
       quad_put m a (further a 0) (further a 1) (further a 2) (further a 3) (b % 2 ^ 64) (word b 0) (word b 1) (word b 2) (word b 3) (sym (no_further a))
-      (ap (λ c. moved c 1) (sym (no_further a)) ∙ from 0 1 1 refl (omega arith))
-      (ap (λ c. moved c 2) (sym (no_further a)) ∙ from 0 2 2 refl (omega arith))
-      (ap (λ c. moved (moved c 2) 1) (sym (no_further a)) ∙ (ap (λ c. moved c 1) (from 0 2 2 refl (omega arith)) ∙ from 2 1 3 refl (omega arith)))
+      (ap (λ c. address_onward c 1) (sym (no_further a)) ∙ from 0 1 1 refl (omega arith))
+      (ap (λ c. address_onward c 2) (sym (no_further a)) ∙ from 0 2 2 refl (omega arith))
+      (ap (λ c. address_onward (address_onward c 2) 1) (sym (no_further a)) ∙ (ap (λ c. address_onward c 1) (from 0 2 2 refl (omega arith)) ∙ from 2 1 3 refl (omega arith)))
       (omega arith) (omega arith) (omega arith) (omega arith)
 
   all_is : put_set m a (record { members = b }) ≡ all
   all_is =
-      ap (λ k. put_quad k (moved a 4) (b / 2 ^ 64)) lower_is
+      ap (λ k. put_quad k (address_onward a 4) (b / 2 ^ 64)) lower_is
       ∙ (ap (λ c. put_quad lower c (b / 2 ^ 64)) to_four
       ∙ quad_put lower (further a 4) (further a 4) (further a 5) (further a 6) (further a 7) (b / 2 ^ 64) (word b 4) (word b 5) (word b 6) (word b 7) refl (from 4 1 5 refl (omega arith)) (from 4 2 6 refl (omega arith))
-      (ap (λ c. moved c 1) (from 4 2 6 refl (omega arith)) ∙ from 6 1 7 refl (omega arith)) (omega arith) (omega arith) (omega arith) (omega arith))
+      (ap (λ c. address_onward c 1) (from 4 2 6 refl (omega arith)) ∙ from 6 1 7 refl (omega arith)) (omega arith) (omega arith) (omega arith) (omega arith))
 
   lower_written : WritesFirst m lower a (set_cells b) 4
   lower_written =

@@ -1,6 +1,6 @@
 -- A value of any type that is written into a variable of an open call, or a part of one: all open calls hold what they hold then.
 use Rattle.std.proofs.Common.{◌≡◌, ◌∙◌, ℕ, ◌+◌, ◌<◌, ◌≤◌, ◌==◌, ◌⊎◌, inl, inr, Bool, true, false, if◌then◌else◌, List, [], ◌∷◌, Option, Some, ap, sym, refl, subst, arith, length}
-use Rattle.cp_refine.proofs.Words.{some_same, bytes_eq-Decides, Tables, Local, Frame, Memory, referred, Name, same_name, Ty, Value, Choice, with_part, Content, holds, refers, Place}
+use Rattle.cp_refine.proofs.Words.{some_same, bytes_eq-Decides, Tables, Local, Frame, Memory, reference_at, Name, same_name, Ty, Value, Choice, with_part, Content, holds, refers, Place}
 use Rattle.cp_refine.proofs.Words.{Environment, Call, cells_of, Layouts, cell_named, look, encode, HasType, chosen_at, LiesAt, frame_above, PlaceAt, CallHolds, CallsHold}
 use Rattle.cp_meaning.specs.Places.{content_of, with_content, value_held, call_above, with_environment, with_call_environment}
 use Rattle.cp_refine.proofs.assignments.Blocks.{WritesBlock, block_kept, block_new}
@@ -48,7 +48,7 @@ module _ (r : Tables) (l : Layouts) (size : ℕ → ℕ) (m m2 : Memory) (apart 
         variables = λ x u e. block_kept m m2 (Local a) (encode y) u (value_held (content_of x c.environment)) (Local (f.base + cell_named (l.frames f.routine) x)) writes (h.variables x u e)
             (λ k i less small d. outside (cell_named (l.frames f.routine) x) k i (cells_of u) out ((apart f.routine there).inside x u e) less small (local_is _ _ d));
         plain = h.plain;
-        references = λ x u e. (let w = h.references x u e in (w.0, w.1, subst (λ rs. PlaceAt r l fs w.0 u (referred rs (f.references + cell_named (l.frames f.routine) x))) (sym writes.references) w.2));
+        references = λ x u e. (let w = h.references x u e in (w.0, w.1, subst (λ rs. PlaceAt r l fs w.0 u (reference_at rs (f.references + cell_named (l.frames f.routine) x))) (sym writes.references) w.2));
       }
     where
       outside : (n k i c : ℕ) → (a + cells_of t ≤ f.base) ⊎ (f.base + size f.routine ≤ a) → n + c ≤ size f.routine → k < c → i < length (encode y) → f.base + n + k ≡ a + i → ⊥
@@ -76,7 +76,7 @@ module _ (r : Tables) (l : Layouts) (size : ℕ → ℕ) (m m2 : Memory) (apart 
           plain = λ n v q e d. plain n v q e (same_name n x) refl d;
           references = λ n v e.
               (let w = h.references n v e in
-              (w.0, content_there n x (new_content c.environment) c.environment ((apart f.routine there).different n x v u e known) ∙ w.1, subst (λ rs. PlaceAt r l fs w.0 v (referred rs (f.references + cell_named (l.frames f.routine) n))) (sym writes.references) w.2));
+              (w.0, content_there n x (new_content c.environment) c.environment ((apart f.routine there).different n x v u e known) ∙ w.1, subst (λ rs. PlaceAt r l fs w.0 v (reference_at rs (f.references + cell_named (l.frames f.routine) n))) (sym writes.references) w.2));
         }
       where
         plain : (n : Name) (v : Ty) (q : Place) → look n (l.frames f.routine).variables ≡ Some v → (b : Bool) → same_name n x ≡ b → content_of n (new_for c.environment) ≡ Some (refers q) → ⊥

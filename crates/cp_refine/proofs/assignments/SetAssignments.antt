@@ -60,7 +60,7 @@ module _ (g : Ground) (p : Program) (l : Layouts) (s : State) (m : Machine) (q a
       (set_writes (memory_at m q) a (bits_of ns) ex.few (seen.lies place (set_over range) a h).cells (let w = bits_below 0 ns (omega arith) typed in omega (arith, w))))
 
   in_range : (place : Place) (a : Address) (ns : List ℕ) (o : Option ℕ) → o ≡ mid → PlaceAt g.tables l fs place (set_over range) a → AreMembers 0 ns →
-      StepIs g p l q line (settled p s q (assigned (view_of p s q) (record { place = place; ty = set_over range }) (set_value ns) >>= λ u. becomes u (xs ++ ys))) (statements.set_assigned m q line (natural_of range.low) (natural_of range.high) (rest_of o es) (set_with (bits_of ns)) a)
+      StepIs g p l q line (settled p s q (assigned (view_of p s q) (record { place = place; ty = set_over range }) (set_value ns) >>= λ u. becomes u (xs ++ ys))) (statements.assign_set_value m q line (natural_of range.low) (natural_of range.high) (rest_of o es) (set_with (bits_of ns)) a)
   in_range place a ns o n h typed =
       subst (λ (c : Bool). StepIs g p l q line (settled p s q (assigned (view_of p s q) (record { place = place; ty = set_over range }) (set_value ns) >>= λ u. becomes u (xs ++ ys)))
       (statements.with_value (if c then Ok (set_with (bits_of ns)) else Err error.Range) (statements.fault m q line) (λ w. statements.local (set_put (with_stack m q (rest_of o es)) q a w)))) (set_range_same range ns typed base) (go (names.are_within range ns))
@@ -73,15 +73,15 @@ module _ (g : Ground) (p : Program) (l : Layouts) (s : State) (m : Machine) (q a
 
   outcomes : (t : Ty) (o : Outcome Typed) (r : Result SetValue slots.ErrorName) (w : Outcome Target) (a : Result Address slots.ErrorName) (n : Option ℕ) → n ≡ mid → SetAgrees o t r → TargetAgrees g.tables l fs w (set_over range) a →
       StepIs g p l q line (settled p s q (o >>= λ x. w >>= λ y. assigned (view_of p s q) y x.value >>= λ u. becomes u (xs ++ ys)))
-      (statements.with_value r (statements.fault m q line) (λ v. statements.with_value a (statements.fault m q line) (statements.set_assigned m q line (natural_of range.low) (natural_of range.high) (rest_of n es) v)))
+      (statements.with_value r (statements.fault m q line) (λ v. statements.with_value a (statements.fault m q line) (statements.assign_set_value m q line (natural_of range.low) (natural_of range.high) (rest_of n es) v)))
   outcomes t (Err b) (Err c) w a n i h j = fails g p l s m q at (statement_item (assign token d e)) mid es xs ys k line b c h
   outcomes t (Ok x) (Ok z) (Err b) (Err c) n i h j = fails g p l s m q at (statement_item (assign token d e)) mid es xs ys k line b c j
   outcomes t (Ok x) (Ok z) (Err b) (Ok a) n i h j = absurd j
   outcomes t (Ok x) (Ok z) (Ok y) (Err c) n i h j = absurd j
   outcomes t (Ok x) (Ok z) (Ok y) (Ok a) n i h j =
-      subst (λ (v : SetValue). StepIs g p l q line (settled p s q (assigned (view_of p s q) y x.value >>= λ u. becomes u (xs ++ ys))) (statements.set_assigned m q line (natural_of range.low) (natural_of range.high) (rest_of n es) v a)) (ap set_with (sym h.1.3))
-      (subst (λ (v : Value). StepIs g p l q line (settled p s q (assigned (view_of p s q) y v >>= λ u. becomes u (xs ++ ys))) (statements.set_assigned m q line (natural_of range.low) (natural_of range.high) (rest_of n es) (set_with (bits_of h.1.0)) a)) (sym h.1.1)
-      (subst (λ (u : Ty). StepIs g p l q line (settled p s q (assigned (view_of p s q) (record { place = y.place; ty = u }) (set_value h.1.0) >>= λ v. becomes v (xs ++ ys))) (statements.set_assigned m q line (natural_of range.low) (natural_of range.high) (rest_of n es) (set_with (bits_of h.1.0)) a)) (sym j.0)
+      subst (λ (v : SetValue). StepIs g p l q line (settled p s q (assigned (view_of p s q) y x.value >>= λ u. becomes u (xs ++ ys))) (statements.assign_set_value m q line (natural_of range.low) (natural_of range.high) (rest_of n es) v a)) (ap set_with (sym h.1.3))
+      (subst (λ (v : Value). StepIs g p l q line (settled p s q (assigned (view_of p s q) y v >>= λ u. becomes u (xs ++ ys))) (statements.assign_set_value m q line (natural_of range.low) (natural_of range.high) (rest_of n es) (set_with (bits_of h.1.0)) a)) (sym h.1.1)
+      (subst (λ (u : Ty). StepIs g p l q line (settled p s q (assigned (view_of p s q) (record { place = y.place; ty = u }) (set_value h.1.0) >>= λ v. becomes v (xs ++ ys))) (statements.assign_set_value m q line (natural_of range.low) (natural_of range.high) (rest_of n es) (set_with (bits_of h.1.0)) a)) (sym j.0)
       (in_range y.place a h.1.0 n i j.1 (members_of_type t h.1.0 h.1.2))))
   outcomes t _ _ w a n i h j = absurd h
 
@@ -98,9 +98,9 @@ module _ (g : Ground) (p : Program) (l : Layouts) (s : State) (m : Machine) (q a
       acts g p l s m q at (statement_item (assign token d e)) mid es xs ys k line token (code.assign_set spot c (natural_of range.low) (natural_of range.high)) (action.AssignSet a.0 a.1 (natural_of range.low) (natural_of range.high)) _ item a.2
       (λ it n w.
       subst (λ (j : ℕ). StepIs g p l q line result (statements.assign_set m q j a.0 a.1 (natural_of range.low) (natural_of range.high) (rest_of it.next es))) (sym w)
-      (subst (λ (r : Result SetValue slots.ErrorName). StepIs g p l q line result (statements.with_value r (statements.fault m q line) (λ v. statements.with_value (address_of m q a.0) (statements.fault m q line) (statements.set_assigned m q line (natural_of range.low) (natural_of range.high) (rest_of it.next es) v))))
+      (subst (λ (r : Result SetValue slots.ErrorName). StepIs g p l q line result (statements.with_value r (statements.fault m q line) (λ v. statements.with_value (address_of m q a.0) (statements.fault m q line) (statements.assign_set_value m q line (natural_of range.low) (natural_of range.high) (rest_of it.next es) v))))
       (sym (views_agree.set (memory_at m q) (thread_at m.threads q).frame a.1 ∙ ap (plain_set (memory_at m q) (thread_at m.threads q).frame) a.4))
-      (subst (λ (r : Result Address slots.ErrorName). StepIs g p l q line result (statements.with_value (plain_set (memory_at m q) (thread_at m.threads q).frame c) (statements.fault m q line) (λ v. statements.with_value r (statements.fault m q line) (statements.set_assigned m q line (natural_of range.low) (natural_of range.high) (rest_of it.next es) v))))
+      (subst (λ (r : Result Address slots.ErrorName). StepIs g p l q line result (statements.with_value (plain_set (memory_at m q) (thread_at m.threads q).frame c) (statements.fault m q line) (λ v. statements.with_value r (statements.fault m q line) (statements.assign_set_value m q line (natural_of range.low) (natural_of range.high) (rest_of it.next es) v))))
       (sym (views_agree.place (memory_at m q) (thread_at m.threads q).frame a.0 ∙ ap (plain_address (memory_at m q) (thread_at m.threads q).frame) a.3))
       (outcomes t (value (view_of p s q) e) (plain_set (memory_at m q) (thread_at m.threads q).frame c) (target_value (view_of p s q) d) (plain_address (memory_at m q) (thread_at m.threads q).frame spot) it.next n
       (expression_ok g.tables l fs (view_of p s q) (memory_at m q) (thread_at m.threads q).frame this seen e (record { ty = t; form = as_set c }) (kept_right this (designator_calls this.scope d) (expression_calls this.scope e) k.kept) formed)

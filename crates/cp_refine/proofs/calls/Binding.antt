@@ -1,10 +1,10 @@
 -- The frame of a call, as its parameters are bound: each variable lies in its cells, and each `var` parameter has its place.
 use Rattle.std.proofs.Common.{◌≡◌, ◌≢◌, ◌∙◌, ℕ, ◌+◌, ◌^◌, ◌<◌, ◌≤◌, ◌⊎◌, inl, inr, true, false, List, [], ◌∷◌, Some, ap, sym, refl, subst, arith, length, length-set}
-use Rattle.cp_refine.proofs.Words.{pos, slice_index_or, Argument, Tables, Bound, Address, Permanent, Local, Frame, referred, Name, same_name, Ty, Value, Parameter}
+use Rattle.cp_refine.proofs.Words.{pos, slice_index_or, Argument, Tables, Bound, Address, Permanent, Local, Frame, reference_at, Name, same_name, Ty, Value, Parameter}
 use Rattle.cp_refine.proofs.Words.{Content, holds, refers, knows, Environment, encode, IsOther, AreDifferent, LiesAt, PlaceAt, onward_is, cells_of, Layouts, FrameLayout}
 use Rattle.cp_refine.proofs.Words.{cell_named, look, AreApart, ParameterIs, ParametersAre}
 use Rattle.cp_store.specs.declared.argument.Bound.TheVariants.{Copy, Reference, Component}
-use Rattle.cp_store.specs.Arguments.{put_value, put_in_frame, bound_in_frame}
+use Rattle.cp_store.specs.Arguments.{put_value, put_in_frame, bind_frame}
 use Rattle.cp_store.specs.Memory.{Memory, nowhere, onward, put_reference}
 use Rattle.cp_refine.specs.Given.{PutsBlock, IsValue, Keeps, IsApartFrom, GivesValue, IsBound, AreBound}
 use Rattle.cp_refine.proofs.control.Moving.{set_here, set_there}
@@ -26,7 +26,7 @@ module _ (r : Tables) (l : Layouts) (fs : List Frame) (lay : FrameLayout) (m : M
   pub record Binds (n : Memory) : Type 0 where
     pub permanents : n.permanents ≡ m.permanents
     pub below : (k : ℕ) → k < f.base → slice_index_or n.cells k (pos 0) ≡ slice_index_or m.cells k (pos 0)
-    pub before : (k : ℕ) → k < f.references → referred n.references k ≡ referred m.references k
+    pub before : (k : ℕ) → k < f.references → reference_at n.references k ≡ reference_at m.references k
     pub many : length n.cells ≡ f.base + size
     pub places : length n.references ≡ f.references + count
 
@@ -65,7 +65,7 @@ module _ (r : Tables) (l : Layouts) (fs : List Frame) (lay : FrameLayout) (m : M
       record {
         permanents = put.others ∙ i.permanents;
         below = λ k less. put.there (Local k) (λ j small e. (let d = local_is k (cell_of q + j) e in omega (arith, d, less))) ∙ i.below k less;
-        before = λ k less. ap (λ rs. referred rs k) put.references ∙ i.before k less;
+        before = λ k less. ap (λ rs. reference_at rs k) put.references ∙ i.before k less;
         many = put.cells ∙ i.many;
         places = ap length put.references ∙ i.places;
       }
@@ -101,13 +101,13 @@ module _ (r : Tables) (l : Layouts) (fs : List Frame) (lay : FrameLayout) (m : M
   -- the parameter has what it was bound to
   abbrev pub OneLies : Memory → Parameter → Content → Type 0
   OneLies n q (holds w) = LiesAt n q.ty w (Local (cell_of q))
-  OneLies n q (refers x) = PlaceAt r l fs x q.ty (referred n.references (number_of q))
+  OneLies n q (refers x) = PlaceAt r l fs x q.ty (reference_at n.references (number_of q))
   OneLies n q (knows c) = ⊥
 
   pub record OneBound (q : Parameter) (c : Content) (n n2 : Memory) : Type 0 where
     pub binds : Binds n2
     pub cell : (k : ℕ) → IsFreeCell q c k → slice_index_or n2.cells k (pos 0) ≡ slice_index_or n.cells k (pos 0)
-    pub place : (k : ℕ) → IsFreePlace q c k → referred n2.references k ≡ referred n.references k
+    pub place : (k : ℕ) → IsFreePlace q c k → reference_at n2.references k ≡ reference_at n.references k
     pub lies : OneLies n2 q c
 
   one_bound : (q : Parameter) (c : Content) (b : Bound) (slot : ℕ) (n : Memory) → slot ≡ cell_named lay q.name → Binds n → ParameterIs lay q.is_var q → IsBound r l fs m q c b → OneBound q c n (put_in_frame n f slot b)
@@ -119,7 +119,7 @@ module _ (r : Tables) (l : Layouts) (fs : List Frame) (lay : FrameLayout) (m : M
       record {
         binds = binds;
         cell = λ k free. put.there (Local k) (λ j small e. free j (omega (arith, small, len)) (sym (local_is k (cell_of q + j) e)));
-        place = λ k free. ap (λ rs. referred rs k) put.references;
+        place = λ k free. ap (λ rs. reference_at rs k) put.references;
         lies = record {
           typed = is.1.typed;
           cells = (let e = binds.many in let d = cells q.name q.ty known in omega (arith, e, d));
@@ -187,7 +187,7 @@ module _ (r : Tables) (l : Layouts) (fs : List Frame) (lay : FrameLayout) (m : M
   pub record AllBound (qs : List Parameter) (e : Environment) (n n2 : Memory) : Type 0 where
     pub binds : Binds n2
     pub cell : (k : ℕ) → AreFreeCells qs e k → slice_index_or n2.cells k (pos 0) ≡ slice_index_or n.cells k (pos 0)
-    pub place : (k : ℕ) → AreFreePlaces qs e k → referred n2.references k ≡ referred n.references k
+    pub place : (k : ℕ) → AreFreePlaces qs e k → reference_at n2.references k ≡ reference_at n.references k
     pub lies : AllLie n2 qs e
 
   -- what was bound first stays
@@ -204,7 +204,7 @@ module _ (r : Tables) (l : Layouts) (fs : List Frame) (lay : FrameLayout) (m : M
       subst (λ w. PlaceAt r l fs x q.ty w) (sym (all.place (number_of q) (free_places q.name q.ty qs e xs bs (reference_of q is.0 h) other hs are))) one
   stays_bound q c b qs e xs bs n n2 h is other hs are all one = absurd is
 
-  pub all_bound : (qs : List Parameter) (e : Environment) (xs : List Argument) (bs : List Bound) (n : Memory) → Binds n → ParametersAre lay qs → AreDifferent qs → Given qs e xs bs → AllBound qs e n (bound_in_frame n f xs bs)
+  pub all_bound : (qs : List Parameter) (e : Environment) (xs : List Argument) (bs : List Bound) (n : Memory) → Binds n → ParametersAre lay qs → AreDifferent qs → Given qs e xs bs → AllBound qs e n (bind_frame n f xs bs)
   all_bound [] [] [] [] n i h d is = record { binds = i; cell = λ k free. refl; place = λ k free. refl; lies = tt }
   all_bound (q ∷ qs) (c ∷ e) (x ∷ xs) (b ∷ bs) n i h d is =
       let one = one_bound q c.1 b x.slot n is.1 i h.0 is.2 in
@@ -213,6 +213,6 @@ module _ (r : Tables) (l : Layouts) (fs : List Frame) (lay : FrameLayout) (m : M
         binds = more.binds;
         cell = λ k free. more.cell k free.1 ∙ one.cell k free.0;
         place = λ k free. more.place k free.1 ∙ one.place k free.0;
-        lies = (stays_bound q c.1 b qs e xs bs (put_in_frame n f x.slot b) (bound_in_frame (put_in_frame n f x.slot b) f xs bs) h.0 is.2 d.0 h.1 is.3 more one.lies, more.lies);
+        lies = (stays_bound q c.1 b qs e xs bs (put_in_frame n f x.slot b) (bind_frame (put_in_frame n f x.slot b) f xs bs) h.0 is.2 d.0 h.1 is.3 more one.lies, more.lies);
       }
   all_bound _ _ _ _ n i h d is = absurd is

@@ -90,10 +90,10 @@ module _ (g : Ground) (p : Program) (l : Layouts) (s : State) (m : Machine) (q a
 
     inside_bound : (n : ℕ) → this_component view ≡ n → CanCall g p l m q ci.number n es → (e : Outcome Environment) (r : Result (List Bound) slots.ErrorName) → BoundsAgree (λ e bs. AreBound g.tables l frames (memory_at m q) (cell_named (l.frames ci.number)) routine.parameters e as' bs) e r →
         StepIs g p l q line (settled p s q (e >>= λ b. Ok (opened view (this_component view) local_routine routine o (xs ++ ys) b)))
-        (statements.with_value r (statements.fault m q line) (λ bs. calls.called_by g.tables m q line false ci.number n as' bs slot (rest_of mid es)))
+        (statements.with_value r (statements.fault m q line) (λ bs. calls.call_by g.tables m q line false ci.number n as' bs slot (rest_of mid es)))
     inside_bound n same can (Err e) (Err f) h = fails g p l s m q at i mid es xs ys k line e f h
     inside_bound n same can (Ok e) (Ok bs) h =
-        subst (λ c. StepIs g p l q line (settled p s q (Ok (opened view c local_routine routine o (xs ++ ys) e))) (statements.local (calls.called g.tables m q ci.number n as' bs slot None (rest_of mid es)))) (sym same)
+        subst (λ c. StepIs g p l q line (settled p s q (Ok (opened view c local_routine routine o (xs ++ ys) e))) (statements.local (calls.open_call g.tables m q ci.number n as' bs slot None (rest_of mid es)))) (sym same)
         (called_inside g p l s m q es (goes g p l s m q at i mid es xs ys k) (xs ++ ys) (rest_of mid es) (stack_after g p l s m q at i mid es xs ys k) rest_frames ci.number n can o ci.taken e as' bs h line)
     inside_bound n same can _ _ h = absurd h
 
@@ -118,7 +118,7 @@ module _ (g : Ground) (p : Program) (l : Layouts) (s : State) (m : Machine) (q a
 
       by_kind : (e : Environment) (bs : List Bound) → AreBound g.tables l frames (memory_at m q) (cell_named (l.frames ci.number)) routine.parameters e as' bs →
           (c : ComponentKind) → (component_at g.tables n).kind ≡ c → (a : SystemKind) → SameKind a c →
-          StepIs g p l q line (settled p s q (Ok (entered_as a view n routine o (xs ++ ys) e))) (calls.called_in g.tables m q c ci.number n as' bs slot (rest_of mid es))
+          StepIs g p l q line (settled p s q (Ok (entered_as a view n routine o (xs ++ ys) e))) (calls.call_in g.tables m q c ci.number n as' bs slot (rest_of mid es))
       by_kind e bs h (kind.Monitor j) f system_kind.Monitor w =
           called_monitor g p l s m q es (goes g p l s m q at i mid es xs ys k) (xs ++ ys) (rest_of mid es) (stack_after g p l s m q at i mid es xs ys k) rest_frames ci.number n can o ci.taken e as' bs h j f entry.own (entry.known n j f) (entry.fresh n j is_found f) line
       by_kind e bs h kind.Class f system_kind.Class w =
@@ -131,24 +131,24 @@ module _ (g : Ground) (p : Program) (l : Layouts) (s : State) (m : Machine) (q a
 
       entry_bound : (e : Outcome Environment) (r : Result (List Bound) slots.ErrorName) → BoundsAgree (λ e bs. AreBound g.tables l frames (memory_at m q) (cell_named (l.frames ci.number)) routine.parameters e as' bs) e r →
           StepIs g p l q line (settled p s q (e >>= λ b. if is_initialised (named.component_at s.components n).status then Ok (entered_as (named.component_at s.components n).kind view n routine o (xs ++ ys) b) else Err not_init))
-          (statements.with_value r (statements.fault m q line) (λ bs. calls.called_by g.tables m q line true ci.number n as' bs slot (rest_of mid es)))
+          (statements.with_value r (statements.fault m q line) (λ bs. calls.call_by g.tables m q line true ci.number n as' bs slot (rest_of mid es)))
       entry_bound (Err e) (Err f) h = fails g p l s m q at i mid es xs ys k line e f h
       entry_bound (Ok e) (Ok bs) h =
-          subst (λ b. StepIs g p l q line (settled p s q (if b then Ok (entered_as (named.component_at s.components n).kind view n routine o (xs ++ ys) e) else Err not_init)) (calls.called_by g.tables m q line true ci.number n as' bs slot (rest_of mid es))) (sym initialised_same)
+          subst (λ b. StepIs g p l q line (settled p s q (if b then Ok (entered_as (named.component_at s.components n).kind view n routine o (xs ++ ys) e) else Err not_init)) (calls.call_by g.tables m q line true ci.number n as' bs slot (rest_of mid es))) (sym initialised_same)
           (go (slot_machine.is_initialised (phase_at m n)))
         where
           go : (b : Bool) → StepIs g p l q line (settled p s q (if b then Ok (entered_as (named.component_at s.components n).kind view n routine o (xs ++ ys) e) else Err not_init))
-              (if b then calls.called_in g.tables m q (component_at g.tables n).kind ci.number n as' bs slot (rest_of mid es) else statements.fault m q line error.NotInit)
+              (if b then calls.call_in g.tables m q (component_at g.tables n).kind ci.number n as' bs slot (rest_of mid es) else statements.fault m q line error.NotInit)
           go true = by_kind e bs h (component_at g.tables n).kind refl (named.component_at s.components n).kind (entry.kinds n can.there)
           go false = fails g p l s m q at i mid es xs ys k line not_init error.NotInit refl
       entry_bound _ _ h = absurd h
 
     entry_found : EntryKnown → (t : Outcome Target) (r : Result ℕ slots.ErrorName) → component_of m q place ≡ r → ComponentAgrees view t r →
         StepIs g p l q line (settled p s q (t >>= λ u. entered view (component_there view u.place) routine o args (xs ++ ys)))
-        (statements.with_value r (statements.fault m q line) (λ component. statements.with_value (arguments_of m q as') (statements.fault m q line) (λ bs. calls.called_by g.tables m q line true ci.number component as' bs slot (rest_of mid es))))
+        (statements.with_value r (statements.fault m q line) (λ component. statements.with_value (arguments_of m q as') (statements.fault m q line) (λ bs. calls.call_by g.tables m q line true ci.number component as' bs slot (rest_of mid es))))
     entry_found entry (Err e) (Err f) same h = fails g p l s m q at i mid es xs ys k line e f h
     entry_found entry (Ok t) (Ok n) same h =
-        subst (λ c. StepIs g p l q line (settled p s q (entered view c routine o args (xs ++ ys))) (statements.with_value (arguments_of m q as') (statements.fault m q line) (λ bs. calls.called_by g.tables m q line true ci.number n as' bs slot (rest_of mid es)))) (sym h)
+        subst (λ c. StepIs g p l q line (settled p s q (entered view c routine o args (xs ++ ys))) (statements.with_value (arguments_of m q as') (statements.fault m q line) (λ bs. calls.call_by g.tables m q line true ci.number n as' bs slot (rest_of mid es)))) (sym h)
         (entry_bound entry n (place, place_is, same) (bound view routine.parameters args) (arguments_of m q as') (known.arguments as' args_are))
     entry_found entry _ _ same h = absurd h
 
@@ -166,7 +166,7 @@ module _ (g : Ground) (p : Program) (l : Layouts) (s : State) (m : Machine) (q a
     own_call own y =
         let is : place ≡ Own = is_own place (place_is ∙ own) in
         let found : component_of m q place ≡ Ok (thread_at m.threads q).frame.component = ap (component_of m q) is in
-        subst (λ (a : Result ℕ slots.ErrorName). StepIs g p l q line (settled p s q (called_as view (Some (routine_meaning y)) d (Some routine) o args (xs ++ ys))) (statements.with_value a (statements.fault m q line) (λ component. statements.with_value (arguments_of m q as') (statements.fault m q line) (λ bs. calls.called_by g.tables m q line false ci.number component as' bs slot (rest_of mid es))))) (sym found)
+        subst (λ (a : Result ℕ slots.ErrorName). StepIs g p l q line (settled p s q (called_as view (Some (routine_meaning y)) d (Some routine) o args (xs ++ ys))) (statements.with_value a (statements.fault m q line) (λ component. statements.with_value (arguments_of m q as') (statements.fault m q line) (λ bs. calls.call_by g.tables m q line false ci.number component as' bs slot (rest_of mid es))))) (sym found)
         (inside_bound (thread_at m.threads q).frame.component this_is (known.can (thread_at m.threads q).frame.component (place, place_is, found)) (bound view routine.parameters args) (arguments_of m q as') (known.arguments as' args_are))
 
     entry_call : EntryKnown → StepIs g p l q line (settled p s q (target_value view d >>= λ u. entered view (component_there view u.place) routine o args (xs ++ ys))) (calls.call g.tables m q line ci.number place true as' slot (rest_of mid es))

@@ -1,9 +1,9 @@
 -- A call is opened: its frame stands above those of its callers, and its end returns to the caller.
 use Rattle.std.proofs.Common.{◌≡◌, ◌∙◌, ℕ, ◌+◌, ◌<◌, ◌==◌, true, false, List, [], ◌∷◌, ◌++◌, append_assoc, Option, Some, None, ap, sym, refl, subst, arith, length}
-use Rattle.cp_refine.proofs.Words.{◌&&◌, ◌||◌, ℤ, slice_set, Program, Argument, component_at, routine_at, Bound, Frame, bound_in_frame, Memory, Entry}
+use Rattle.cp_refine.proofs.Words.{◌&&◌, ◌||◌, ℤ, slice_set, Program, Argument, component_at, routine_at, Bound, Frame, bind_frame, Memory, Entry}
 use Rattle.cp_refine.proofs.Words.{Return, frame_behind, StackFits, size_of, Machine, Thread, no_thread, monitor_at, thread_at, with_thread, rest_of, Name}
 use Rattle.cp_refine.proofs.Words.{RoutineMeaning, items_of_all, Doing, enters, first_inside, Layouts, here, cell_named, first_values, RoutineIs, Ground, result_cell}
-use Rattle.cp_refine.proofs.Words.{ResultGoes, AreBound, memory_at, frame_opened, with_memory, least_of, least_result}
+use Rattle.cp_refine.proofs.Words.{ResultGoes, AreBound, memory_at, add_frame, with_memory, least_of, least_result}
 use Rattle.std.proofs.lemmas.Bool.{eq-eqb}
 use Rattle.cp_slots.specs.declared.tables.ComponentKind.TheVariants as kind
 use Rattle.cp_machine.specs.declared.event.Event.TheVariants as event
@@ -115,11 +115,11 @@ module _ (g : Ground) (p : Program) (l : Layouts) (s : State) (m : Machine) (q :
   there_thread : q < length m.threads
   there_thread = let a = k.there in let b = k.rep.process_count in omega (arith, a, b)
 
-  pub machine_is : (monitor : Option ℕ) → calls.called g.tables m q number d xs bs slot monitor rest ≡ with_thread m q (new_thread monitor)
+  pub machine_is : (monitor : Option ℕ) → calls.open_call g.tables m q number d xs bs slot monitor rest ≡ with_thread m q (new_thread monitor)
   machine_is monitor =
-      let top : Thread = frame_opened (record thread { frame = frame; stack = rest_of (routine_at g.tables number).body (Return thread.frame slot monitor ∷ rest) }) (routine_at g.tables number) in
+      let top : Thread = add_frame (record thread { frame = frame; stack = rest_of (routine_at g.tables number).body (Return thread.frame slot monitor ∷ rest) }) (routine_at g.tables number) in
       let binds = binds_all g p l frames (memory_at m q) frame can.opens e xs bs given in
-      ap (λ (w : Thread). with_memory (with_thread m q top) q (bound_in_frame (record { permanents = m.permanents; cells = w.cells; references = w.references }) w.frame xs bs)) (set_here m.threads q top no_thread there_thread)
+      ap (λ (w : Thread). with_memory (with_thread m q top) q (bind_frame (record { permanents = m.permanents; cells = w.cells; references = w.references }) w.frame xs bs)) (set_here m.threads q top no_thread there_thread)
       ∙ (ap (λ (w : Thread). record m { permanents = memory.permanents; threads = slice_set (slice_set m.threads q top) q (record w { cells = memory.cells; references = memory.references }) }) (set_here m.threads q top no_thread there_thread)
       ∙ (ap (λ (ts : List Thread). record m { permanents = memory.permanents; threads = ts }) (set_set m.threads q top (new_thread monitor))
       ∙ ap (λ (cs : List ℤ). record m { permanents = cs; threads = slice_set m.threads q (new_thread monitor) }) binds.permanents))
@@ -134,7 +134,7 @@ module _ (g : Ground) (p : Program) (l : Layouts) (s : State) (m : Machine) (q :
   stands_new c monitor left = stands_ready g p l s m q k.rep k.there k.was k.was_slot (new_call c ∷ before.calls) (items_of_all meaning_of.scope meaning_of.body ++ last_checks meaning_of.checks meaning_of.scope ++ return o ∷ zs) (new_thread monitor) refl (runs_new ready c monitor left)
 
   pub called_outside : (line : ℕ) (c : CallKind) → Outside c → monitor_left g.tables (new_call c) c (component_at g.tables d).kind ≡ None →
-      StepIs g p l q line (record { state = record s { processes = slice_set s.processes q (new_process ready c) }; event = local_event }) (statements.local (calls.called g.tables m q number d xs bs slot None rest))
+      StepIs g p l q line (record { state = record s { processes = slice_set s.processes q (new_process ready c) }; event = local_event }) (statements.local (calls.open_call g.tables m q number d xs bs slot None rest))
   called_outside line c out none =
       record {
         state = subst (λ w. Represents g p l (record s { processes = slice_set s.processes q (new_process ready c) }) w) (sym (machine_is None))
@@ -144,11 +144,11 @@ module _ (g : Ground) (p : Program) (l : Layouts) (s : State) (m : Machine) (q :
       }
 
   -- a routine of the component itself
-  pub called_inside : (line : ℕ) → StepIs g p l q line (record { state = record s { processes = slice_set s.processes q (new_process ready local_routine) }; event = local_event }) (statements.local (calls.called g.tables m q number d xs bs slot None rest))
+  pub called_inside : (line : ℕ) → StepIs g p l q line (record { state = record s { processes = slice_set s.processes q (new_process ready local_routine) }; event = local_event }) (statements.local (calls.open_call g.tables m q number d xs bs slot None rest))
   called_inside line = called_outside line local_routine (λ n j f. refl) refl
 
   -- an entry of a class
-  pub called_class : (line : ℕ) → (component_at g.tables d).kind ≡ kind.Class → StepIs g p l q line (record { state = record s { processes = slice_set s.processes q (new_process ready entry_routine) }; event = local_event }) (statements.local (calls.called g.tables m q number d xs bs slot None rest))
+  pub called_class : (line : ℕ) → (component_at g.tables d).kind ≡ kind.Class → StepIs g p l q line (record { state = record s { processes = slice_set s.processes q (new_process ready entry_routine) }; event = local_event }) (statements.local (calls.open_call g.tables m q number d xs bs slot None rest))
   called_class line class = called_outside line entry_routine (λ n j f. differs d n (λ a. absurd (let w : (component_at g.tables d).kind ≡ kind.Monitor j = ap (λ i. (component_at g.tables i).kind) a ∙ f in cc))) (ap (monitor_left g.tables (new_call entry_routine) entry_routine) class)
 
   -- ---- an entry of a monitor: the caller goes in if nobody is inside, and else to the end of the line
@@ -178,22 +178,22 @@ module _ (g : Ground) (p : Program) (l : Layouts) (s : State) (m : Machine) (q :
 
     -- who is inside on names is the holder
     by_holder : (w : Option ℕ) → first_inside d s.processes ≡ w →
-        Represents g p l (meaning.entering (is_anybody_inside d s.processes) s q d (record { calls = new_call entry_routine ∷ before.calls; items = items_of_all meaning_of.scope meaning_of.body ++ last_checks meaning_of.checks meaning_of.scope ++ return o ∷ zs; components = s.components; move = enters d })) (machine.entered_by w (with_thread m q (new_thread (Some j))) q j)
+        Represents g p l (meaning.entering (is_anybody_inside d s.processes) s q d (record { calls = new_call entry_routine ∷ before.calls; items = items_of_all meaning_of.scope meaning_of.body ++ last_checks meaning_of.checks meaning_of.scope ++ return o ∷ zs; components = s.components; move = enters d })) (machine.enter_by w (with_thread m q (new_thread (Some j))) q j)
     by_holder None free =
-        subst (λ b. Represents g p l (meaning.entering b s q d doing) (machine.entered_by None (with_thread m q (new_thread (Some j))) q j)) (sym (nobody_inside d s.processes free))
+        subst (λ b. Represents g p l (meaning.entering b s q d doing) (machine.enter_by None (with_thread m q (new_thread (Some j))) q j)) (sym (nobody_inside d s.processes free))
         (gates.enters_free g p l s m q (new_process ready entry_routine) (new_thread (Some j)) d j k.rep own monitor known there_component k.there k.was k.was_slot (has_called ready) free refl (stands_new entry_routine (Some j) left))
       where
         doing : Doing
         doing = record { calls = new_call entry_routine ∷ before.calls; items = items_of_all meaning_of.scope meaning_of.body ++ last_checks meaning_of.checks meaning_of.scope ++ return o ∷ zs; components = s.components; move = enters d }
     by_holder (Some r) busy =
-        subst (λ b. Represents g p l (meaning.entering b s q d doing) (machine.entered_by (Some r) (with_thread m q (new_thread (Some j))) q j)) (sym (somebody_inside d r s.processes busy))
+        subst (λ b. Represents g p l (meaning.entering b s q d doing) (machine.enter_by (Some r) (with_thread m q (new_thread (Some j))) q j)) (sym (somebody_inside d r s.processes busy))
         (subst (λ w. Represents g p l (meaning.entering true s q d doing) w) (sym machine_waits)
         (gates.enters_busy g p l s m q (new_process (at_gate d) entry_routine) waiting_thread d j k.rep own monitor known there_component k.there k.was k.was_slot (has_called (at_gate d)) r busy refl stands_waiting))
       where
         doing : Doing
         doing = record { calls = new_call entry_routine ∷ before.calls; items = items_of_all meaning_of.scope meaning_of.body ++ last_checks meaning_of.checks meaning_of.scope ++ return o ∷ zs; components = s.components; move = enters d }
 
-        machine_waits : machine.entered_by (Some r) (with_thread m q (new_thread (Some j))) q j ≡ record m { threads = slice_set m.threads q waiting_thread; monitors = slice_set m.monitors j (record { holder = Some r; line = (monitor_at m j).line ++ q ∷ [] }) }
+        machine_waits : machine.enter_by (Some r) (with_thread m q (new_thread (Some j))) q j ≡ record m { threads = slice_set m.threads q waiting_thread; monitors = slice_set m.monitors j (record { holder = Some r; line = (monitor_at m j).line ++ q ∷ [] }) }
         machine_waits =
             ap (λ (w : Thread). record m { threads = slice_set (slice_set m.threads q (new_thread (Some j))) q (record w { status = status.AtGate j }); monitors = slice_set m.monitors j (record { holder = Some r; line = (monitor_at m j).line ++ q ∷ [] }) }) (set_here m.threads q (new_thread (Some j)) no_thread there_thread)
             ∙ ap (λ (ts : List Thread). record m { threads = ts; monitors = slice_set m.monitors j (record { holder = Some r; line = (monitor_at m j).line ++ q ∷ [] }) }) (set_set m.threads q (new_thread (Some j)) waiting_thread)
@@ -203,10 +203,10 @@ module _ (g : Ground) (p : Program) (l : Layouts) (s : State) (m : Machine) (q :
 
     pub called_monitor : (line : ℕ) →
         StepIs g p l q line (record { state = meaning.entering (is_anybody_inside d s.processes) s q d (record { calls = new_call entry_routine ∷ before.calls; items = items_of_all meaning_of.scope meaning_of.body ++ last_checks meaning_of.checks meaning_of.scope ++ return o ∷ zs; components = s.components; move = enters d }); event = enter_event })
-        (record { machine = machine.entered (calls.called g.tables m q number d xs bs slot (Some j) rest) q j; event = event.Kernel event_call.Enter })
+        (record { machine = machine.enter_caller (calls.open_call g.tables m q number d xs bs slot (Some j) rest) q j; event = event.Kernel event_call.Enter })
     called_monitor line =
         record {
-          state = subst (λ w. Represents g p l (meaning.entering (is_anybody_inside d s.processes) s q d (record { calls = new_call entry_routine ∷ before.calls; items = items_of_all meaning_of.scope meaning_of.body ++ last_checks meaning_of.checks meaning_of.scope ++ return o ∷ zs; components = s.components; move = enters d })) (machine.entered w q j)) (sym (machine_is (Some j)))
+          state = subst (λ w. Represents g p l (meaning.entering (is_anybody_inside d s.processes) s q d (record { calls = new_call entry_routine ∷ before.calls; items = items_of_all meaning_of.scope meaning_of.body ++ last_checks meaning_of.checks meaning_of.scope ++ return o ∷ zs; components = s.components; move = enters d })) (machine.enter_caller w q j)) (sym (machine_is (Some j)))
               (by_holder (monitor_at m j).holder (sym holder_same));
           event = refl;
         }

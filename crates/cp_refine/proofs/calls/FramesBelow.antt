@@ -1,6 +1,6 @@
 -- Open calls hold what they hold where the memory is the same below the end of their frames.
 use Rattle.cp_refine.proofs.Words.{◌≡◌, ◌∙◌, ℕ, ◌+◌, ◌<◌, ◌≤◌, List, [], ◌∷◌, sym, subst, arith, length, pos, slice_index_or, Program, Tables, routine_at}
-use Rattle.cp_refine.proofs.Words.{Address, Local, Frame, Memory, referred, Entry, Rest, Successor, Return, InitEnd, StackFits, size_of, Ty, Value, Call}
+use Rattle.cp_refine.proofs.Words.{Address, Local, Frame, Memory, reference_at, Entry, Rest, Successor, Return, InitEnd, StackFits, size_of, Ty, Value, Call}
 use Rattle.cp_refine.proofs.Words.{content_of, value_held, cells_of, Layouts, cell_named, RoutineIs, Ground, LiesAt, PlaceAt, CallHolds, CallsHold, frames_of}
 use Rattle.cp_refine.proofs.expressions.Parts.{encode_length}
 
@@ -38,7 +38,7 @@ frames_lie r f (InitEnd caller component ∷ es) h = (
 pub record SameBelow (m m2 : Memory) (base first : ℕ) : Type 0 where
   pub there : base ≤ length m2.cells
   pub cells : (k : ℕ) → k < base → slice_index_or m2.cells k (pos 0) ≡ slice_index_or m.cells k (pos 0)
-  pub references : (k : ℕ) → k < first → referred m2.references k ≡ referred m.references k
+  pub references : (k : ℕ) → k < first → reference_at m2.references k ≡ reference_at m.references k
 
 lies_below : (m m2 : Memory) (base first : ℕ) (t : Ty) (w : Value) (n : ℕ) → SameBelow m m2 base first → n + cells_of t ≤ base → LiesAt m t w (Local n) → LiesAt m2 t w (Local n)
 lies_below m m2 base first t w n same less h =

@@ -5,7 +5,7 @@ use Rattle.std.proofs.lemmas.List.{get_or-take, length-take-le}
 use Rattle.cp_refine.proofs.Words.{Program, Tables, routine_at, Local, Frame, Memory, nowhere, onward, put_number, Entry, StackFits, size_of, Thread, Name}
 use Rattle.cp_refine.proofs.Words.{result_name, Range, Ty, ordinal, Value, number_value, holds, Component, Call, with_result, Layouts, here, cell_named, look}
 use Rattle.cp_refine.proofs.Words.{HasType, Ground, result_cell, ResultGoes, LiesAt, frame_above, CallsHold, own_memory, frames_of, onward_is}
-use Rattle.cp_machine.specs.Calls.{given_up}
+use Rattle.cp_machine.specs.Calls.{give_up_frame}
 use Rattle.cp_meaning.specs.Places.{View, content_of, with_content, value_held, call_above, with_call_environment, this_call, plain_place, value_at}
 use Rattle.cp_resolved.specs.Resolved.{RoutineIs, ResultIs}
 use Rattle.cp_refine.proofs.assignments.Apart.{frame_apart, frames_apart}
@@ -131,18 +131,18 @@ module _ (g : Ground) (p : Program) (l : Layouts) (routines : (n : ℕ) → n < 
         (length cs - 1) x (ordinal range) [] 0 refl (omega arith)
         cs (frames_of caller es) caller caller_known.1 goes refl (frames_apart g.tables caller es below) closed_calls)
 
-    result_given : CallsHold g.tables l (own_memory (given_up g.tables t caller (Some to) es)) (calls_back (Some x) c cs) (frames_of caller es)
+    result_given : CallsHold g.tables l (own_memory (give_up_frame g.tables t caller (Some to) es)) (calls_back (Some x) c cs) (frames_of caller es)
     result_given =
         subst (λ n. CallsHold g.tables l (record { permanents = []; cells = slice_set (take t.frame.base t.cells) n (slice_index_or t.cells (onward t.frame.base (routine_at g.tables t.frame.routine).result) (pos 0)); references = closed.references }) (calls_back (Some x) c cs) (frames_of caller es)) (sym written)
         (subst (λ (v : ℤ). CallsHold g.tables l (put_number closed (Local cell) v) (calls_back (Some x) c cs) (frames_of caller es)) (sym read) result_calls)
 
   -- a result goes where the caller has a variable of its type; results are ordinals
   pub calls_given_up : (o : Option Name) → ((u : Ty) → (l.meanings t.frame.routine).result ≡ Some u → (r : Range) × (u ≡ ordinal r)) → ResultGoes (here p l caller.routine) o (l.meanings t.frame.routine).result →
-      CallsHold g.tables l (own_memory (given_up g.tables t caller (result_cell (here p l caller.routine) o) es)) (calls_back o c cs) (frames_of caller es)
+      CallsHold g.tables l (own_memory (give_up_frame g.tables t caller (result_cell (here p l caller.routine) o) es)) (calls_back o c cs) (frames_of caller es)
   calls_given_up None simple goes = closed_calls
   calls_given_up (Some x) simple goes = by_result (l.meanings t.frame.routine).result refl goes
     where
-      by_result : (w : Option Ty) → (l.meanings t.frame.routine).result ≡ w → ResultGoes (here p l caller.routine) (Some x) w → CallsHold g.tables l (own_memory (given_up g.tables t caller (result_cell (here p l caller.routine) (Some x)) es)) (calls_back (Some x) c cs) (frames_of caller es)
+      by_result : (w : Option Ty) → (l.meanings t.frame.routine).result ≡ w → ResultGoes (here p l caller.routine) (Some x) w → CallsHold g.tables l (own_memory (give_up_frame g.tables t caller (result_cell (here p l caller.routine) (Some x)) es)) (calls_back (Some x) c cs) (frames_of caller es)
       by_result None e goes = absurd goes
       by_result (Some u) e goes =
           let ordinary = simple u e in

@@ -1,12 +1,12 @@
 -- The frame that a call opens holds the environment of the call: its parameters, and first values for all else.
 use Rattle.std.proofs.Common.{◌≡◌, ◌∙◌, ℕ, ◌+◌, ◌^◌, ◌<◌, Bool, true, false, if◌then◌else◌, List, [], ◌∷◌, ◌++◌, Option, Some, None, ap, sym, refl, subst, arith, length}
-use Rattle.cp_refine.proofs.Words.{some_same, pos, replicate, slice_index_or, bytes_eq-Decides, Program, Argument, routine_at, Bound, Reference, Local, Frame, bound_in_frame}
-use Rattle.cp_refine.proofs.Words.{referred, size_of, Name, same_name, Ty, has_components, Variable, Parameter, RoutineMeaning, Content, holds, refers, knows, Place}
+use Rattle.cp_refine.proofs.Words.{some_same, pos, replicate, slice_index_or, bytes_eq-Decides, Program, Argument, routine_at, Bound, Reference, Local, Frame, bind_frame}
+use Rattle.cp_refine.proofs.Words.{reference_at, size_of, Name, same_name, Ty, has_components, Variable, Parameter, RoutineMeaning, Content, holds, refers, knows, Place}
 use Rattle.cp_refine.proofs.Words.{Environment, Call, content_of, value_held, parameter_variables, Ground, IsBound, AreBound, IsOther, AreDifferent, LiesAt, PlaceAt}
 use Rattle.cp_refine.proofs.Words.{CallHolds, content_second, least, least_of, least_result, Layouts, FrameLayout, cell_named, look}
 use Rattle.std.proofs.lemmas.List.{get_or_append_left, get_or-append-add, length-append, length-replicate}
 use Rattle.cp_slots.specs.declared.place.PlaceOrigin.TheVariants.{Reference as reference_origin}
-use Rattle.cp_store.specs.Memory.{Memory, nowhere, opened}
+use Rattle.cp_store.specs.Memory.{Memory, nowhere, open_frame}
 use Rattle.cp_resolved.specs.Resolved.{first_values, first_value, FrameIs, ParameterIs, ParametersAre, RoutineIs}
 use Rattle.cp_refine.proofs.calls.Binding.{Binds, OneLies, AllLie, AllBound, all_bound, free_cells}
 use Rattle.cp_refine.proofs.expressions.Parts.{encode_length}
@@ -89,7 +89,7 @@ module _ (g : Ground) (p : Program) (l : Layouts) (fs : List Frame) (m : Memory)
   frame = can.routine.frame
 
   abbrev pub new_memory : Memory
-  new_memory = opened m (routine_at g.tables f.routine).image count
+  new_memory = open_frame m (routine_at g.tables f.routine).image count
 
   abbrev BindsHere : Memory → Type 0
   BindsHere n = Binds g.tables l fs lay m f size count can.base can.first frame.cells frame.apart (λ x t e. (frame.numbered x t e).0) frame.different can.few can.few_permanents can.few_references n
@@ -164,7 +164,7 @@ module _ (g : Ground) (p : Program) (l : Layouts) (fs : List Frame) (m : Memory)
 
   module _ (e : Environment) (xs : List Argument) (bs : List Bound) (given : Given meaning.parameters e xs bs) where
     abbrev pub bound_memory : Memory
-    bound_memory = bound_in_frame new_memory f xs bs
+    bound_memory = bind_frame new_memory f xs bs
 
     all : AllBound g.tables l fs lay m f size count can.base can.first frame.cells frame.apart (λ x t e. (frame.numbered x t e).0) frame.different can.few can.few_permanents can.few_references meaning.parameters e new_memory bound_memory
     all = all_bound g.tables l fs lay m f size count can.base can.first frame.cells frame.apart (λ x t e. (frame.numbered x t e).0) frame.different can.few can.few_permanents can.few_references meaning.parameters e xs bs new_memory binds_open frame.parameters can.different given
@@ -222,12 +222,12 @@ module _ (g : Ground) (p : Program) (l : Layouts) (fs : List Frame) (m : Memory)
 
     -- a `var` parameter has its place
     abbrev HasPlace : Name → Ty → Option Content → Type 0
-    HasPlace x t o = (y : Place) × (o ≡ Some (refers y)) × PlaceAt g.tables l fs y t (referred bound_memory.references (f.references + cell_named lay x))
+    HasPlace x t o = (y : Place) × (o ≡ Some (refers y)) × PlaceAt g.tables l fs y t (reference_at bound_memory.references (f.references + cell_named lay x))
 
     place_lies : (x : Name) (t : Ty) (q : Parameter) (c : Content) (b : Bound) → look x lay.references ≡ Some t → q.name ≡ x → q.ty ≡ t → ParameterIs lay q.is_var q → OneHere bound_memory q c → IsBound g.tables l fs m q c b → HasPlace x t (Some c)
     place_lies x t q (holds w) b known same ty h lies is = absurd (not_both q.name x q.ty t (sym same) (value_known q is.0 h) known)
     place_lies x t q (refers y) b known same ty h lies is =
-        (y, refl, subst (λ z. PlaceAt g.tables l fs y t (referred bound_memory.references (f.references + cell_named lay z))) same (subst (λ u. PlaceAt g.tables l fs y u (referred bound_memory.references (f.references + cell_named lay q.name))) ty lies))
+        (y, refl, subst (λ z. PlaceAt g.tables l fs y t (reference_at bound_memory.references (f.references + cell_named lay z))) same (subst (λ u. PlaceAt g.tables l fs y u (reference_at bound_memory.references (f.references + cell_named lay q.name))) ty lies))
     place_lies x t q (knows n) b known same ty h lies is = absurd lies
 
     reference_lies : (x : Name) (t : Ty) → look x lay.references ≡ Some t → HasPlace x t (content_of x environment)

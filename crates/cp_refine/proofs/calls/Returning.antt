@@ -124,7 +124,7 @@ module _ (g : Ground) (p : Program) (l : Layouts) (s : State) (m : Machine) (q :
 
   -- the frame is given up, and this result goes to the caller
   pub held_after : (o : Option Name) → ResultGoes (here p l caller.routine) o (l.meanings thread.frame.routine).result →
-      CallsHold g.tables l (own_memory (calls.given_up g.tables thread caller (result_cell (here p l caller.routine) o) es)) (calls_back o call calls_around) (frames_of caller es)
+      CallsHold g.tables l (own_memory (calls.give_up_frame g.tables thread caller (result_cell (here p l caller.routine) o) es)) (calls_back o call calls_around) (frames_of caller es)
   held_after o goes =
       calls_given_up g p l k.routines thread caller es call calls_around fits_before.3 fits_before.0.cells fits_before.0.references k.fits.cells k.few held_before o (λ u e. k.simple thread.frame.routine u e) goes
 
@@ -137,7 +137,7 @@ module _ (g : Ground) (p : Program) (l : Layouts) (s : State) (m : Machine) (q :
   process_back o = record { component = before.component; status = ready; calls = calls_back o call calls_around; items = items_after }
 
   abbrev pub thread_back : Option ℕ → Thread
-  thread_back r = calls.given_up g.tables thread caller r es
+  thread_back r = calls.give_up_frame g.tables thread caller r es
 
   runs_back : (o : Option Name) → ResultGoes (here p l caller.routine) o (l.meanings thread.frame.routine).result → Runs g p l (process_back o) (thread_back (result_cell (here p l caller.routine) o))
   runs_back o goes = record { stack = stack_back o; calls = held_after o goes }
@@ -230,7 +230,7 @@ module _ (g : Ground) (p : Program) (l : Layouts) (s : State) (m : Machine) (q :
   there_call = subst (λ n. n < length g.tables.components) (sym held_before.0.component) held_before.0.there
 
   local_back : (line : ℕ) → monitor_left g.tables call call.kind (component_at g.tables call.component).kind ≡ None →
-      StepIs g p l q line (record { state = state_back done.calls done.components; event = local_event }) (statements.local (calls.left g.tables m q caller slot es))
+      StepIs g p l q line (record { state = state_back done.calls done.components; event = local_event }) (statements.local (calls.leave_frame g.tables m q caller slot es))
   local_back line none =
       record {
         state = as_done (λ w. Represents g p l w (with_thread m q (thread_back slot))) (as_slot (λ r. Represents g p l (record s { processes = slice_set s.processes q (process_back goes_to) }) (with_thread m q (thread_back r))) (stays_back goes_to return_is.1 none));
@@ -238,7 +238,7 @@ module _ (g : Ground) (p : Program) (l : Layouts) (s : State) (m : Machine) (q :
       }
 
   leave_back : (line j : ℕ) → (component_at g.tables call.component).kind ≡ kind.Monitor j → call.kind ≡ entry_routine → MayLeave g s m q call.component →
-      StepIs g p l q line (record { state = meaning.let_in s.discipline.gates (state_back done.calls done.components) call.component; event = leave_event }) (calls.returned g.tables m q caller slot (Some j) es)
+      StepIs g p l q line (record { state = meaning.let_in s.discipline.gates (state_back done.calls done.components) call.component; event = leave_event }) (calls.return_to g.tables m q caller slot (Some j) es)
   leave_back line j is entry may =
       record {
         state = as_done (λ w. Represents g p l (meaning.let_in s.discipline.gates w call.component) (machine.let_in (with_thread m q (thread_back slot)) j))
@@ -250,7 +250,7 @@ module _ (g : Ground) (p : Program) (l : Layouts) (s : State) (m : Machine) (q :
   -- what the kernel does by the kind of the call and of the component
   by_kind : (line : ℕ) → (call.kind ≡ entry_routine → (j : ℕ) → (component_at g.tables call.component).kind ≡ kind.Monitor j → MayLeave g s m q call.component) →
       (c : CallKind) → call.kind ≡ c → (d : ComponentKind) → (component_at g.tables call.component).kind ≡ d → (e : SystemKind) → SameKind e d →
-      StepIs g p l q line (kernel_step p s q (with_move (with_items done items_after) (if is_entry_kind c then leaving_move e call.component else stays)) (if is_entry_kind c then leaving_move e call.component else stays)) (calls.returned g.tables m q caller slot (monitor_left g.tables call c d) es)
+      StepIs g p l q line (kernel_step p s q (with_move (with_items done items_after) (if is_entry_kind c then leaving_move e call.component else stays)) (if is_entry_kind c then leaving_move e call.component else stays)) (calls.return_to g.tables m q caller slot (monitor_left g.tables call c d) es)
   by_kind line may entry_routine a (kind.Monitor j) b system_kind.Monitor w = leave_back line j b a (may a j b)
   by_kind line may entry_routine a (kind.Process j) b system_kind.Process w = local_back line (ap (λ c. monitor_left g.tables call c (component_at g.tables call.component).kind) a ∙ ap (monitor_left g.tables call entry_routine) b)
   by_kind line may entry_routine a kind.Class b system_kind.Class w = local_back line (ap (λ c. monitor_left g.tables call c (component_at g.tables call.component).kind) a ∙ ap (monitor_left g.tables call entry_routine) b)
@@ -262,6 +262,6 @@ module _ (g : Ground) (p : Program) (l : Layouts) (s : State) (m : Machine) (q :
   return_step line kinds may =
       subst (λ (is : List Item). StepIs g p l q line (settled p s q (takes (view_of p s q) q is)) (step_at g.tables m q)) (sym items_were)
       (subst (λ (fs : List Entry). StepIs g p l q line (settled p s q (takes (view_of p s q) q (return goes_to ∷ items_after))) (take_top g.tables m q fs)) (sym k.stack)
-      (subst (λ w. StepIs g p l q line (settled p s q (takes (view_of p s q) q (return goes_to ∷ items_after))) (calls.returned g.tables m q caller slot w es)) (sym return_is.2)
-      (subst (λ (c : Call). StepIs g p l q line (kernel_step p s q (with_move (with_items done items_after) (return_move s.components c)) (return_move s.components c)) (calls.returned g.tables m q caller slot (monitor_left g.tables call call.kind (component_at g.tables call.component).kind) es)) (sym (ap current calls_were))
+      (subst (λ w. StepIs g p l q line (settled p s q (takes (view_of p s q) q (return goes_to ∷ items_after))) (calls.return_to g.tables m q caller slot w es)) (sym return_is.2)
+      (subst (λ (c : Call). StepIs g p l q line (kernel_step p s q (with_move (with_items done items_after) (return_move s.components c)) (return_move s.components c)) (calls.return_to g.tables m q caller slot (monitor_left g.tables call call.kind (component_at g.tables call.component).kind) es)) (sym (ap current calls_were))
       (by_kind line may call.kind refl (component_at g.tables call.component).kind refl (named.component_at s.components call.component).kind (kinds call.component there_call)))))

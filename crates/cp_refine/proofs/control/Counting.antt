@@ -1,7 +1,7 @@
 -- Steps of `for` and of the successor of its value.
 use Rattle.std.proofs.Common.{◌≡◌, ◌∙◌, ℕ, Bool, true, false, if◌then◌else◌, List, ◌∷◌, ◌++◌, Option, None, ap, sym, refl, subst, arith}
 use Rattle.cp_refine.proofs.Words.{ℤ, pos, negsuc, ◌+ℤ◌, ◌-ℤ◌, int_le, int_lt, ◌&&◌, Result, Ok, Err, slice_index, ints, Identifier, Direction, Program, Expression}
-use Rattle.cp_refine.proofs.Words.{Statement, for_do, Action, item_at, Address, Permanent, Local, HasCells, Memory, moved, Entry, Successor, Machine, thread_at}
+use Rattle.cp_refine.proofs.Words.{Statement, for_do, Action, item_at, Address, Permanent, Local, HasCells, Memory, address_onward, Entry, Successor, Machine, thread_at}
 use Rattle.cp_refine.proofs.Words.{with_stack, rest_of, act, take_top, step_at, Outcome, out_of_range, ◌>>=◌, Scope, Range, Ty, ordinal, is_within, Value, number_value}
 use Rattle.cp_refine.proofs.Words.{number_of, current, Place, Item, statement_item, successor, State, Typed, same_integer, View, target_named, stored, value, Stepped}
 use Rattle.cp_refine.proofs.Words.{Doing, expression_calls, items_of, view_of, step_of, settled, Layouts, Here, here, Designated, as_ordinal, plain_value, OrdinalAgrees}
@@ -30,8 +30,8 @@ is_for : (a : Action) (o : PlaceOrigin) (low high : ℤ) (c d : code.OrdinalExpr
 is_for (action.For o low high x y down list) p l h c d b k e = (x, y, cc, cc, cc)
 is_for a o low high c d down list e = absurd (cc)
 
--- an address that has a cell was not moved at all
-moved_back : (m : Memory) (b : Address) → Few m → HasCells m (moved b 0) 1 → moved b 0 ≡ b
+-- an address that has a cell was not address_onward at all
+moved_back : (m : Memory) (b : Address) → Few m → HasCells m (address_onward b 0) 1 → address_onward b 0 ≡ b
 moved_back m (Permanent n) few h = ap Permanent (let p = few.permanents in omega (arith, p, h))
 moved_back m (Local n) few h = ap Local (let p = few.cells in omega (arith, p, h))
 
@@ -75,10 +75,10 @@ module _ (g : Ground) (p : Program) (l : Layouts) (s : State) (m : Machine) (q a
   variable = (
     found.0,
     subst (λ a. PlaceAt g.tables l fs (target_named (view_of p s q) i.name).place (ordinal own.range) a)
-        (moved_back (memory_at m q) (origin_of m q own.origin) sees.few (sees.lies (target_named (view_of p s q) i.name).place (ordinal own.range) (moved (origin_of m q own.origin) 0) found.1).cells) found.1,
+        (moved_back (memory_at m q) (origin_of m q own.origin) sees.few (sees.lies (target_named (view_of p s q) i.name).place (ordinal own.range) (address_onward (origin_of m q own.origin) 0) found.1).cells) found.1,
   )
     where
-      found : TargetAgrees g.tables l fs (Ok (target_named (view_of p s q) i.name)) (ordinal own.range) (Ok (moved (origin_of m q own.origin) 0))
+      found : TargetAgrees g.tables l fs (Ok (target_named (view_of p s q) i.name)) (ordinal own.range) (Ok (address_onward (origin_of m q own.origin) 0))
       found = subst (λ (o : Option Designated). BegunAgrees g.tables l fs (memory_at m q) (thread_at m.threads q).frame (target_named (view_of p s q) i.name) o) own.variable (sees.begins i.name)
 
   -- the statement, the successor of the value, and what is after the item
@@ -236,9 +236,9 @@ pub next_step : (g : Ground) (p : Program) (l : Layouts) (s : State) (m : Machin
 next_step g p l s m q at z last first es xs ys k stack items turn below fs sees stores =
     subst (λ (is : List Item). StepIs g p l q line_now (settled p s q (takes view_now q is)) (step_at g.tables m q)) (sym (items ∙ ap (λ j. j ∷ (xs ++ ys)) turn.same))
     (subst (λ (us : List Entry). StepIs g p l q line_now (settled p s q (takes view_now q (successor turn.token turn.name z turn.direction last turn.statement ∷ (xs ++ ys)))) (take_top g.tables m q us)) (sym stack)
-    (subst (λ (c : Scope). StepIs g p l q line_now (in_scope c) (statements.succeeded m q at (item_at g.tables at) (item_at g.tables at).action es z last)) scopes
+    (subst (λ (c : Scope). StepIs g p l q line_now (in_scope c) (statements.successor_step m q at (item_at g.tables at) (item_at g.tables at).action es z last)) scopes
     (let a = is_for (item_at g.tables at).action own.origin own.range.low own.range.high own.from own.to (is_down turn.direction) own.body own.item.action in
-    subst (λ (b : Action). StepIs g p l q line_now (in_scope (l.meanings (thread_at m.threads q).frame.routine).scope) (statements.succeeded m q at (item_at g.tables at) b es z last)) (sym a.2)
+    subst (λ (b : Action). StepIs g p l q line_now (in_scope (l.meanings (thread_at m.threads q).frame.routine).scope) (statements.successor_step m q at (item_at g.tables at) b es z last)) (sym a.2)
     (subst (λ (j : ℕ). StepIs g p l q line_now (in_scope (l.meanings (thread_at m.threads q).frame.routine).scope) (statements.next_turn m q j at own.origin own.range.low own.range.high (is_down turn.direction) own.body (item_at g.tables at).next es z last)) (sym own.item.line)
     (subst (λ (o : Option ℕ). StepIs g p l q line_now (in_scope (l.meanings (thread_at m.threads q).frame.routine).scope) (statements.next_turn m q line_now at own.origin own.range.low own.range.high (is_down turn.direction) own.body o es z last)) (sym own.item.follows)
     (from_value g p l s m q at turn.token turn.name turn.from turn.direction turn.to turn.statement turn.next es xs ys k own turn.after below fs sees stores z last turn.within))))))

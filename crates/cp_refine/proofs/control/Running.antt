@@ -1,7 +1,7 @@
 -- Of a process that runs in a state: its frames and all components lie in its memory, so that tests and values are the same.
 use Rattle.std.proofs.Common.{◌≡◌, ◌∙◌, ℕ, ◌+◌, ◌^◌, ◌<◌, ◌≤◌, List, [], ◌∷◌, Option, ap, sym, refl, subst, arith, length}
 use Rattle.cp_refine.proofs.Words.{ℤ, pos, slice_index, slice_index_or, Program, Expression, Statement, if_then, Tables, component_at, routine_at, Permanent}
-use Rattle.cp_refine.proofs.Words.{Local, Frame, Memory, referred, Entry, Machine, thread_at, memory_at, step_at, Ty, Value, Item, statement_item, State}
+use Rattle.cp_refine.proofs.Words.{Local, Frame, Memory, reference_at, Entry, Machine, thread_at, memory_at, step_at, Ty, Value, Item, statement_item, State}
 use Rattle.cp_refine.proofs.Words.{Call, content_of, value_held, view_of, step_of, expression_calls, AreKept, cells_of, Layouts, here, cell_named, as_ordinal}
 use Rattle.cp_refine.proofs.Words.{RoutineIs, LiesAt, PlaceAt, CallsHold, own_memory, all_permanents, Represents, Few, Sees}
 use Rattle.cp_meaning.specs.State as named
@@ -36,7 +36,7 @@ calls_alike r l m m2 (c ∷ cs) (f ∷ fs) e d h = (
   record {
     variables = λ x t k. local_lies m m2 t (value_held (content_of x c.environment)) (f.base + cell_named (l.frames f.routine) x) e (h.1.variables x t k);
     plain = h.1.plain;
-    references = λ x t k. (let w = h.1.references x t k in (w.0, w.1, subst (λ rs. PlaceAt r l fs w.0 t (referred rs (f.references + cell_named (l.frames f.routine) x))) d w.2));
+    references = λ x t k. (let w = h.1.references x t k in (w.0, w.1, subst (λ rs. PlaceAt r l fs w.0 t (reference_at rs (f.references + cell_named (l.frames f.routine) x))) d w.2));
   },
   calls_alike r l m m2 cs fs e d h.2,
 )

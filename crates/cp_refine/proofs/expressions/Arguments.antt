@@ -1,7 +1,7 @@
 -- What arguments give: a value of any type, and a place for a `var` parameter, are on slots what they are on names.
 use Rattle.std.proofs.Common.{◌≡◌, ◌∙◌, ℕ, ◌≤◌, Bool, true, false, if◌then◌else◌, List, [], ◌∷◌, ◌++◌, Option, Some, None, ap, sym, refl, subst, arith, length, append_assoc}
 use Rattle.cp_refine.proofs.Words.{ℤ, map, Result, Ok, Err, Expression, Expressions, no_expressions, more_expressions, Designator, Tables, Argument, ArgumentValue, Bound}
-use Rattle.cp_refine.proofs.Words.{Address, Permanent, Local, Frame, SetValue, HasCells, Memory, then_with, ranged, Name, Outcome, out_of_range, ◌>>=◌, Value}
+use Rattle.cp_refine.proofs.Words.{Address, Permanent, Local, Frame, SetValue, HasCells, Memory, then_with, check_range, Name, Outcome, out_of_range, ◌>>=◌, Value}
 use Rattle.cp_refine.proofs.Words.{number_value, set_value, Parameter, Content, holds, refers, knows, Environment, Typed, checked, View, Target, value, target_value}
 use Rattle.cp_refine.proofs.Words.{variable_in, is_call, expression_calls, expressions_calls, cells_of, Layouts, Here, encode, bits_of, AreMembers, HasType}
 use Rattle.cp_refine.proofs.Words.{OrdinalAgrees, SetAgrees, PlaceAgrees, TargetAgrees, Sees, GivesValue, IsBound, AreBound, BoundsAgree, error_of, plain_value}
@@ -11,7 +11,7 @@ use Rattle.cp_slots.specs.Code as code
 use Rattle.cp_slots.specs.declared.place.ArgumentValue.TheVariants as value_of
 use Rattle.cp_store.specs.declared.error.ErrorName as slots
 use Rattle.cp_store.specs.declared.error.ErrorName.TheVariants as error
-use Rattle.cp_store.specs.Arguments.{bound_at, bounds_after, bounds_at, put_value}
+use Rattle.cp_store.specs.Arguments.{evaluate_argument, bounds_after, bounds_at, put_value}
 use Rattle.cp_store.specs.Sets as sets
 use Rattle.cp_meaning.specs.Types.{Ty, Range, ordinal, set_over, array_over, record_with, component_of, natural_of, is_within}
 use Rattle.cp_meaning.specs.Operations as names
@@ -29,32 +29,32 @@ use Rattle.cp_refine.proofs.expressions.Views.{views_agree}
 
 -- ---- what an argument gives by its view
 
-pub scalar_bound : (m : Memory) (bindings : List ℕ) (f : Frame) (a : ArgumentValue) (c : code.OrdinalExpression) (low high : ℤ) → code.value_seen a ≡ code.scalar c low high → bound_at m bindings f a ≡ then_with (plain_value m f c) (λ z. then_with (ranged low high z) (λ v. Ok (Scalar v)))
+pub scalar_bound : (m : Memory) (bindings : List ℕ) (f : Frame) (a : ArgumentValue) (c : code.OrdinalExpression) (low high : ℤ) → code.value_seen a ≡ code.scalar c low high → evaluate_argument m bindings f a ≡ then_with (plain_value m f c) (λ z. then_with (check_range low high z) (λ v. Ok (Scalar v)))
 scalar_bound m bindings f (value_of.Scalar e l h) c low high k =
     let same : code.expression_seen e ≡ c = cc in
     let below : l ≡ low = cc in
     let above : h ≡ high = cc in
-    ap (λ r. then_with r (λ z. then_with (ranged l h z) (λ v. Ok (Scalar v)))) (views_agree.value m f e ∙ ap (plain_value m f) same)
-    ∙ (ap (λ n. then_with (plain_value m f c) (λ z. then_with (ranged n h z) (λ v. Ok (Scalar v)))) below ∙ ap (λ n. then_with (plain_value m f c) (λ z. then_with (ranged low n z) (λ v. Ok (Scalar v)))) above)
+    ap (λ r. then_with r (λ z. then_with (check_range l h z) (λ v. Ok (Scalar v)))) (views_agree.value m f e ∙ ap (plain_value m f) same)
+    ∙ (ap (λ n. then_with (plain_value m f c) (λ z. then_with (check_range n h z) (λ v. Ok (Scalar v)))) below ∙ ap (λ n. then_with (plain_value m f c) (λ z. then_with (check_range low n z) (λ v. Ok (Scalar v)))) above)
 scalar_bound m bindings f a c low high k = absurd (cc)
 
-pub set_bound : (m : Memory) (bindings : List ℕ) (f : Frame) (a : ArgumentValue) (c : code.SetExpression) (low high : ℕ) → code.value_seen a ≡ code.set c low high → bound_at m bindings f a ≡ then_with (plain_set m f c) (λ z. then_with (sets.ranged low high z) (λ v. Ok (Set v)))
+pub set_bound : (m : Memory) (bindings : List ℕ) (f : Frame) (a : ArgumentValue) (c : code.SetExpression) (low high : ℕ) → code.value_seen a ≡ code.set c low high → evaluate_argument m bindings f a ≡ then_with (plain_set m f c) (λ z. then_with (sets.check_members low high z) (λ v. Ok (Set v)))
 set_bound m bindings f (value_of.Set e l h) c low high k =
     let same : code.set_seen e ≡ c = cc in
     let below : l ≡ low = cc in
     let above : h ≡ high = cc in
-    ap (λ r. then_with r (λ z. then_with (sets.ranged l h z) (λ v. Ok (Set v)))) (views_agree.set m f e ∙ ap (plain_set m f) same)
-    ∙ (ap (λ n. then_with (plain_set m f c) (λ z. then_with (sets.ranged n h z) (λ v. Ok (Set v)))) below ∙ ap (λ n. then_with (plain_set m f c) (λ z. then_with (sets.ranged low n z) (λ v. Ok (Set v)))) above)
+    ap (λ r. then_with r (λ z. then_with (sets.check_members l h z) (λ v. Ok (Set v)))) (views_agree.set m f e ∙ ap (plain_set m f) same)
+    ∙ (ap (λ n. then_with (plain_set m f c) (λ z. then_with (sets.check_members n h z) (λ v. Ok (Set v)))) below ∙ ap (λ n. then_with (plain_set m f c) (λ z. then_with (sets.check_members low n z) (λ v. Ok (Set v)))) above)
 set_bound m bindings f a c low high k = absurd (cc)
 
-pub copy_bound : (m : Memory) (bindings : List ℕ) (f : Frame) (a : ArgumentValue) (c : code.Place) (size : ℕ) → code.value_seen a ≡ code.copy c size → bound_at m bindings f a ≡ then_with (plain_address m f c) (λ at. Ok (Copy at size))
+pub copy_bound : (m : Memory) (bindings : List ℕ) (f : Frame) (a : ArgumentValue) (c : code.Place) (size : ℕ) → code.value_seen a ≡ code.copy c size → evaluate_argument m bindings f a ≡ then_with (plain_address m f c) (λ at. Ok (Copy at size))
 copy_bound m bindings f (value_of.Copy e n) c size k =
     let same : code.place_seen e ≡ c = cc in
     let long : n ≡ size = cc in
     ap (λ r. then_with r (λ at. Ok (Copy at n))) (views_agree.place m f e ∙ ap (plain_address m f) same) ∙ ap (λ i. then_with (plain_address m f c) (λ at. Ok (Copy at i))) long
 copy_bound m bindings f a c size k = absurd (cc)
 
-reference_bound : (m : Memory) (bindings : List ℕ) (f : Frame) (a : ArgumentValue) (c : code.Place) → code.value_seen a ≡ code.reference c → bound_at m bindings f a ≡ then_with (plain_address m f c) (λ at. Ok (Reference at))
+reference_bound : (m : Memory) (bindings : List ℕ) (f : Frame) (a : ArgumentValue) (c : code.Place) → code.value_seen a ≡ code.reference c → evaluate_argument m bindings f a ≡ then_with (plain_address m f c) (λ at. Ok (Reference at))
 reference_bound m bindings f (value_of.Reference e) c k =
     let same : code.place_seen e ≡ c = cc in
     ap (λ r. then_with r (λ at. Ok (Reference at))) (views_agree.place m f e ∙ ap (plain_address m f) same)
@@ -102,9 +102,9 @@ ValueAgrees m t o r = ⊥
 abbrev pub held : Ty → Outcome Typed → Outcome Content
 held t o = o >>= λ x. checked t x.value >>= λ w. Ok (holds w)
 
-number_bound : (m : Memory) (r : Range) (t : Ty) (o : Outcome Typed) (s : Result ℤ slots.ErrorName) → RangeKnown (ordinal r) → OrdinalAgrees o t s → ValueAgrees m (ordinal r) (held (ordinal r) o) (then_with s (λ z. then_with (ranged r.low r.high z) (λ v. Ok (Scalar v))))
+number_bound : (m : Memory) (r : Range) (t : Ty) (o : Outcome Typed) (s : Result ℤ slots.ErrorName) → RangeKnown (ordinal r) → OrdinalAgrees o t s → ValueAgrees m (ordinal r) (held (ordinal r) o) (then_with s (λ z. then_with (check_range r.low r.high z) (λ v. Ok (Scalar v))))
 number_bound m r t (Err e) (Err d) base h = h
-number_bound m r t (Ok x) (Ok z) base h = subst (λ w. ValueAgrees m (ordinal r) (checked (ordinal r) w >>= λ v. Ok (holds v)) (then_with (ranged r.low r.high z) (λ v. Ok (Scalar v)))) (sym h.1) (go (is_within r z) refl)
+number_bound m r t (Ok x) (Ok z) base h = subst (λ w. ValueAgrees m (ordinal r) (checked (ordinal r) w >>= λ v. Ok (holds v)) (then_with (check_range r.low r.high z) (λ v. Ok (Scalar v)))) (sym h.1) (go (is_within r z) refl)
   where
     go : (b : Bool) → is_within r z ≡ b → ValueAgrees m (ordinal r) ((if b then Ok (number_value z) else Err out_of_range) >>= λ v. Ok (holds v)) (then_with (if b then Ok z else Err error.Range) (λ v. Ok (Scalar v)))
     go true inside = number_given m r z (base z inside)
@@ -112,13 +112,13 @@ number_bound m r t (Ok x) (Ok z) base h = subst (λ w. ValueAgrees m (ordinal r)
 number_bound m r t _ _ base h = absurd h
 
 members_bound : (m : Memory) (r : Range) (t : Ty) (o : Outcome Typed) (s : Result SetValue slots.ErrorName) → RangeKnown (set_over r) → SetAgrees o t s →
-    ValueAgrees m (set_over r) (held (set_over r) o) (then_with s (λ z. then_with (sets.ranged (natural_of r.low) (natural_of r.high) z) (λ v. Ok (Set v))))
+    ValueAgrees m (set_over r) (held (set_over r) o) (then_with s (λ z. then_with (sets.check_members (natural_of r.low) (natural_of r.high) z) (λ v. Ok (Set v))))
 members_bound m r t (Err e) (Err d) base h = h
 members_bound m r t (Err e) (Ok z) base h = absurd h
 members_bound m r t (Ok x) (Err d) base h = absurd h
 members_bound m r t (Ok x) (Ok z) base h =
-    subst (λ (v : SetValue). ValueAgrees m (set_over r) (held (set_over r) (Ok x)) (then_with (sets.ranged (natural_of r.low) (natural_of r.high) v) (λ i. Ok (Set i)))) (ap set_with (sym h.1.3))
-    (subst (λ w. ValueAgrees m (set_over r) (checked (set_over r) w >>= λ v. Ok (holds v)) (then_with (sets.ranged (natural_of r.low) (natural_of r.high) (set_with (bits_of ns))) (λ v. Ok (Set v)))) (sym h.1.1)
+    subst (λ (v : SetValue). ValueAgrees m (set_over r) (held (set_over r) (Ok x)) (then_with (sets.check_members (natural_of r.low) (natural_of r.high) v) (λ i. Ok (Set i)))) (ap set_with (sym h.1.3))
+    (subst (λ w. ValueAgrees m (set_over r) (checked (set_over r) w >>= λ v. Ok (holds v)) (then_with (sets.check_members (natural_of r.low) (natural_of r.high) (set_with (bits_of ns))) (λ v. Ok (Set v)))) (sym h.1.1)
     (subst (λ (c : Bool). ValueAgrees m (set_over r) (checked (set_over r) (set_value ns) >>= λ v. Ok (holds v)) (then_with (if c then Ok (set_with (bits_of ns)) else Err error.Range) (λ v. Ok (Set v)))) (set_range_same r ns typed base) (go (names.are_within r ns))))
   where
     ns : List ℕ
@@ -163,7 +163,7 @@ ArgumentsKnown h (q ∷ qs) (more_expressions e es) = ArgumentKnown h q e × Arg
 
 module _ (r : Tables) (l : Layouts) (fs : List Frame) (v : View) (m : Memory) (f : Frame) (h : Here) (sees : Sees r l fs v m f h) (bindings : List ℕ) where
   pub value_given : (u t : Ty) (form : Form) (e : Expression) (a : ArgumentValue) (c : code.ArgumentValue) → code.value_seen a ≡ c → expression_form h e ≡ Some (record { ty = t; form = form }) → AreKept h (expression_calls h.scope e) → RangeKnown u → IsNoComponent u → ValueGiven u t form c →
-      ValueAgrees m u (bound_value v u e) (bound_at m bindings f a)
+      ValueAgrees m u (bound_value v u e) (evaluate_argument m bindings f a)
   value_given (ordinal q) t (as_ordinal x) e a c seen formed kept base plain given =
       subst (λ s. ValueAgrees m (ordinal q) (held (ordinal q) (value v e)) s) (sym (scalar_bound m bindings f a x q.low q.high (seen ∙ given)))
       (number_bound m q t (value v e) (plain_value m f x) base (expression_ok r l fs v m f h sees e (record { ty = t; form = as_ordinal x }) kept formed))
@@ -191,20 +191,20 @@ module _ (r : Tables) (l : Layouts) (fs : List Frame) (v : View) (m : Memory) (f
   place_bound q t is same (Err e) (Err d) k = k
   place_bound q t is same _ _ k = absurd k
 
-  one_given : (q : Parameter) (e : Expression) (a : ArgumentValue) (c : code.ArgumentValue) → code.value_seen a ≡ c → IsGiven h q e c → AreKept h (expression_calls h.scope e) → ArgumentKnown h q e → BoundAgrees r l fs m q (bound_argument v q e) (bound_at m bindings f a)
+  one_given : (q : Parameter) (e : Expression) (a : ArgumentValue) (c : code.ArgumentValue) → code.value_seen a ≡ c → IsGiven h q e c → AreKept h (expression_calls h.scope e) → ArgumentKnown h q e → BoundAgrees r l fs m q (bound_argument v q e) (evaluate_argument m bindings f a)
   one_given q e a c seen given kept known = go q.is_var refl given.given
     where
-      by_place : (o : Option code.Place) → place_form given.form.form ≡ o → q.is_var ≡ true → PlaceGiven q.ty given.form.ty o c → BoundAgrees r l fs m q (bound_variable v refers_to (variable_in e)) (bound_at m bindings f a)
+      by_place : (o : Option code.Place) → place_form given.form.form ≡ o → q.is_var ≡ true → PlaceGiven q.ty given.form.ty o c → BoundAgrees r l fs m q (bound_variable v refers_to (variable_in e)) (evaluate_argument m bindings f a)
       by_place None k is g = absurd g
       by_place (Some p) k is g =
           let w = known.variable is in
-          subst (λ i. BoundAgrees r l fs m q (bound_variable v refers_to i) (bound_at m bindings f a)) (sym w.1)
+          subst (λ i. BoundAgrees r l fs m q (bound_variable v refers_to i) (evaluate_argument m bindings f a)) (sym w.1)
           (subst (λ s. BoundAgrees r l fs m q (refers_to (target_value v w.0)) s) (sym (reference_bound m bindings f a p (seen ∙ g.1)))
           (place_bound q given.form.ty is g.0 (target_value v w.0) (plain_address m f p) (variable_found r l fs v m f h sees e w.0 given.form p kept w.1 w.2 given.formed k)))
 
-      go : (b : Bool) → q.is_var ≡ b → GivenBy b q.ty given.form c → BoundAgrees r l fs m q (if b then bound_variable v refers_to (variable_in e) else bound_value v q.ty e) (bound_at m bindings f a)
+      go : (b : Bool) → q.is_var ≡ b → GivenBy b q.ty given.form c → BoundAgrees r l fs m q (if b then bound_variable v refers_to (variable_in e) else bound_value v q.ty e) (evaluate_argument m bindings f a)
       go true is g = by_place (place_form given.form.form) refl is g
-      go false is g = held_bound q is (bound_value v q.ty e) (bound_at m bindings f a) (value_given q.ty given.form.ty given.form.form e a c seen given.formed kept (known.range is).0 (known.range is).1 g)
+      go false is g = held_bound q is (bound_value v q.ty e) (evaluate_argument m bindings f a) (value_given q.ty given.form.ty given.form.form e a c seen given.formed kept (known.range is).0 (known.range is).1 g)
 
   -- ---- all arguments
 
@@ -214,7 +214,7 @@ module _ (r : Tables) (l : Layouts) (fs : List Frame) (v : View) (m : Memory) (f
       none_more : (ys : List Bound) → ys ≡ ys ++ []
       none_more [] = refl
       none_more (y ∷ ys) = ap (λ zs. y ∷ zs) (none_more ys)
-  bounds_split acc (x ∷ xs) = go (bound_at m bindings f x.value) (λ b. bounds_split (acc ++ b ∷ []) xs) (λ b. bounds_split (b ∷ []) xs)
+  bounds_split acc (x ∷ xs) = go (evaluate_argument m bindings f x.value) (λ b. bounds_split (acc ++ b ∷ []) xs) (λ b. bounds_split (b ∷ []) xs)
     where
       joined : (b : Bound) (s : Result (List Bound) slots.ErrorName) → then_with s (λ bs. Ok ((acc ++ b ∷ []) ++ bs)) ≡ then_with (then_with s (λ bs. Ok ((b ∷ []) ++ bs))) (λ bs. Ok (acc ++ bs))
       joined b (Ok bs) = ap Ok (append_assoc acc (b ∷ []) bs)
@@ -225,8 +225,8 @@ module _ (r : Tables) (l : Layouts) (fs : List Frame) (v : View) (m : Memory) (f
       go (Err e) one two = refl
       go (Ok b) one two = one b ∙ (joined b (bounds_after m bindings f [] xs) ∙ ap (λ s. then_with s (λ bs. Ok (acc ++ bs))) (sym (two b)))
 
-  pub first_bound : (x : Argument) (xs : List Argument) → bounds_at m bindings f (x ∷ xs) ≡ then_with (bound_at m bindings f x.value) (λ b. then_with (bounds_at m bindings f xs) (λ bs. Ok (b ∷ bs)))
-  first_bound x xs = go (bound_at m bindings f x.value)
+  pub first_bound : (x : Argument) (xs : List Argument) → bounds_at m bindings f (x ∷ xs) ≡ then_with (evaluate_argument m bindings f x.value) (λ b. then_with (bounds_at m bindings f xs) (λ bs. Ok (b ∷ bs)))
+  first_bound x xs = go (evaluate_argument m bindings f x.value)
     where
       go : (s : Result Bound slots.ErrorName) → then_with s (λ b. bounds_after m bindings f (b ∷ []) xs) ≡ then_with s (λ b. then_with (bounds_at m bindings f xs) (λ bs. Ok (b ∷ bs)))
       go (Err e) = refl
@@ -253,7 +253,7 @@ module _ (r : Tables) (l : Layouts) (fs : List Frame) (v : View) (m : Memory) (f
       let first : code.argument_seen x ≡ c = cc in
       let rest : map code.argument_seen xs ≡ cs = cc in
       subst (λ s. BoundsAgree (Are places (q ∷ qs) (x ∷ xs)) (bound v (q ∷ qs) (more_expressions e es)) s) (sym (first_bound x xs))
-      (more_bound places q qs x xs (bound_argument v q e) (bound_at m bindings f x.value) (bound v qs es) (bounds_at m bindings f xs) (ap (λ (y : code.Argument). y.slot) first ∙ given.0)
+      (more_bound places q qs x xs (bound_argument v q e) (evaluate_argument m bindings f x.value) (bound v qs es) (bounds_at m bindings f xs) (ap (λ (y : code.Argument). y.slot) first ∙ given.0)
       (one_given q e x.value c.value (ap (λ (y : code.Argument). y.value) first) given.1 (kept_left h (expression_calls h.scope e) (expressions_calls h.scope es) kept) known.0)
       (arguments_agree places qs es cs xs rest given.2 (kept_right h (expression_calls h.scope e) (expressions_calls h.scope es) kept) known.1))
   arguments_agree places _ _ _ xs seen given kept known = absurd given

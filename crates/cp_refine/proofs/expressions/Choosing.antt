@@ -2,7 +2,7 @@
 use Rattle.std.proofs.Common.{◌≡◌, ◌∙◌, ℕ, ◌+◌, ◌-◌, ◌*◌, ◌^◌, ◌<◌, ◌≤◌, Bool, true, false, if◌then◌else◌, List, [], ◌∷◌, ◌++◌, Option, Some, None, ap, sym, refl, subst, arith}
 use Rattle.cp_refine.proofs.Words.{some_same, ℤ, pos, negsuc, ◌+ℤ◌, ◌-ℤ◌, neg_ℤ, int_le, int_lt, ◌&&◌, min, unsigned_abs, Result, Ok, Err, ints, lt-ltb, Tables, Address, Permanent}
 use Rattle.cp_refine.proofs.Words.{Local, Frame, HasCells, then_with, Name, same_name, Outcome, ◌>>=◌, out_of_range, number_of, Choice, the_field, the_element, Place}
-use Rattle.cp_refine.proofs.Words.{Typed, View, Target, with_choice, value_at, cells_of, Layouts, Here, further, PlaceAt, Memory, moved, onward, stretch, origin_address}
+use Rattle.cp_refine.proofs.Words.{Typed, View, Target, with_choice, value_at, cells_of, Layouts, Here, further, PlaceAt, Memory, address_onward, onward, stretch, origin_address}
 use Rattle.cp_refine.proofs.Words.{element_offset, with_field, with_index, with_element_of, Chosen, further_chosen, field_chosen, one_chosen, then_chosen, chosen_at}
 use Rattle.cp_refine.proofs.Words.{plain_value, plain_address, plain_indexed, OrdinalAgrees, FormAgrees, TargetAgrees, DesignatedAgrees, Sees}
 use Rattle.cp_slots.specs.Code as code
@@ -20,35 +20,35 @@ use Rattle.cp_refine.proofs.expressions.SetCells.{moved_on as moved_is}
 onward_onward : (n j k : ℕ) → onward (onward n j) k ≡ onward n (j + k)
 onward_onward n j k = omega arith
 
-moved_moved : (a : Address) (j k : ℕ) → moved (moved a j) k ≡ moved a (j + k)
+moved_moved : (a : Address) (j k : ℕ) → address_onward (address_onward a j) k ≡ address_onward a (j + k)
 moved_moved (Permanent n) j k = ap Permanent (onward_onward n j k)
 moved_moved (Local n) j k = ap Local (onward_onward n j k)
 
-moved_either : (a : Address) (j k : ℕ) → moved (moved a j) k ≡ moved (moved a k) j
-moved_either a j k = moved_moved a j k ∙ (ap (moved a) (let e : j + k ≡ k + j = omega arith in e) ∙ sym (moved_moved a k j))
+moved_either : (a : Address) (j k : ℕ) → address_onward (address_onward a j) k ≡ address_onward (address_onward a k) j
+moved_either a j k = moved_moved a j k ∙ (ap (address_onward a) (let e : j + k ≡ k + j = omega arith in e) ∙ sym (moved_moved a k j))
 
 -- ---- indices
 
 module _ (m : Memory) (f : Frame) where
   -- cells before or after the indices are the same
-  indexed_further : (is : code.Indices) (a : Address) (k : ℕ) → plain_indexed m f is (moved a k) ≡ then_with (plain_indexed m f is a) (λ b. Ok (moved b k))
+  indexed_further : (is : code.Indices) (a : Address) (k : ℕ) → plain_indexed m f is (address_onward a k) ≡ then_with (plain_indexed m f is a) (λ b. Ok (address_onward b k))
   indexed_further code.no_indices a k = refl
   indexed_further (code.more_indices (code.index c low high size) is) a k = by_value (λ b. indexed_further is b k) (plain_value m f c)
     where
-      by_distance : ((b : Address) → plain_indexed m f is (moved b k) ≡ then_with (plain_indexed m f is b) (λ b. Ok (moved b k))) → (r : Result ℕ slots.ErrorName) →
-          then_with (then_with r (λ far. Ok (moved (moved a k) far))) (λ inner. plain_indexed m f is inner) ≡ then_with (then_with (then_with r (λ far. Ok (moved a far))) (λ inner. plain_indexed m f is inner)) (λ b. Ok (moved b k))
-      by_distance rest (Ok far) = ap (plain_indexed m f is) (moved_either a k far) ∙ rest (moved a far)
+      by_distance : ((b : Address) → plain_indexed m f is (address_onward b k) ≡ then_with (plain_indexed m f is b) (λ b. Ok (address_onward b k))) → (r : Result ℕ slots.ErrorName) →
+          then_with (then_with r (λ far. Ok (address_onward (address_onward a k) far))) (λ inner. plain_indexed m f is inner) ≡ then_with (then_with (then_with r (λ far. Ok (address_onward a far))) (λ inner. plain_indexed m f is inner)) (λ b. Ok (address_onward b k))
+      by_distance rest (Ok far) = ap (plain_indexed m f is) (moved_either a k far) ∙ rest (address_onward a far)
       by_distance rest (Err e) = refl
 
-      by_value : ((b : Address) → plain_indexed m f is (moved b k) ≡ then_with (plain_indexed m f is b) (λ b. Ok (moved b k))) → (r : Result ℤ slots.ErrorName) →
-          then_with (then_with r (λ v. then_with (element_offset low high size v) (λ far. Ok (moved (moved a k) far)))) (λ inner. plain_indexed m f is inner) ≡
-          then_with (then_with (then_with r (λ v. then_with (element_offset low high size v) (λ far. Ok (moved a far)))) (λ inner. plain_indexed m f is inner)) (λ b. Ok (moved b k))
+      by_value : ((b : Address) → plain_indexed m f is (address_onward b k) ≡ then_with (plain_indexed m f is b) (λ b. Ok (address_onward b k))) → (r : Result ℤ slots.ErrorName) →
+          then_with (then_with r (λ v. then_with (element_offset low high size v) (λ far. Ok (address_onward (address_onward a k) far)))) (λ inner. plain_indexed m f is inner) ≡
+          then_with (then_with (then_with r (λ v. then_with (element_offset low high size v) (λ far. Ok (address_onward a far)))) (λ inner. plain_indexed m f is inner)) (λ b. Ok (address_onward b k))
       by_value rest (Ok v) = by_distance rest (element_offset low high size v)
       by_value rest (Err e) = refl
 
   -- what the last index does
   abbrev last_index : code.OrdinalExpression → Range → ℕ → Address → Result Address slots.ErrorName
-  last_index c r size b = then_with (plain_value m f c) (λ v. then_with (element_offset r.low r.high size v) (λ far. Ok (moved b far)))
+  last_index c r size b = then_with (plain_value m f c) (λ v. then_with (element_offset r.low r.high size v) (λ far. Ok (address_onward b far)))
 
   then_ok : (r : Result Address slots.ErrorName) → then_with r (λ inner. Ok inner) ≡ r
   then_ok (Ok a) = refl
@@ -56,7 +56,7 @@ module _ (m : Memory) (f : Frame) where
 
   indexed_last : (is : code.Indices) (c : code.OrdinalExpression) (r : Range) (size : ℕ) (a : Address) → plain_indexed m f (compiled.with_index is c r size) a ≡ then_with (plain_indexed m f is a) (last_index c r size)
   indexed_last code.no_indices c r size a = then_ok (last_index c r size a)
-  indexed_last (code.more_indices (code.index d low high n) is) c r size a = go (λ b. indexed_last is c r size b) (then_with (plain_value m f d) (λ v. then_with (element_offset low high n v) (λ far. Ok (moved a far))))
+  indexed_last (code.more_indices (code.index d low high n) is) c r size a = go (λ b. indexed_last is c r size b) (then_with (plain_value m f d) (λ v. then_with (element_offset low high n v) (λ far. Ok (address_onward a far))))
     where
       go : ((b : Address) → plain_indexed m f (compiled.with_index is c r size) b ≡ then_with (plain_indexed m f is b) (last_index c r size)) → (x : Result Address slots.ErrorName) → then_with x (λ inner. plain_indexed m f (compiled.with_index is c r size) inner) ≡ then_with (then_with x (λ inner. plain_indexed m f is inner)) (last_index c r size)
       go rest (Ok b) = rest b
@@ -122,7 +122,7 @@ module _ (r : Tables) (l : Layouts) (fs : List Frame) (v : View) (m : Memory) (f
       let i = part.inside in
       omega (arith, i, n)
 
-  place_further : (q : Place) (u w : Ty) (a : Address) (c : Choice) (k : ℕ) → PlaceAt r l fs q u a → one_chosen u c ≡ Some (k, w) → PlaceAt r l fs (with_choice q c) w (moved a k)
+  place_further : (q : Place) (u w : Ty) (a : Address) (c : Choice) (k : ℕ) → PlaceAt r l fs q u a → one_chosen u c ≡ Some (k, w) → PlaceAt r l fs (with_choice q c) w (address_onward a k)
   place_further q u w a c k place e =
       let lies = sees.lies q u a place in
       let within = part_inside q u w a c k place e in
@@ -138,7 +138,7 @@ module _ (r : Tables) (l : Layouts) (fs : List Frame) (v : View) (m : Memory) (f
 
   -- ---- a field
 
-  field_target : (ts : FieldTypes) (x : Name) (c : Chosen) → field_chosen ts x ≡ Some c → (o : Outcome Target) (a : Result Address slots.ErrorName) → TargetAgrees r l fs o (record_with ts) a → TargetAgrees r l fs (o >>= λ t. Ok (with_field t x)) c.1 (then_with a (λ b. Ok (moved b c.0)))
+  field_target : (ts : FieldTypes) (x : Name) (c : Chosen) → field_chosen ts x ≡ Some c → (o : Outcome Target) (a : Result Address slots.ErrorName) → TargetAgrees r l fs o (record_with ts) a → TargetAgrees r l fs (o >>= λ t. Ok (with_field t x)) c.1 (then_with a (λ b. Ok (address_onward b c.0)))
   field_target ts x c e (Ok y) (Ok a) i = (ap (λ t. field_type t x) i.0 ∙ field_named ts x c e, place_further y.place (record_with ts) c.1 a (the_field x) c.0 i.1 e)
   field_target ts x c e (Err a) (Err b) i = i
   field_target ts x c e _ _ i = absurd i
@@ -151,8 +151,8 @@ module _ (r : Tables) (l : Layouts) (fs : List Frame) (v : View) (m : Memory) (f
       go p i None k j = absurd (cc)
       go (code.place b offset is) i (Some c) k j =
           subst (DesignatedAgrees r l fs m f (o >>= λ t. Ok (with_field t x))) (some_same (a_variable (code.place b (offset + c.0) is) c.1) e j)
-          (subst (TargetAgrees r l fs (o >>= λ t. Ok (with_field t x)) c.1) (sym (ap (plain_indexed m f is) (sym (moved_moved (origin_address m.references f b) offset c.0)) ∙ indexed_further m f is (moved (origin_address m.references f b) offset) c.0))
-          (field_target ts x c k o (plain_indexed m f is (moved (origin_address m.references f b) offset)) i))
+          (subst (TargetAgrees r l fs (o >>= λ t. Ok (with_field t x)) c.1) (sym (ap (plain_indexed m f is) (sym (moved_moved (origin_address m.references f b) offset c.0)) ∙ indexed_further m f is (address_onward (origin_address m.references f b) offset) c.0))
+          (field_target ts x c k o (plain_indexed m f is (address_onward (origin_address m.references f b) offset)) i))
   field_ok y e o x i j = absurd (cc)
 
   -- ---- an element
@@ -176,23 +176,23 @@ module _ (r : Tables) (l : Layouts) (fs : List Frame) (v : View) (m : Memory) (f
 
   element_target : (q : Range) (u : Ty) (y : Target) (a : Address) (z : ℤ) → y.ty ≡ array_over q u → PlaceAt r l fs y.place (array_over q u) a → (b : Bool) → is_within q z ≡ b →
       TargetAgrees r l fs (if b then Ok (record { place = with_choice y.place (the_element (natural_of (z +ℤ neg_ℤ q.low))); ty = u }) else Err out_of_range) u
-      (then_with (then_with (if b then Ok z else Err Outside) (λ i. Ok (stretch (unsigned_abs (i -ℤ q.low)) (cells_of u)))) (λ far. Ok (moved a far)))
+      (then_with (then_with (if b then Ok z else Err Outside) (λ i. Ok (stretch (unsigned_abs (i -ℤ q.low)) (cells_of u)))) (λ far. Ok (address_onward a far)))
   element_target q u y a z e i true w = (
     refl,
-    subst (λ n. PlaceAt r l fs (with_choice y.place (the_element (natural_of (z +ℤ neg_ℤ q.low)))) u (moved a n)) (sym (element_far y.place q u a z w i))
+    subst (λ n. PlaceAt r l fs (with_choice y.place (the_element (natural_of (z +ℤ neg_ℤ q.low)))) u (address_onward a n)) (sym (element_far y.place q u a z w i))
         (place_further y.place (array_over q u) u a (the_element (natural_of (z +ℤ neg_ℤ q.low))) (natural_of (z +ℤ neg_ℤ q.low) * cells_of u) i (element_chosen q u z w)),
   )
   element_target q u y a z e i false w = refl
 
   indexed_target : (q : Range) (u t : Ty) (c : code.OrdinalExpression) (o : Outcome Target) (a : Result Address slots.ErrorName) (i : Outcome Typed) (x : Result ℤ slots.ErrorName) → TargetAgrees r l fs o (array_over q u) a → OrdinalAgrees i t x →
-      TargetAgrees r l fs (o >>= λ t. i >>= λ a. with_index t a) u (then_with a (λ b. then_with x (λ v. then_with (element_offset q.low q.high (cells_of u) v) (λ far. Ok (moved b far)))))
+      TargetAgrees r l fs (o >>= λ t. i >>= λ a. with_index t a) u (then_with a (λ b. then_with x (λ v. then_with (element_offset q.low q.high (cells_of u) v) (λ far. Ok (address_onward b far)))))
   indexed_target q u t c (Err e) (Err d) i x j k = j
   indexed_target q u t c (Ok y) (Ok a) (Err e) (Err d) j k = k
   indexed_target q u t c (Ok y) (Ok a) (Ok w) (Err d) j k = absurd k
   indexed_target q u t c (Ok y) (Ok a) (Err e) (Ok z) j k = absurd k
   indexed_target q u t c (Ok y) (Ok a) (Ok w) (Ok z) j k =
-      subst (λ (n : ℤ). TargetAgrees r l fs (with_element_of y.ty y n) u (then_with (element_offset q.low q.high (cells_of u) z) (λ far. Ok (moved a far)))) (sym (ap number_of k.1))
-      (subst (λ (s : Ty). TargetAgrees r l fs (with_element_of s y z) u (then_with (element_offset q.low q.high (cells_of u) z) (λ far. Ok (moved a far)))) (sym j.0)
+      subst (λ (n : ℤ). TargetAgrees r l fs (with_element_of y.ty y n) u (then_with (element_offset q.low q.high (cells_of u) z) (λ far. Ok (address_onward a far)))) (sym (ap number_of k.1))
+      (subst (λ (s : Ty). TargetAgrees r l fs (with_element_of s y z) u (then_with (element_offset q.low q.high (cells_of u) z) (λ far. Ok (address_onward a far)))) (sym j.0)
       (element_target q u y a z j.0 j.1 (is_within q z) refl))
   indexed_target q u t c _ _ i x j k = absurd j
 
@@ -200,8 +200,8 @@ module _ (r : Tables) (l : Layouts) (fs : List Frame) (v : View) (m : Memory) (f
   element_ok (some_components first q k) e o t c i j n w = subst (DesignatedAgrees r l fs m f (o >>= λ t. i >>= λ a. with_index t a)) (some_same (a_component (code.element first q.low q.high (h.layouts.systems k).count c) k) e w) tt
   element_ok (a_variable (code.place b offset is) (array_over q u)) e o t c i j n w =
       subst (DesignatedAgrees r l fs m f (o >>= λ t. i >>= λ a. with_index t a)) (some_same (a_variable (code.place b offset (compiled.with_index is c q (cells_of u))) u) e w)
-      (subst (TargetAgrees r l fs (o >>= λ t. i >>= λ a. with_index t a) u) (sym (indexed_last m f is c q (cells_of u) (moved (origin_address m.references f b) offset)))
-      (indexed_target q u t c o (plain_indexed m f is (moved (origin_address m.references f b) offset)) i (plain_value m f c) j n))
+      (subst (TargetAgrees r l fs (o >>= λ t. i >>= λ a. with_index t a) u) (sym (indexed_last m f is c q (cells_of u) (address_onward (origin_address m.references f b) offset)))
+      (indexed_target q u t c o (plain_indexed m f is (address_onward (origin_address m.references f b) offset)) i (plain_value m f c) j n))
   element_ok (a_variable p (ordinal q)) e o t c i j n w = absurd (cc)
   element_ok x e o t c i j n w = absurd (cc)
 

@@ -76,8 +76,8 @@ module _ (r : Tables) (l : Layouts) (fs : List Frame) (v : View) (m : Memory) (f
   not_ok x true (as_ordinal c) o e i = one_agrees x.ty (ordinal all_booleans) _ _ o (plain_value m f c) (λ y a d k. negated_step x.ty y a e d k) i
   not_ok x _ _ o e i = tt
 
-  minus_step : (x : Typed) (a : ℤ) → x.value ≡ number_value a → OrdinalAgrees (signed_value (Some sign.Minus) x) (ordinal all_integers) (cells.negated a)
-  minus_step x a e = subst (λ (w : Value). OrdinalAgrees (signed_value (Some sign.Minus) (record { ty = x.ty; value = w })) (ordinal all_integers) (cells.negated a)) (sym e) (fits_narrowed (neg_ℤ a))
+  minus_step : (x : Typed) (a : ℤ) → x.value ≡ number_value a → OrdinalAgrees (signed_value (Some sign.Minus) x) (ordinal all_integers) (cells.negate a)
+  minus_step x a e = subst (λ (w : Value). OrdinalAgrees (signed_value (Some sign.Minus) (record { ty = x.ty; value = w })) (ordinal all_integers) (cells.negate a)) (sym e) (fits_narrowed (neg_ℤ a))
 
   signed_ok : (s : Option Sign) (x : Formed) (b : Bool) (a : Form) (o : Outcome Typed) → x.form ≡ a → is_integer x.ty ≡ b → FormAgrees m f o x.ty a → FormOk m f (o >>= signed_value s) (signed_ordinal s x b a)
   signed_ok None x b a o d e i = unsigned o (subst (λ (k : Form). FormAgrees m f o x.ty k) (sym d) i)
@@ -110,7 +110,7 @@ module _ (r : Tables) (l : Layouts) (fs : List Frame) (v : View) (m : Memory) (f
     where
       failed : (t : Ty) → FormAgrees m f (Err x) t (loaded_form p t)
       failed (ordinal q) = subst (λ (s : Result Address slots.ErrorName). OrdinalAgrees (Err x) (ordinal q) (then_with s (λ at. Ok (cell_at m at)))) (sym e) i
-      failed (set_over q) = subst (λ (s : Result Address slots.ErrorName). SetAgrees (Err x) (set_over q) (then_with s (λ at. Ok (sets.stored_at m at)))) (sym e) i
+      failed (set_over q) = subst (λ (s : Result Address slots.ErrorName). SetAgrees (Err x) (set_over q) (then_with s (λ at. Ok (sets.load_set m at)))) (sym e) i
       failed queue_type = subst (λ (s : Result Address slots.ErrorName). PlaceAgrees m (Err x) queue_type s) (sym e) i
       failed (array_over q u) = subst (λ (s : Result Address slots.ErrorName). PlaceAgrees m (Err x) (array_over q u) s) (sym e) i
       failed (record_with ts) = subst (λ (s : Result Address slots.ErrorName). PlaceAgrees m (Err x) (record_with ts) s) (sym e) i

@@ -9,7 +9,7 @@ use Rattle.std.proofs.lemmas.Nat.{and_le_l, or_lt, pow-add, pow_pos, pow_below}
 use Rattle.std.proofs.lemmas.Nat.Bits.{bit_at-zero, bit_at-lt, bit_at-pow_same, bit_at-pow_other, bit_at_cat_low, bit_at_cat_high, same_from_bits_below}
 use Rattle.std.proofs.Math.Nat.{add-mul, mul_assoc}
 use Rattle.std.proofs.Math.Pow.{pow_mono}
-use Rattle.cp_store.specs.Sets.{has_bit, combined}
+use Rattle.cp_store.specs.Sets.{has_bit, combine_sets}
 use Rattle.cp_store.specs.SetLaws.{is_joined}
 use Rattle.cp_store.specs.Values.{is_within}
 use Rattle.cp_store.proofs.Members.{combinations}
@@ -209,14 +209,14 @@ joined Intersection a b = intersection a b
 abbrev pub set_with : ℕ → SetValue
 set_with n = record { members = n }
 
-joined_bit : (o : SetOperation) (a b : List ℕ) → AreMembers 0 a → AreMembers 0 b → (k : ℕ) → k < 128 → has_bit (combined o (set_with (bits_of a)) (set_with (bits_of b))).members k ≡ is_joined o (is_member k a) (is_member k b)
+joined_bit : (o : SetOperation) (a b : List ℕ) → AreMembers 0 a → AreMembers 0 b → (k : ℕ) → k < 128 → has_bit (combine_sets o (set_with (bits_of a)) (set_with (bits_of b))).members k ≡ is_joined o (is_member k a) (is_member k b)
 joined_bit o a b h i k less =
     let w : is_within (pos 0) (pos 127) (pos k) ≡ true = grind (arith, ints, less) in
-    ap (λ c. c && has_bit (combined o (set_with (bits_of a)) (set_with (bits_of b))).members k) (sym w) ∙ (combinations o (set_with (bits_of a)) (set_with (bits_of b)) (pos k)
+    ap (λ c. c && has_bit (combine_sets o (set_with (bits_of a)) (set_with (bits_of b))).members k) (sym w) ∙ (combinations o (set_with (bits_of a)) (set_with (bits_of b)) (pos k)
     ∙ (ap (λ c. is_joined o (c && has_bit (bits_of a) k) (c && has_bit (bits_of b) k)) w ∙ (ap (λ c. is_joined o c (has_bit (bits_of b) k)) (bits_are 0 a k h) ∙ ap (λ c. is_joined o (is_member k a) c) (bits_are 0 b k i))))
 
 -- a combination of sets has the bits of the combination
-pub bits_joined : (o : SetOperation) (a b : List ℕ) → AreMembers 0 a → AreMembers 0 b → bits_of (joined o a b) ≡ (combined o (set_with (bits_of a)) (set_with (bits_of b))).members
+pub bits_joined : (o : SetOperation) (a b : List ℕ) → AreMembers 0 a → AreMembers 0 b → bits_of (joined o a b) ≡ (combine_sets o (set_with (bits_of a)) (set_with (bits_of b))).members
 bits_joined Union a b h i =
     let x = bits_below 0 a (omega arith) h in
     let y = bits_below 0 b (omega arith) i in

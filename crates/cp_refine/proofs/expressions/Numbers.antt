@@ -9,7 +9,7 @@ use Rattle.cp_meaning.specs.Outcome.{overflow, zero_divisor}
 use Rattle.cp_meaning.specs.Operations.{integer, truth, fitting, same_integer}
 
 -- an integer of the language, or overflow
-pub fits_narrowed : (z : ℤ) → OrdinalAgrees (fitting z) (ordinal all_integers) (cells.narrowed z)
+pub fits_narrowed : (z : ℤ) → OrdinalAgrees (fitting z) (ordinal all_integers) (cells.narrow z)
 fits_narrowed z = go (is_within all_integers z) refl
   where
     go : (b : Bool) → is_within all_integers z ≡ b → OrdinalAgrees (if b then Ok (integer z) else Err overflow) (ordinal all_integers) (if b then Ok z else Err Overflow)
@@ -46,9 +46,9 @@ not_same a h = subst (λ (x : Bool). OrdinalAgrees (Ok (truth (if int_lt (pos 0)
     go false = truth_agrees true
 
 pub quotient_same : (a b : ℤ) → OrdinalAgrees (if same_integer b (pos 0) then Err zero_divisor else fitting (int_div a b)) (ordinal all_integers) (cells.quotient a b)
-quotient_same a b = subst (λ (x : Bool). OrdinalAgrees (if same_integer b (pos 0) then Err zero_divisor else fitting (int_div a b)) (ordinal all_integers) (if x then Err ZeroDivisor else cells.narrowed (int_div a b))) (same_is_equal b (pos 0)) (go (same_integer b (pos 0)))
+quotient_same a b = subst (λ (x : Bool). OrdinalAgrees (if same_integer b (pos 0) then Err zero_divisor else fitting (int_div a b)) (ordinal all_integers) (if x then Err ZeroDivisor else cells.narrow (int_div a b))) (same_is_equal b (pos 0)) (go (same_integer b (pos 0)))
   where
-    go : (x : Bool) → OrdinalAgrees (if x then Err zero_divisor else fitting (int_div a b)) (ordinal all_integers) (if x then Err ZeroDivisor else cells.narrowed (int_div a b))
+    go : (x : Bool) → OrdinalAgrees (if x then Err zero_divisor else fitting (int_div a b)) (ordinal all_integers) (if x then Err ZeroDivisor else cells.narrow (int_div a b))
     go true = refl
     go false = fits_narrowed (int_div a b)
 

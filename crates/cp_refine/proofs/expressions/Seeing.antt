@@ -1,20 +1,20 @@
 -- The names that a process sees begin where their slots do.
 use Rattle.std.proofs.Common.{◌≡◌, ◌∙◌, ℕ, suc, ◌+◌, ◌-◌, ◌^◌, ◌<◌, ◌==◌, ◌⊎◌, inl, inr, Bool, true, false, if◌then◌else◌, List, [], ◌∷◌, Option, Some, None, ap, sym, refl, subst, arith, length, eq-eqb}
-use Rattle.cp_refine.proofs.Words.{Ok, eqb-true, Tables, component_at, routine_at, Address, Permanent, Local, Frame, HasCells, Memory, moved, onward, origin_address}
-use Rattle.cp_refine.proofs.Words.{referred, Routine, Program, Name, temporary, result_name, Holder, in_call, in_component, Place, Content, refers, Component, Call}
+use Rattle.cp_refine.proofs.Words.{Ok, eqb-true, Tables, component_at, routine_at, Address, Permanent, Local, Frame, HasCells, Memory, address_onward, onward, origin_address}
+use Rattle.cp_refine.proofs.Words.{reference_at, Routine, Program, Name, temporary, result_name, Holder, in_call, in_component, Place, Content, refers, Component, Call}
 use Rattle.cp_refine.proofs.Words.{system_of, plain_address, cells_of, Layouts, here, cell_named, is_own, is_parameter, look, component_begun, permanent_begun}
 use Rattle.cp_refine.proofs.Words.{result_begun, begun_form, Ground, RoutineIs, further, frame_above, InFrame, BeginsAt, PlaceAt, CallIs, CallHolds, TargetAgrees}
 use Rattle.cp_refine.proofs.Words.{BegunAgrees, Few, Sees, onward_is, Meaning, local_variable, permanent_variable, routine_meaning, find, since, routine_in}
 use Rattle.cp_slots.specs.declared.place.PlaceOrigin.TheVariants as origin
 use Rattle.cp_meaning.specs.Types.{Range, Ty, ordinal, queue_type, set_over, array_over, record_with, component_of}
-use Rattle.cp_meaning.specs.Places.{View, Target, content_of, call_above, environment_of, this_call, plain_place, referred as refers_to, result_type, target_meant, target_named}
+use Rattle.cp_meaning.specs.Places.{View, Target, content_of, call_above, environment_of, this_call, plain_place, reference_at as refers_to, result_type, target_meant, target_named}
 use Rattle.cp_slots.specs.Code as code
 use Rattle.cp_refine.proofs.expressions.Reading.{calls_frames, AllLie, place_lies}
 use Rattle.cp_refine.proofs.expressions.Members.{not_equal as differ}
 use Rattle.cp_refine.proofs.expressions.SetCells.{no_further as further_none}
 
 -- from an address that is there one moves by no cells
-pub moved_none : (m : Memory) (a : Address) (t : ℕ) → Few m → HasCells m a t → moved a 0 ≡ further a 0
+pub moved_none : (m : Memory) (a : Address) (t : ℕ) → Few m → HasCells m a t → address_onward a 0 ≡ further a 0
 moved_none m (Permanent n) t few h = ap Permanent (onward_is n 0 (let p = few.permanents in omega (arith, p, h)))
 moved_none m (Local n) t few h = ap Local (onward_is n 0 (let p = few.cells in omega (arith, p, h)))
 
@@ -69,7 +69,7 @@ module _ (g : Ground) (p : Program) (l : Layouts) (comps : List Component) (c : 
   frame_is = ap (λ n. if length fs == n then Some f else frame_above fs n) (top ∙ as_many) ∙ ap (λ (b : Bool). if b then Some f else frame_above fs (length fs)) (eq-eqb (length fs) (length fs) refl)
 
   -- a variable of the innermost call
-  local_place : (x : Name) (t : Ty) → look x (l.frames f.routine).variables ≡ Some t → PlaceAt g.tables l (f ∷ fs) (plain_place (this_call v) x) t (moved (origin_address m.references f ((l.frames f.routine).origins x)) 0)
+  local_place : (x : Name) (t : Ty) → look x (l.frames f.routine).variables ≡ Some t → PlaceAt g.tables l (f ∷ fs) (plain_place (this_call v) x) t (address_onward (origin_address m.references f ((l.frames f.routine).origins x)) 0)
   local_place x t k =
       let lies = call_holds.variables x t k in
       let here : origin_address m.references f ((l.frames f.routine).origins x) ≡ Local (f.base + cell_named (l.frames f.routine) x) =
@@ -80,7 +80,7 @@ module _ (g : Ground) (p : Program) (l : Layouts) (comps : List Component) (c : 
         offset = 0;
         begins = subst (λ (o : Option Frame). InFrame l o x t (Local (f.base + cell_named (l.frames f.routine) x))) (sym frame_is) (k, refl);
         chosen = refl;
-        address = ap (λ a. moved a 0) here ∙ moved_none m (Local (f.base + cell_named (l.frames f.routine) x)) (cells_of t) few lies.cells;
+        address = ap (λ a. address_onward a 0) here ∙ moved_none m (Local (f.base + cell_named (l.frames f.routine) x)) (cells_of t) few lies.cells;
       }
 
   referred_plain : (o : Option Content) (q : Place) → ((y : Place) → o ≡ Some (refers y) → ⊥) → refers_to o q ≡ q
@@ -92,18 +92,18 @@ module _ (g : Ground) (p : Program) (l : Layouts) (comps : List Component) (c : 
   local_agrees x t (inl k) =
       let e : refers_to (content_of x (environment_of v (this_call v))) (plain_place (this_call v) x) ≡ plain_place (this_call v) x =
       ap (λ env. refers_to (content_of x env) (plain_place (this_call v) x)) environment_is ∙ referred_plain (content_of x c.environment) (plain_place (this_call v) x) (λ y d. call_holds.plain x t y k d) in
-      (refl, subst (λ q. PlaceAt g.tables l (f ∷ fs) q t (moved (origin_address m.references f ((l.frames f.routine).origins x)) 0)) (sym e) (local_place x t k))
+      (refl, subst (λ q. PlaceAt g.tables l (f ∷ fs) q t (address_onward (origin_address m.references f ((l.frames f.routine).origins x)) 0)) (sym e) (local_place x t k))
   local_agrees x t (inr k) =
       let w = call_holds.references x t k in
       let e : refers_to (content_of x (environment_of v (this_call v))) (plain_place (this_call v) x) ≡ w.0 =
       ap (λ env. refers_to (content_of x env) (plain_place (this_call v) x)) environment_is ∙ ap (λ o. refers_to o (plain_place (this_call v) x)) w.1 in
-      let place = place_more g.tables l f fs w.0 t (referred m.references (f.references + cell_named (l.frames f.routine) x)) w.2 in
-      let lies = place_lies g.tables l (f ∷ fs) v m all w.0 t (referred m.references (f.references + cell_named (l.frames f.routine) x)) place in
-      let here : origin_address m.references f ((l.frames f.routine).origins x) ≡ referred m.references (f.references + cell_named (l.frames f.routine) x) =
-      ap (origin_address m.references f) (rout.frame.reference x t k) ∙ ap (referred m.references) (onward_is f.references (cell_named (l.frames f.routine) x) (numbered (cell_named (l.frames f.routine) x) (rout.frame.numbered x t k).0)) in
-      let same : referred m.references (f.references + cell_named (l.frames f.routine) x) ≡ moved (origin_address m.references f ((l.frames f.routine).origins x)) 0 =
-      sym (ap (λ a. moved a 0) here ∙ (moved_none m (referred m.references (f.references + cell_named (l.frames f.routine) x)) (cells_of t) few lies.cells ∙ further_none (referred m.references (f.references + cell_named (l.frames f.routine) x)))) in
-      (refl, subst (λ q. PlaceAt g.tables l (f ∷ fs) q t (moved (origin_address m.references f ((l.frames f.routine).origins x)) 0)) (sym e) (subst (PlaceAt g.tables l (f ∷ fs) w.0 t) same place))
+      let place = place_more g.tables l f fs w.0 t (reference_at m.references (f.references + cell_named (l.frames f.routine) x)) w.2 in
+      let lies = place_lies g.tables l (f ∷ fs) v m all w.0 t (reference_at m.references (f.references + cell_named (l.frames f.routine) x)) place in
+      let here : origin_address m.references f ((l.frames f.routine).origins x) ≡ reference_at m.references (f.references + cell_named (l.frames f.routine) x) =
+      ap (origin_address m.references f) (rout.frame.reference x t k) ∙ ap (reference_at m.references) (onward_is f.references (cell_named (l.frames f.routine) x) (numbered (cell_named (l.frames f.routine) x) (rout.frame.numbered x t k).0)) in
+      let same : reference_at m.references (f.references + cell_named (l.frames f.routine) x) ≡ address_onward (origin_address m.references f ((l.frames f.routine).origins x)) 0 =
+      sym (ap (λ a. address_onward a 0) here ∙ (moved_none m (reference_at m.references (f.references + cell_named (l.frames f.routine) x)) (cells_of t) few lies.cells ∙ further_none (reference_at m.references (f.references + cell_named (l.frames f.routine) x)))) in
+      (refl, subst (λ q. PlaceAt g.tables l (f ∷ fs) q t (address_onward (origin_address m.references f ((l.frames f.routine).origins x)) 0)) (sym e) (subst (PlaceAt g.tables l (f ∷ fs) w.0 t) same place))
 
   -- a permanent variable of the component
   permanent_agrees : (x : Name) (t : Ty) → look x (l.systems (l.owners f.routine)).variables ≡ Some t →
@@ -116,14 +116,14 @@ module _ (g : Ground) (p : Program) (l : Layouts) (comps : List Component) (c : 
       let here : origin_address m.references f (origin.Permanent ((l.systems (l.owners f.routine)).slots x)) ≡ Permanent ((component_at g.tables f.component).base + (l.systems (component_at g.tables f.component).system).slots x) =
       ap (λ n. Permanent (onward n ((l.systems (l.owners f.routine)).slots x))) call_is.own ∙ (ap (λ n. Permanent (onward (component_at g.tables f.component).base n)) slot_is ∙ ap Permanent (onward_is (component_at g.tables f.component).base ((l.systems (component_at g.tables f.component).system).slots x) (let a = lies.cells in let b = few.permanents in omega (arith, a, b)))) in (
         refl,
-        subst (λ n. PlaceAt g.tables l (f ∷ fs) (plain_place (in_component n) x) t (moved (origin_address m.references f (origin.Permanent ((l.systems (l.owners f.routine)).slots x))) 0)) (sym call_is.component)
+        subst (λ n. PlaceAt g.tables l (f ∷ fs) (plain_place (in_component n) x) t (address_onward (origin_address m.references f (origin.Permanent ((l.systems (l.owners f.routine)).slots x))) 0)) (sym call_is.component)
             (record {
               whole = t;
               first = Permanent ((component_at g.tables f.component).base + (l.systems (component_at g.tables f.component).system).slots x);
               offset = 0;
               begins = record { there = call_is.there; known = known; address = refl };
               chosen = refl;
-              address = ap (λ a. moved a 0) here ∙ moved_none m (Permanent ((component_at g.tables f.component).base + (l.systems (component_at g.tables f.component).system).slots x)) (cells_of t) few lies.cells;
+              address = ap (λ a. address_onward a 0) here ∙ moved_none m (Permanent ((component_at g.tables f.component).base + (l.systems (component_at g.tables f.component).system).slots x)) (cells_of t) few lies.cells;
             }),
       )
 

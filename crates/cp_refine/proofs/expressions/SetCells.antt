@@ -1,10 +1,10 @@
 -- A set that lies in cells is read as the set that it is: the eight words of its bits put together are these bits.
 use Rattle.cp_refine.proofs.Words.{◌≡◌, ◌∙◌, ℕ, ◌+◌, ◌*◌, ◌/◌, ◌%◌, ◌^◌, ◌<◌, ◌≤◌, List, ap, sym, refl, arith, pos, slice_index_or, Address, Permanent, Local, HasCells}
-use Rattle.cp_refine.proofs.Words.{Memory, cell_at, moved, Range, set_over, set_value, bits_of, set_cells, Few, further, LiesAt}
+use Rattle.cp_refine.proofs.Words.{Memory, cell_at, address_onward, Range, set_over, set_value, bits_of, set_cells, Few, further, LiesAt}
 use Rattle.std.specs.Int.{cast_unsigned, cast_signed, w16}
 use Rattle.std.proofs.lemmas.Int.{of_z-to_z}
 use Rattle.std.proofs.Math.Nat.{div-div-eq-div-mul, mod-add-div'}
-use Rattle.cp_store.specs.Sets.{word_at, pair_at, quad_at, stored_at}
+use Rattle.cp_store.specs.Sets.{word_at, pair_at, quad_at, load_set}
 use Rattle.cp_refine.proofs.expressions.Members.{bits_below}
 
 -- ---- numbers by words
@@ -38,11 +38,11 @@ no_further (Permanent n) = ap Permanent (omega arith)
 no_further (Local n) = ap Local (omega arith)
 
 -- to a cell that is there one moves by exactly that many cells
-pub moved_on : (m : Memory) (a : Address) (all k : ℕ) → Few m → HasCells m a all → k ≤ all → moved a k ≡ further a k
+pub moved_on : (m : Memory) (a : Address) (all k : ℕ) → Few m → HasCells m a all → k ≤ all → address_onward a k ≡ further a k
 moved_on m (Permanent n) all k few h le = ap Permanent (let p = few.permanents in omega (arith, p, h, le))
 moved_on m (Local n) all k few h le = ap Local (let p = few.cells in omega (arith, p, h, le))
 
-pub on_from : (m : Memory) (a : Address) (j k : ℕ) → Few m → HasCells m a 8 → j + k ≤ 8 → moved (further a j) k ≡ further a (j + k)
+pub on_from : (m : Memory) (a : Address) (j k : ℕ) → Few m → HasCells m a 8 → j + k ≤ 8 → address_onward (further a j) k ≡ further a (j + k)
 on_from m (Permanent n) j k few h le = ap Permanent (let p = few.permanents in omega (arith, p, h, le))
 on_from m (Local n) j k few h le = ap Local (let p = few.cells in omega (arith, p, h, le))
 
@@ -50,7 +50,7 @@ module _ (m : Memory) (a : Address) (b : ℕ) (few : Few m) (has : HasCells m a 
   word_lies : (k : ℕ) → k < 8 → slice_index_or (set_cells b) k (pos 0) ≡ cast_signed w16 (word b k) → word_at m (further a k) ≡ word b k
   word_lies k less e = ap (cast_unsigned w16) (block k less ∙ e) ∙ of_z-to_z w16 (word b k) (omega arith)
 
-  from : (j k n : ℕ) → j + k ≡ n → n ≤ 8 → moved (further a j) k ≡ further a n
+  from : (j k n : ℕ) → j + k ≡ n → n ≤ 8 → address_onward (further a j) k ≡ further a n
   from j k n e le = on_from m a j k few has (omega (arith, e, le)) ∙ ap (further a) e
 
   pair_lies : (n : ℕ) → n + 2 ≤ 8 → (w0 w1 : ℕ) → word_at m (further a n) ≡ w0 → word_at m (further a (n + 1)) ≡ w1 → pair_at m (further a n) ≡ w0 + w1 * 2 ^ 16
@@ -64,17 +64,17 @@ module _ (m : Memory) (a : Address) (b : ℕ) (few : Few m) (has : HasCells m a 
       ∙ ap (λ x. w0 + w1 * 2 ^ 16 + x * 2 ^ 32) (pair_lies (n + 2) (omega (arith, le)) w2 w3 e2 e3))
 
   -- the words in the cells are those of the number
-  stored_from : (stored_at m (further a 0)).members ≡ words (word b 0) (word b 1) (word b 2) (word b 3) (word b 4) (word b 5) (word b 6) (word b 7)
+  stored_from : (load_set m (further a 0)).members ≡ words (word b 0) (word b 1) (word b 2) (word b 3) (word b 4) (word b 5) (word b 6) (word b 7)
   stored_from =
       ap (λ x. quad_at m (further a 0) + quad_at m x * 2 ^ 64) (from 0 4 4 refl (omega arith))
       ∙ (ap (λ x. x + quad_at m (further a 4) * 2 ^ 64) (quad_lies 0 (omega arith) _ _ _ _ (word_lies 0 (omega arith) refl) (word_lies 1 (omega arith) refl) (word_lies 2 (omega arith) refl) (word_lies 3 (omega arith) refl))
       ∙ ap (λ x. (word b 0 + word b 1 * 2 ^ 16 + (word b 2 + word b 3 * 2 ^ 16) * 2 ^ 32) + x * 2 ^ 64) (quad_lies 4 (omega arith) _ _ _ _ (word_lies 4 (omega arith) refl) (word_lies 5 (omega arith) refl) (word_lies 6 (omega arith) refl) (word_lies 7 (omega arith) refl)))
 
-  pub stored_is : b < 2 ^ 128 → (stored_at m a).members ≡ b
-  stored_is small = ap (λ x. (stored_at m x).members) (sym (no_further a)) ∙ (stored_from ∙ words_are b small)
+  pub stored_is : b < 2 ^ 128 → (load_set m a).members ≡ b
+  stored_is small = ap (λ x. (load_set m x).members) (sym (no_further a)) ∙ (stored_from ∙ words_are b small)
 
 -- a set is read as it lies
-pub set_lies : (m : Memory) (r : Range) (ns : List ℕ) (a : Address) → Few m → LiesAt m (set_over r) (set_value ns) a → (stored_at m a).members ≡ bits_of ns
+pub set_lies : (m : Memory) (r : Range) (ns : List ℕ) (a : Address) → Few m → LiesAt m (set_over r) (set_value ns) a → (load_set m a).members ≡ bits_of ns
 set_lies m r ns a few h =
     let below = bits_below 0 ns (omega arith) h.typed in
     stored_is m a (bits_of ns) few h.cells h.block (omega (arith, below))

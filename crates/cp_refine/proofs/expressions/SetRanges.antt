@@ -82,5 +82,5 @@ set_range_same r ns h base =
     (λ e. bits_within (natural_of r.low) (natural_of r.high) (bits_of ns) 128 (λ k less bit. bounded r.low r.high k (one_within r ns k e (sym (bits_are 0 ns k h) ∙ bit))))
     (λ e. all_within r ns (λ k is. (let w = ranges (natural_of r.low) (natural_of r.high) (set_with (bits_of ns)) (set_with (bits_of ns)) (ranged_is e) k (small_member ns k h is) (bits_are 0 ns k h ∙ is) in inside r.low r.high k base w.0 w.1)))
   where
-    ranged_is : are_within (natural_of r.low) (natural_of r.high) (bits_of ns) 128 ≡ true → sets.ranged (natural_of r.low) (natural_of r.high) (set_with (bits_of ns)) ≡ Ok (set_with (bits_of ns))
+    ranged_is : are_within (natural_of r.low) (natural_of r.high) (bits_of ns) 128 ≡ true → sets.check_members (natural_of r.low) (natural_of r.high) (set_with (bits_of ns)) ≡ Ok (set_with (bits_of ns))
     ranged_is e = ap (λ b. if b then Ok (set_with (bits_of ns)) else Err out_of_bounds) e

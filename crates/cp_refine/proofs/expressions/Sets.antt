@@ -69,15 +69,15 @@ member_step t u (Ok x) _ (Ok z) _ h k = absurd k
 
 -- ---- combinations
 
-joined_agrees : (op : SetOperation) (a b : List ℕ) → AreMembers 0 a → AreMembers 0 b → SetAgrees (Ok (set_of_members (joined op a b))) (set_over all_integers) (Ok (sets.combined op (set_with (bits_of a)) (set_with (bits_of b))))
+joined_agrees : (op : SetOperation) (a b : List ℕ) → AreMembers 0 a → AreMembers 0 b → SetAgrees (Ok (set_of_members (joined op a b))) (set_over all_integers) (Ok (sets.combine_sets op (set_with (bits_of a)) (set_with (bits_of b))))
 joined_agrees op a b h k = (refl, (joined op a b, refl, members_joined op a b, sym (bits_joined op a b h k)))
 
 combined_step : (op : SetOperation) (F : Value → Value → Outcome Typed) (x y : Value) (a b : List ℕ) → x ≡ set_value a → y ≡ set_value b → F (set_value a) (set_value b) ≡ Ok (set_of_members (joined op a b)) → AreMembers 0 a → AreMembers 0 b →
-    SetAgrees (F x y) (set_over all_integers) (Ok (sets.combined op (set_with (bits_of a)) (set_with (bits_of b))))
+    SetAgrees (F x y) (set_over all_integers) (Ok (sets.combine_sets op (set_with (bits_of a)) (set_with (bits_of b))))
 combined_step op F x y a b e d is h k =
-    subst (λ (w : Value). SetAgrees (F w y) (set_over all_integers) (Ok (sets.combined op (set_with (bits_of a)) (set_with (bits_of b))))) (sym e)
-    (subst (λ (w : Value). SetAgrees (F (set_value a) w) (set_over all_integers) (Ok (sets.combined op (set_with (bits_of a)) (set_with (bits_of b))))) (sym d)
-    (subst (λ (w : Outcome Typed). SetAgrees w (set_over all_integers) (Ok (sets.combined op (set_with (bits_of a)) (set_with (bits_of b))))) (sym is) (joined_agrees op a b h k)))
+    subst (λ (w : Value). SetAgrees (F w y) (set_over all_integers) (Ok (sets.combine_sets op (set_with (bits_of a)) (set_with (bits_of b))))) (sym e)
+    (subst (λ (w : Value). SetAgrees (F (set_value a) w) (set_over all_integers) (Ok (sets.combine_sets op (set_with (bits_of a)) (set_with (bits_of b))))) (sym d)
+    (subst (λ (w : Outcome Typed). SetAgrees w (set_over all_integers) (Ok (sets.combine_sets op (set_with (bits_of a)) (set_with (bits_of b))))) (sym is) (joined_agrees op a b h k)))
 
 -- ---- the members of a constructor
 
@@ -94,12 +94,12 @@ one_member (negsuc n) h = absurd (cc)
 with_one : (ns : List ℕ) (z : ℤ) → AreMembers 0 ns → MembersAgree (if is_within all_characters z then Ok (with_member ns (natural_of z)) else Err out_of_range) (sets.with_element (set_with (bits_of ns)) z)
 with_one ns z h = go (is_within all_characters z) refl
   where
-    go : (b : Bool) → is_within all_characters z ≡ b → MembersAgree (if b then Ok (with_member ns (natural_of z)) else Err out_of_range) (if b then Ok (set_with (sets.combined Union (set_with (bits_of ns)) (set_with (2 ^ unsigned_abs z))).members) else Err error.Range)
+    go : (b : Bool) → is_within all_characters z ≡ b → MembersAgree (if b then Ok (with_member ns (natural_of z)) else Err out_of_range) (if b then Ok (set_with (sets.combine_sets Union (set_with (bits_of ns)) (set_with (2 ^ unsigned_abs z))).members) else Err error.Range)
     go false e = refl
     go true e =
         let one = one_member z e in
         let power : bits_of (natural_of z ∷ []) ≡ 2 ^ unsigned_abs z = (let d = one.1 in omega (arith, d)) in
-        (members_joined Union ns (natural_of z ∷ []), sym (bits_joined Union ns (natural_of z ∷ []) h one.0 ∙ ap (λ n. (sets.combined Union (set_with (bits_of ns)) (set_with n)).members) power))
+        (members_joined Union ns (natural_of z ∷ []), sym (bits_joined Union ns (natural_of z ∷ []) h one.0 ∙ ap (λ n. (sets.combine_sets Union (set_with (bits_of ns)) (set_with n)).members) power))
 
 added_member : (t : Ty) (o : Outcome (List ℕ)) (p : Outcome Typed) (r : Result SetValue slots.ErrorName) (q : Result ℤ slots.ErrorName) → MembersAgree o r → OrdinalAgrees p t q →
     MembersAgree (o >>= λ ns. p >>= λ x. with_member_checked ns x) (then_with r (λ s. then_with q (λ z. sets.with_element s z)))
@@ -117,10 +117,10 @@ added_member t (Ok ns) _ (Ok s) _ h k = absurd k
 module _ (m : Memory) (f : Frame) where
   pub sets_related : (q : Relation) (t u : Ty) (a b : code.SetExpression) (o p : Outcome Typed) → SetAgrees o t (plain_set m f a) → SetAgrees p u (plain_set m f b) → FormOk m f (o >>= λ x. p >>= λ y. Ok (truth (related_values q x.value y.value))) (compared_forms q (as_set a) (as_set b))
   sets_related Equal t u a b o p h k =
-      two_sets (λ w c. OrdinalAgrees w (ordinal all_booleans) c) t u (λ x y. Ok (truth (related_values Equal x.value y.value))) (λ s z. Ok (sets.compared true s z)) o p (plain_set m f a) (plain_set m f b) (λ e d i. i)
+      two_sets (λ w c. OrdinalAgrees w (ordinal all_booleans) c) t u (λ x y. Ok (truth (related_values Equal x.value y.value))) (λ s z. Ok (sets.compare_sets true s z)) o p (plain_set m f a) (plain_set m f b) (λ e d i. i)
       (λ x y i j e d c g. test_step Equal x.value y.value i j (bits_of i == bits_of j) e d (equal_bits i j c g)) h k
   sets_related NotEqual t u a b o p h k =
-      two_sets (λ w c. OrdinalAgrees w (ordinal all_booleans) c) t u (λ x y. Ok (truth (related_values NotEqual x.value y.value))) (λ s z. Ok (sets.compared false s z)) o p (plain_set m f a) (plain_set m f b) (λ e d i. i)
+      two_sets (λ w c. OrdinalAgrees w (ordinal all_booleans) c) t u (λ x y. Ok (truth (related_values NotEqual x.value y.value))) (λ s z. Ok (sets.compare_sets false s z)) o p (plain_set m f a) (plain_set m f b) (λ e d i. i)
       (λ x y i j e d c g. test_step NotEqual x.value y.value i j (not (bits_of i == bits_of j)) e d (ap not (equal_bits i j c g))) h k
   sets_related _ t u a b o p h k = tt
 
@@ -131,23 +131,23 @@ module _ (m : Memory) (f : Frame) where
   pub sets_added : (op : Addition) (x y : Formed) (a b : code.SetExpression) (o p : Outcome Typed) → SetAgrees o x.ty (plain_set m f a) → SetAgrees p y.ty (plain_set m f b) → FormOk m f (o >>= λ x. p >>= λ y. added_values op x.value y.value) (added_forms op x y (as_set a) (as_set b))
   sets_added Plus x y a b o p h k = tt
   sets_added Minus x y a b o p h k =
-      two_sets (λ w c. SetAgrees w (set_over all_integers) c) x.ty y.ty (λ v w. added_values Minus v.value w.value) (λ s z. Ok (sets.combined Difference s z)) o p (plain_set m f a) (plain_set m f b) (λ e d i. i)
+      two_sets (λ w c. SetAgrees w (set_over all_integers) c) x.ty y.ty (λ v w. added_values Minus v.value w.value) (λ s z. Ok (sets.combine_sets Difference s z)) o p (plain_set m f a) (plain_set m f b) (λ e d i. i)
       (λ v w i j e d c g. combined_step Difference (added_values Minus) v.value w.value i j e d refl c g) h k
   sets_added Or x y a b o p h k =
-      two_sets (λ w c. SetAgrees w (set_over all_integers) c) x.ty y.ty (λ v w. added_values Or v.value w.value) (λ s z. Ok (sets.combined Union s z)) o p (plain_set m f a) (plain_set m f b) (λ e d i. i)
+      two_sets (λ w c. SetAgrees w (set_over all_integers) c) x.ty y.ty (λ v w. added_values Or v.value w.value) (λ s z. Ok (sets.combine_sets Union s z)) o p (plain_set m f a) (plain_set m f b) (λ e d i. i)
       (λ v w i j e d c g. combined_step Union (added_values Or) v.value w.value i j e d refl c g) h k
 
   pub sets_multiplied : (op : Multiplication) (x y : Formed) (a b : code.SetExpression) (o p : Outcome Typed) → SetAgrees o x.ty (plain_set m f a) → SetAgrees p y.ty (plain_set m f b) → FormOk m f (o >>= λ x. p >>= λ y. multiplied_values op x.value y.value) (multiplied_forms op x y (as_set a) (as_set b))
   sets_multiplied And x y a b o p h k =
-      two_sets (λ w c. SetAgrees w (set_over all_integers) c) x.ty y.ty (λ v w. multiplied_values And v.value w.value) (λ s z. Ok (sets.combined Intersection s z)) o p (plain_set m f a) (plain_set m f b) (λ e d i. i)
+      two_sets (λ w c. SetAgrees w (set_over all_integers) c) x.ty y.ty (λ v w. multiplied_values And v.value w.value) (λ s z. Ok (sets.combine_sets Intersection s z)) o p (plain_set m f a) (plain_set m f b) (λ e d i. i)
       (λ v w i j e d c g. combined_step Intersection (multiplied_values And) v.value w.value i j e d refl c g) h k
   sets_multiplied _ x y a b o p h k = tt
 
   -- a variable of a set type
   pub set_loaded : Few m → (q : Range) (p : code.Place) (w : Value) (a : Address) → plain_address m f p ≡ Ok a → LiesAt m (set_over q) w a → SetAgrees (Ok (record { ty = set_over q; value = w })) (set_over q) (plain_set m f (code.load_set p))
-  set_loaded few q p w a e lies = subst (λ (s : Result Address slots.ErrorName). SetAgrees (Ok (record { ty = set_over q; value = w })) (set_over q) (then_with s (λ at. Ok (sets.stored_at m at)))) (sym e) (go w lies)
+  set_loaded few q p w a e lies = subst (λ (s : Result Address slots.ErrorName). SetAgrees (Ok (record { ty = set_over q; value = w })) (set_over q) (then_with s (λ at. Ok (sets.load_set m at)))) (sym e) (go w lies)
     where
-      go : (w : Value) → LiesAt m (set_over q) w a → SetAgrees (Ok (record { ty = set_over q; value = w })) (set_over q) (Ok (sets.stored_at m a))
+      go : (w : Value) → LiesAt m (set_over q) w a → SetAgrees (Ok (record { ty = set_over q; value = w })) (set_over q) (Ok (sets.load_set m a))
       go (set_value ns) h = (refl, (ns, refl, h.typed, set_lies m q ns a few h))
       go (number_value z) h = absurd h.typed
       go (array_value vs) h = absurd h.typed

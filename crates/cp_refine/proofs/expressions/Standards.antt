@@ -1,7 +1,7 @@
 -- Signs and the standard functions give the same on names and on slots.
 use Rattle.cp_refine.proofs.Words.{◌≡◌, ◌∙◌, Bool, true, false, if◌then◌else◌, Option, Some, None, ap, sym, refl, subst, arith, ints, Address, Frame, Memory}
 use Rattle.cp_refine.proofs.Words.{cell_at, then_with, Outcome, ◌>>=◌, out_of_range, encode, flag_of, HasType, plain_value, plain_address, OrdinalAgrees, PlaceAgrees}
-use Rattle.cp_refine.proofs.Words.{FormAgrees, loaded, Value, number_value, array_value, record_value, set_value, queue_value, number_of, waiting_in, BlockAt, LiesAt}
+use Rattle.cp_refine.proofs.Words.{FormAgrees, load_value, Value, number_value, array_value, record_value, set_value, queue_value, number_of, waiting_in, BlockAt, LiesAt}
 use Rattle.std.specs.Prelude.{ℕ, ℤ, pos, negsuc, ◌+ℤ◌, ◌-ℤ◌, neg_ℤ, int_le, int_lt, ◌&&◌, not, is_none, unsigned_abs, Result, Ok, Err}
 use Rattle.cp_tree.specs.declared.constant.Sign.TheVariants as sign
 use Rattle.cp_slots.specs.Code as code
@@ -80,7 +80,7 @@ queue_lies m w a h = go w h.typed h.block
     go (record_value fs) t b = absurd t
     go (set_value ns) t b = absurd t
 
-empty_same : (m : Memory) (o : Outcome Typed) (r : Result Address slots.ErrorName) → PlaceAgrees m o queue_type r → OrdinalAgrees (o >>= standard_value empty_function) (ordinal all_booleans) (then_with (loaded m r) (λ x. Ok (cells.truth (not (cells.is_true x)))))
+empty_same : (m : Memory) (o : Outcome Typed) (r : Result Address slots.ErrorName) → PlaceAgrees m o queue_type r → OrdinalAgrees (o >>= standard_value empty_function) (ordinal all_booleans) (then_with (load_value m r) (λ x. Ok (cells.truth (not (cells.is_true x)))))
 empty_same m (Ok x) (Ok a) h =
     let q = queue_lies m x.value a h.1 in
     subst (λ (w : Value). OrdinalAgrees (Ok (truth (is_none (waiting_in w)))) (ordinal all_booleans) (Ok (cells.truth (not (cells.is_true (cell_at m a)))))) (sym q.1)
@@ -117,7 +117,7 @@ module _ (m : Memory) (f : Frame) where
   applied_number : (s : Standard) (t : Ty) (b : Bool) (c : code.OrdinalExpression) (o : Outcome Typed) → is_integer t ≡ b → OrdinalAgrees o t (plain_value m f c) → FormOk m f (o >>= standard_value s) (applied_ordinal s t b c)
   applied_number succ_function (ordinal r) b c o e i = typed_agrees (ordinal r) (ordinal (range_of_base r.base)) (standard_value succ_function) (cells.successor (range_of_base r.base).high) o (plain_value m f c) (λ z h. successor_same r.base z h) i
   applied_number pred_function (ordinal r) b c o e i = typed_agrees (ordinal r) (ordinal (range_of_base r.base)) (standard_value pred_function) (cells.predecessor (range_of_base r.base).low) o (plain_value m f c) (λ z h. predecessor_same r.base z h) i
-  applied_number chr_function (ordinal r) true c o e i = typed_agrees (ordinal r) (ordinal all_characters) (standard_value chr_function) (cells.ranged (pos 0) (pos 127)) o (plain_value m f c) (λ z h. based characters z (is_within all_characters z) refl) i
+  applied_number chr_function (ordinal r) true c o e i = typed_agrees (ordinal r) (ordinal all_characters) (standard_value chr_function) (cells.check_range (pos 0) (pos 127)) o (plain_value m f c) (λ z h. based characters z (is_within all_characters z) refl) i
   applied_number ord_function (ordinal r) b c o e i = ord_ok r c o i (is_within all_integers (range_of_base r.base).high) refl
   applied_number abs_function (ordinal r) true c o e i = typed_agrees (ordinal r) (ordinal all_integers) (standard_value abs_function) cells.absolute o (plain_value m f c) (λ z h. absolute_same z) i
   applied_number empty_function (ordinal r) b c o e i = tt

@@ -1,5 +1,5 @@
 -- The code's expressions, sets and places are what their views are.
-use Rattle.cp_refine.proofs.Words.{◌≡◌, ◌∙◌, List, [], ◌∷◌, map, not, ap, sym, refl, subst, pos, Result, Ok, Err, Address, Frame, Memory, moved}
+use Rattle.cp_refine.proofs.Words.{◌≡◌, ◌∙◌, List, [], ◌∷◌, map, not, ap, sym, refl, subst, pos, Result, Ok, Err, Address, Frame, Memory, address_onward}
 use Rattle.cp_slots.specs.declared.place.OrdinalExpression.{OrdinalExpression}
 use Rattle.cp_slots.specs.declared.place.SetExpression.{SetExpression}
 use Rattle.cp_slots.specs.declared.place.Index.{Index}
@@ -10,9 +10,9 @@ use Rattle.cp_slots.specs.declared.place.OrdinalExpression.TheViews.{roll-Ordina
 use Rattle.cp_slots.specs.Code as code
 use Rattle.cp_store.specs.declared.error.ErrorName.{ErrorName}
 use Rattle.cp_store.specs.Places as places
-use Rattle.cp_store.specs.Places.{ToValue, ToSet, ToElement, ToAddress, origin_address, loaded, value_at, set_at, address_at, element_at}
+use Rattle.cp_store.specs.Places.{ToValue, ToSet, ToElement, ToAddress, origin_address, load_value, value_at, set_at, address_at, element_at}
 use Rattle.cp_store.specs.Sets as sets
-use Rattle.cp_store.specs.Values.{then_with, ranged, truth, is_true, negated, absolute, successor, predecessor, calculated, combined, compared}
+use Rattle.cp_store.specs.Values.{then_with, check_range, truth, is_true, negate, absolute, successor, predecessor, calculate, apply_logic, compare}
 use Rattle.cp_refine.specs.PlainValues.{plain_value, plain_set, plain_address, plain_indexed, ViewsAgree}
 
 abbrev IsValue : OrdinalExpression → Type 0
@@ -117,28 +117,28 @@ both_same go a b c d e k = ap (λ r. then_with r (λ x. then_with c (λ y. go x 
 
 value_layer : (y : OrdinalExpression-F Values Sets Elements Variables) → IsValue (roll-OrdinalExpression (bare_expression y))
 value_layer (OrdinalExpression-F.Number z) m f = value_by (OrdinalExpression-F.Number z) m f refl
-value_layer (OrdinalExpression-F.«OrdinalExpression::Load» p) m f = value_by (bare_expression (OrdinalExpression-F.«OrdinalExpression::Load» p)) m f (ap (loaded m) (p.1 m f))
-value_layer (OrdinalExpression-F.Negate e) m f = value_by (bare_expression (OrdinalExpression-F.Negate e)) m f (ap (λ r. then_with r negated) (e.value.1 m f))
+value_layer (OrdinalExpression-F.«OrdinalExpression::Load» p) m f = value_by (bare_expression (OrdinalExpression-F.«OrdinalExpression::Load» p)) m f (ap (load_value m) (p.1 m f))
+value_layer (OrdinalExpression-F.Negate e) m f = value_by (bare_expression (OrdinalExpression-F.Negate e)) m f (ap (λ r. then_with r negate) (e.value.1 m f))
 value_layer (OrdinalExpression-F.Absolute e) m f = value_by (bare_expression (OrdinalExpression-F.Absolute e)) m f (ap (λ r. then_with r absolute) (e.value.1 m f))
 value_layer (OrdinalExpression-F.Not e) m f = value_by (bare_expression (OrdinalExpression-F.Not e)) m f (ap (λ r. then_with r (λ x. Ok (truth (not (is_true x))))) (e.value.1 m f))
 value_layer (OrdinalExpression-F.Successor e last) m f = value_by (bare_expression (OrdinalExpression-F.Successor e last)) m f (ap (λ r. then_with r (successor last)) (e.value.1 m f))
 value_layer (OrdinalExpression-F.Predecessor e first) m f = value_by (bare_expression (OrdinalExpression-F.Predecessor e first)) m f (ap (λ r. then_with r (predecessor first)) (e.value.1 m f))
-value_layer (OrdinalExpression-F.Character e) m f = value_by (bare_expression (OrdinalExpression-F.Character e)) m f (ap (λ r. then_with r (ranged (pos 0) (pos 127))) (e.value.1 m f))
-value_layer (OrdinalExpression-F.Arithmetic o a b) m f = value_by (bare_expression (OrdinalExpression-F.Arithmetic o a b)) m f (both_same (calculated o) _ _ _ _ (a.value.1 m f) (b.value.1 m f))
-value_layer (OrdinalExpression-F.Logic o a b) m f = value_by (bare_expression (OrdinalExpression-F.Logic o a b)) m f (both_same (λ x y. Ok (combined o x y)) _ _ _ _ (a.value.1 m f) (b.value.1 m f))
-value_layer (OrdinalExpression-F.Compare o a b) m f = value_by (bare_expression (OrdinalExpression-F.Compare o a b)) m f (both_same (λ x y. Ok (compared o x y)) _ _ _ _ (a.value.1 m f) (b.value.1 m f))
-value_layer (OrdinalExpression-F.SameSet wanted a b) m f = value_by (bare_expression (OrdinalExpression-F.SameSet wanted a b)) m f (both_same (λ s t. Ok (sets.compared wanted s t)) _ _ _ _ (a.value.1 m f) (b.value.1 m f))
+value_layer (OrdinalExpression-F.Character e) m f = value_by (bare_expression (OrdinalExpression-F.Character e)) m f (ap (λ r. then_with r (check_range (pos 0) (pos 127))) (e.value.1 m f))
+value_layer (OrdinalExpression-F.Arithmetic o a b) m f = value_by (bare_expression (OrdinalExpression-F.Arithmetic o a b)) m f (both_same (calculate o) _ _ _ _ (a.value.1 m f) (b.value.1 m f))
+value_layer (OrdinalExpression-F.Logic o a b) m f = value_by (bare_expression (OrdinalExpression-F.Logic o a b)) m f (both_same (λ x y. Ok (apply_logic o x y)) _ _ _ _ (a.value.1 m f) (b.value.1 m f))
+value_layer (OrdinalExpression-F.Compare o a b) m f = value_by (bare_expression (OrdinalExpression-F.Compare o a b)) m f (both_same (λ x y. Ok (compare o x y)) _ _ _ _ (a.value.1 m f) (b.value.1 m f))
+value_layer (OrdinalExpression-F.SameSet wanted a b) m f = value_by (bare_expression (OrdinalExpression-F.SameSet wanted a b)) m f (both_same (λ s t. Ok (sets.compare_sets wanted s t)) _ _ _ _ (a.value.1 m f) (b.value.1 m f))
 value_layer (OrdinalExpression-F.Member e a) m f = value_by (bare_expression (OrdinalExpression-F.Member e a)) m f (both_same (λ x s. Ok (truth (sets.is_member s x))) _ _ _ _ (e.value.1 m f) (a.value.1 m f))
-value_layer (OrdinalExpression-F.IsEmpty p) m f = value_by (bare_expression (OrdinalExpression-F.IsEmpty p)) m f (ap (λ r. then_with (loaded m r) (λ x. Ok (truth (not (is_true x))))) (p.1 m f))
+value_layer (OrdinalExpression-F.IsEmpty p) m f = value_by (bare_expression (OrdinalExpression-F.IsEmpty p)) m f (ap (λ r. then_with (load_value m r) (λ x. Ok (truth (not (is_true x))))) (p.1 m f))
 
 set_layer : (y : SetExpression-F Values Sets Elements Variables) → IsSet (roll-SetExpression (bare_set y))
-set_layer (SetExpression-F.«SetExpression::Load» p) m f = set_by (bare_set (SetExpression-F.«SetExpression::Load» p)) m f (ap (λ r. then_with r (λ at. Ok (sets.stored_at m at))) (p.1 m f))
+set_layer (SetExpression-F.«SetExpression::Load» p) m f = set_by (bare_set (SetExpression-F.«SetExpression::Load» p)) m f (ap (λ r. then_with r (λ at. Ok (sets.load_set m at))) (p.1 m f))
 set_layer SetExpression-F.Empty m f = set_by SetExpression-F.Empty m f refl
 set_layer (SetExpression-F.With a e) m f = set_by (bare_set (SetExpression-F.With a e)) m f (both_same (λ s x. sets.with_element s x) _ _ _ _ (a.value.1 m f) (e.value.1 m f))
-set_layer (SetExpression-F.Combine o a b) m f = set_by (bare_set (SetExpression-F.Combine o a b)) m f (both_same (λ s t. Ok (sets.combined o s t)) _ _ _ _ (a.value.1 m f) (b.value.1 m f))
+set_layer (SetExpression-F.Combine o a b) m f = set_by (bare_set (SetExpression-F.Combine o a b)) m f (both_same (λ s t. Ok (sets.combine_sets o s t)) _ _ _ _ (a.value.1 m f) (b.value.1 m f))
 
 index_layer : (y : Index-F Values Sets Elements Variables) → IsIndex (roll-Index (bare_index y))
-index_layer y m f is at = element_by (bare_index y) m f is at (ap (λ r. then_with (then_with r (λ v. then_with (places.element_offset y.low y.high y.size v) (λ far. Ok (moved at far)))) (λ inner. plain_indexed m f is inner)) (y.at.1 m f))
+index_layer y m f is at = element_by (bare_index y) m f is at (ap (λ r. then_with (then_with r (λ v. then_with (places.element_offset y.low y.high y.size v) (λ far. Ok (address_onward at far)))) (λ inner. plain_indexed m f is inner)) (y.at.1 m f))
 
 -- one index after the other
 indexed_layer : (is : List Elements) (m : Memory) (f : Frame) (at : Address) → places.through (map element_at (map (λ i. i.0) is)) m f at ≡ plain_indexed m f (code.indices_of (map code.index_seen (map (λ i. i.0) is))) at
@@ -150,7 +150,7 @@ indexed_layer (i ∷ is) m f at = go (λ inner. indexed_layer is m f inner) (ele
     go rest (Err e) = refl
 
 place_layer : (y : Place-F Values Sets Elements Variables) → IsPlace (roll-Place (bare_place y))
-place_layer y m f = address_by (bare_place y) m f (indexed_layer y.indices.items m f (moved (origin_address m.references f y.origin) y.offset))
+place_layer y m f = address_by (bare_place y) m f (indexed_layer y.indices.items m f (address_onward (origin_address m.references f y.origin) y.offset))
 
 -- ---- all layers
 

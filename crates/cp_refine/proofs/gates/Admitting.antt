@@ -56,7 +56,7 @@ pub record MayGoIn (g : Ground) (s : State) (m : Machine) (q n : ℕ) : Type 0 w
   pub known : (j : ℕ) → (component_at g.tables n).kind ≡ kind.Monitor j → j < length m.monitors
 
 module _ (g : Ground) (p : Program) (l : Layouts) (s : State) (m : Machine) (q : ℕ) (rep : Represents g p l s m) (own : OwnNumbers g) where
-  one_admitted : (n j : ℕ) → (component_at g.tables n).kind ≡ kind.Monitor j → MayGoIn g s m q n → Represents g p l (admitted_to (Some n) s q) (slots.admitted_at (Some j) m q)
+  one_admitted : (n j : ℕ) → (component_at g.tables n).kind ≡ kind.Monitor j → MayGoIn g s m q n → Represents g p l (admitted_to (Some n) s q) (slots.admit_at (Some j) m q)
   one_admitted n j is may =
       let here : MonitorIs s m n (kind.Monitor j) = subst (MonitorIs s m n) is (rep.monitors n may.component) in
       let line : slots.without q (monitor_at m j).line ≡ without q (meaning.line_of s n) = ap (slots.without q) here.0 ∙ without_same q (meaning.line_of s n) in
@@ -65,10 +65,10 @@ module _ (g : Ground) (p : Program) (l : Layouts) (s : State) (m : Machine) (q :
       (goes_in g p l s m q (without q (meaning.line_of s n)) n j rep own is (may.known j is) may.component may.process may.waits may.called may.free))
 
   -- the whole admission: what is pending is the same monitor on both sides
-  pub admits : (n : ℕ) → s.pending ≡ Some n → MayGoIn g s m q n → Represents g p l (admitted s q) (slots.admitted m q)
+  pub admits : (n : ℕ) → s.pending ≡ Some n → MayGoIn g s m q n → Represents g p l (admitted s q) (slots.admit_waiting m q)
   admits n e may =
-      subst (λ o. Represents g p l (admitted_to o s q) (slots.admitted_at m.pending m q)) (sym e) (go m.pending (subst (λ o. PendingIs g o m.pending) e rep.pending))
+      subst (λ o. Represents g p l (admitted_to o s q) (slots.admit_at m.pending m q)) (sym e) (go m.pending (subst (λ o. PendingIs g o m.pending) e rep.pending))
     where
-      go : (w : Option ℕ) → PendingIs g (Some n) w → Represents g p l (admitted_to (Some n) s q) (slots.admitted_at w m q)
+      go : (w : Option ℕ) → PendingIs g (Some n) w → Represents g p l (admitted_to (Some n) s q) (slots.admit_at w m q)
       go None h = absurd h
       go (Some j) h = one_admitted n j h may

@@ -5,7 +5,7 @@ use Rattle.cp_refine.proofs.Words.{Represents, Machine, Monitor, Thread, thread_
 use Rattle.cp_slots.specs.declared.tables.ComponentKind.TheVariants as kind
 use Rattle.cp_machine.specs.declared.process.Status as slot_status
 use Rattle.cp_machine.specs.declared.process.Status.TheVariants as status
-use Rattle.cp_machine.specs.Kernel.{entered_by}
+use Rattle.cp_machine.specs.Kernel.{enter_by}
 use Rattle.cp_meaning.specs.State as named
 use Rattle.cp_meaning.specs.State.{Component, no_component, ready, at_gate, Status, Process, no_process, State, is_inside, has_entry, waits_at}
 use Rattle.cp_meaning.specs.Kernel.{after, is_anybody_inside, with_line, line_of}
@@ -184,7 +184,7 @@ module _ (g : Ground) (p : Program) (l : Layouts) (s : State) (m : Machine) (q :
 
   -- nobody is inside: the caller goes in
   pub enters_free : first_inside n s.processes ≡ None → x.status ≡ ready → ProcessIs g p l q x t →
-      Represents g p l (record s { processes = slice_set s.processes q x }) (entered_by None (with_thread m q t) q j)
+      Represents g p l (record s { processes = slice_set s.processes q x }) (enter_by None (with_thread m q t) q j)
   enters_free free now stands =
       gate_changes g p l s m q x t n j rep own is known there_n there (ready_awake _ was) (ready_awake x.status now) stands s.components (record { holder = Some q; line = (monitor_at m j).line }) (unlined n s.components)
       (monitor_at_first g p l s m q x t n j rep own is known there_n there).0 holder_here (λ k d. inside_there ready now k d refl)

@@ -31,13 +31,13 @@ module _ (g : Ground) (p : Program) (l : Layouts) (s : State) (m : Machine) (n j
   here = subst (MonitorIs s m n) is (rep.monitors n there_n)
 
   -- the monitor had no holder
-  freed_same : machine.freed m j (monitor_at m j).line ≡ m
+  freed_same : machine.free m j (monitor_at m j).line ≡ m
   freed_same =
       ap (λ (o : Option ℕ). record m { monitors = slice_set m.monitors j (record { holder = o; line = (monitor_at m j).line }) }) (sym (here.1 ∙ free))
       ∙ ap (λ (ms : List Monitor). record m { monitors = ms }) (set-get_or m.monitors j no_monitor)
 
-  freed_is : (line : List ℕ) → (monitor_at m j).line ≡ line → Represents g p l s (machine.freed m j line)
-  freed_is line e = subst (λ ks. Represents g p l s (machine.freed m j ks)) e (subst (λ w. Represents g p l s w) (sym freed_same) rep)
+  freed_is : (line : List ℕ) → (monitor_at m j).line ≡ line → Represents g p l s (machine.free m j line)
+  freed_is line e = subst (λ ks. Represents g p l s (machine.free m j ks)) e (subst (λ w. Represents g p l s w) (sym freed_same) rep)
 
   by_gates : (c : Gates) (line : List ℕ) → FirstWaits s n line → (monitor_at m j).line ≡ line → meaning.line_of s n ≡ line → Represents g p l (meaning.let_in c s n) (machine.let_in_by (gates_of c) m j line)
   by_gates first_gates line w same e = subst (λ ks. Represents g p l (meaning.first_in ks s n) (machine.first_in m j line)) (sym e) (go line w same)
@@ -50,7 +50,7 @@ module _ (g : Ground) (p : Program) (l : Layouts) (s : State) (m : Machine) (n j
       go : (ks : List ℕ) → FirstWaits s n ks → (monitor_at m j).line ≡ ks → Represents g p l (meaning.one_in ks s n) (machine.one_in m j ks)
       go [] w same = freed_is [] same
       go (q ∷ []) w same = enters q [] w
-      go (q ∷ r ∷ ks) w same = pending_is g p l s (machine.freed m j (q ∷ r ∷ ks)) (Some n) (Some j) is (freed_is (q ∷ r ∷ ks) same)
+      go (q ∷ r ∷ ks) w same = pending_is g p l s (machine.free m j (q ∷ r ∷ ks)) (Some n) (Some j) is (freed_is (q ∷ r ∷ ks) same)
 
   pub lets_in : FirstWaits s n (meaning.line_of s n) → Represents g p l (meaning.let_in s.discipline.gates s n) (machine.let_in m j)
   lets_in w =

@@ -142,16 +142,16 @@ module _ (g : Ground) (p : Program) (l : Layouts) (s : State) (m : Machine) (q a
     abbrev doing : Doing
     doing = continued_from view entry_routine (xs ++ ys) place
 
-    goes_on : (o : Option ℕ) → held ≡ queue_value o → Represents g p l (meaning.continuing (meaning.moved_to ready s q doing) n o) (machine.continued (machine_left g p l s m q es going n j may c cs calls_are entry component_is ys k.below) j cell)
+    goes_on : (o : Option ℕ) → held ≡ queue_value o → Represents g p l (meaning.continuing (meaning.moved_to ready s q doing) n o) (machine.resume (machine_left g p l s m q es going n j may c cs calls_are entry component_is ys k.below) j cell)
     goes_on o w =
-        subst (λ (ps : List Process). Represents g p l (meaning.continuing (record s { processes = ps; components = doing.components }) n o) (machine.continued (machine_left g p l s m q es going n j may c cs calls_are entry component_is ys k.below) j cell)) processes_same
+        subst (λ (ps : List Process). Represents g p l (meaning.continuing (record s { processes = ps; components = doing.components }) n o) (machine.resume (machine_left g p l s m q es going n j may c cs calls_are entry component_is ys k.below) j cell)) processes_same
         (continues_on g p l s m q es going n j may c cs calls_are entry component_is ys k.below pl.name h.whole pl.choices h.offset h.begins.there h.begins.known h.chosen o w)
 
-    continued : StepIs g p l q line (record { state = meaning.continuing (meaning.moved_to ready s q doing) n (waiting_in held); event = meaning.continue_event }) (record { machine = machine.continued (slot_calls.left g.tables (machine_ends g p l s m q es going n j may c cs calls_are entry component_is ys k.below) q Ends.caller Ends.slot Ends.entries) j cell; event = event.Kernel event_call.Continue })
+    continued : StepIs g p l q line (record { state = meaning.continuing (meaning.moved_to ready s q doing) n (waiting_in held); event = meaning.continue_event }) (record { machine = machine.resume (slot_calls.leave_frame g.tables (machine_ends g p l s m q es going n j may c cs calls_are entry component_is ys k.below) q Ends.caller Ends.slot Ends.entries) j cell; event = event.Kernel event_call.Continue })
     continued =
         record {
-          state = subst (λ r. Represents g p l (meaning.continuing (meaning.moved_to ready s q doing) n (waiting_in held)) (machine.continued (slot_calls.left g.tables (machine_ends g p l s m q es going n j may c cs calls_are entry component_is ys k.below) q Ends.caller r Ends.entries) j cell)) (sym procedure)
-              (subst (λ (v : Value). Represents g p l (meaning.continuing (meaning.moved_to ready s q doing) n (waiting_in v)) (machine.continued (machine_left g p l s m q es going n j may c cs calls_are entry component_is ys k.below) j cell)) (sym queue.1) (goes_on queue.0 queue.1));
+          state = subst (λ r. Represents g p l (meaning.continuing (meaning.moved_to ready s q doing) n (waiting_in held)) (machine.resume (slot_calls.leave_frame g.tables (machine_ends g p l s m q es going n j may c cs calls_are entry component_is ys k.below) q Ends.caller r Ends.entries) j cell)) (sym procedure)
+              (subst (λ (v : Value). Represents g p l (meaning.continuing (meaning.moved_to ready s q doing) n (waiting_in v)) (machine.resume (machine_left g p l s m q es going n j may c cs calls_are entry component_is ys k.below) j cell)) (sym queue.1) (goes_on queue.0 queue.1));
           event = refl;
         }
 
@@ -164,22 +164,22 @@ module _ (g : Ground) (p : Program) (l : Layouts) (s : State) (m : Machine) (q a
     state_by w = meaning.signalling w s q doing n (waiting_in held) before.calls (xs ++ ys)
 
     abbrev machine_by : Machine
-    machine_by = machine.signalled (with_stack m q (rest_of mid es)) q j cell
+    machine_by = machine.signal (with_stack m q (rest_of mid es)) q j cell
 
     abbrev ByRule : named.Signals → Type 0
     ByRule w = StepIs g p l q line (record { state = state_by w; event = meaning.continue_event }) (slot_calls.continue_by (signals_of w) g.tables m q cell mid es)
 
     -- the caller goes on: the kernel does it in the monitor that the process executes
     in_monitor : (w : named.Signals) → Represents g p l (state_by w) machine_by →
-        StepIs g p l q line (record { state = state_by w; event = meaning.continue_event }) (slot_calls.continued_in m q cell (component_at g.tables thread.frame.component).kind (rest_of mid es))
+        StepIs g p l q line (record { state = state_by w; event = meaning.continue_event }) (slot_calls.continue_in m q cell (component_at g.tables thread.frame.component).kind (rest_of mid es))
     in_monitor w rep =
-        subst (λ b. StepIs g p l q line (record { state = state_by w; event = meaning.continue_event }) (slot_calls.continued_in m q cell b (rest_of mid es))) (sym (frame_kind g p l s m q at token d e more mid es xs ys k j may_signal.delay))
+        subst (λ b. StepIs g p l q line (record { state = state_by w; event = meaning.continue_event }) (slot_calls.continue_in m q cell b (rest_of mid es))) (sym (frame_kind g p l s m q at token d e more mid es xs ys k j may_signal.delay))
         (record { state = rep; event = refl })
 
     by_signals : (w : named.Signals) → s.discipline.signals ≡ w → ByRule w
     by_signals return_signals rule =
-        subst (λ (fs : List Entry). StepIs g p l q line (record { state = state_by return_signals; event = meaning.continue_event }) (slot_calls.continued_from g.tables (machine_ends g p l s m q es going n j may c cs calls_are entry component_is ys k.below) q cell fs)) (sym Ends.stack)
-        (subst (λ w. StepIs g p l q line (record { state = state_by return_signals; event = meaning.continue_event }) (slot_calls.continued_from g.tables (machine_ends g p l s m q es going n j may c cs calls_are entry component_is ys k.below) q cell (Return Ends.caller Ends.slot w ∷ Ends.entries))) (sym monitor_is) continued)
+        subst (λ (fs : List Entry). StepIs g p l q line (record { state = state_by return_signals; event = meaning.continue_event }) (slot_calls.continue_from g.tables (machine_ends g p l s m q es going n j may c cs calls_are entry component_is ys k.below) q cell fs)) (sym Ends.stack)
+        (subst (λ w. StepIs g p l q line (record { state = state_by return_signals; event = meaning.continue_event }) (slot_calls.continue_from g.tables (machine_ends g p l s m q es going n j may c cs calls_are entry component_is ys k.below) q cell (Return Ends.caller Ends.slot w ∷ Ends.entries))) (sym monitor_is) continued)
     by_signals continue_signals rule =
         in_monitor continue_signals
         (subst (λ (v : Value). Represents g p l (meaning.notifying (meaning.moved_to ready s q (meaning.going_on doing before.calls (xs ++ ys))) n (waiting_in v)) machine_by) (sym queue.1)

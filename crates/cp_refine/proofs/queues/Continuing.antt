@@ -223,21 +223,21 @@ module _ (g : Ground) (p : Program) (l : Layouts) (s : State) (m : Machine) (q :
         (first_waits_kept state_ends q n (process_back g p l state_ends machine_ends q ends.caller ends.slot ends.monitor ends.entries returns None) (meaning.line_of s n) returns.was leave_ends.line)
 
     -- nobody waited: the line is let in
-    none_on : old_queue ≡ queue_value None → Represents g p l (meaning.continuing state_emptied n None) (machine.continued machine_left j at)
+    none_on : old_queue ≡ queue_value None → Represents g p l (meaning.continuing state_emptied n None) (machine.resume machine_left j at)
     none_on free =
-        subst (λ o. Represents g p l (meaning.continuing state_emptied n None) (machine.resumed o machine_emptied j)) (sym (resumed.found_none g p l state_left machine_empty left_so may.apart may.parts_apart n y u choices offset there known chosen free))
+        subst (λ o. Represents g p l (meaning.continuing state_emptied n None) (machine.go_on_inside o machine_emptied j)) (sym (resumed.found_none g p l state_left machine_empty left_so may.apart may.parts_apart n y u choices offset there known chosen free))
         (subst (λ w. Represents g p l (meaning.let_in s.discipline.gates state_emptied n) w) (let_in_freed machine_emptied j known_j)
         (lets_in g p l state_emptied (record machine_emptied { monitors = slice_set m.monitors j (record { holder = None; line = (monitor_at m j).line }) }) n j
         (resumed.emptied_none g p l state_left machine_empty left_so may.apart may.parts_apart n y u choices offset there known chosen free) may.leave.own may.is known_empty
         (subst (λ i. n < i) (sym (resumed.count g p l state_left machine_empty left_so may.apart may.parts_apart n y u choices offset there known chosen)) there_n) nobody line_left))
 
     -- a process waited: it goes on inside
-    some_on : (r : ℕ) → old_queue ≡ queue_value (Some r) → Represents g p l (meaning.continuing state_emptied n (Some r)) (machine.continued machine_left j at)
+    some_on : (r : ℕ) → old_queue ≡ queue_value (Some r) → Represents g p l (meaning.continuing state_emptied n (Some r)) (machine.resume machine_left j at)
     some_on r somebody =
         let w = resumed.is_waiting g p l state_left machine_empty left_so may.apart may.parts_apart n y u choices offset there known chosen r somebody in
-        subst (λ (v : Status). Represents g p l (if meaning.is_delayed_in n v then meaning.made_ready state_emptied r else meaning.let_in s.discipline.gates state_emptied n) (machine.continued machine_left j at)) (sym w.1)
-        (subst (λ b. Represents g p l (if b then meaning.made_ready state_emptied r else meaning.let_in s.discipline.gates state_emptied n) (machine.continued machine_left j at)) (sym (eq-eqb n n refl))
-        (subst (λ o. Represents g p l (meaning.made_ready state_emptied r) (machine.resumed o machine_emptied j)) (sym (resumed.found_some g p l state_left machine_empty left_so may.apart may.parts_apart n y u choices offset there known chosen r somebody))
+        subst (λ (v : Status). Represents g p l (if meaning.is_delayed_in n v then meaning.made_ready state_emptied r else meaning.let_in s.discipline.gates state_emptied n) (machine.resume machine_left j at)) (sym w.1)
+        (subst (λ b. Represents g p l (if b then meaning.made_ready state_emptied r else meaning.let_in s.discipline.gates state_emptied n) (machine.resume machine_left j at)) (sym (eq-eqb n n refl))
+        (subst (λ o. Represents g p l (meaning.made_ready state_emptied r) (machine.go_on_inside o machine_emptied j)) (sym (resumed.found_some g p l state_left machine_empty left_so may.apart may.parts_apart n y u choices offset there known chosen r somebody))
         (subst (λ v. Represents g p l (meaning.made_ready state_emptied r) v) (machine_same r)
         (resumed.resumed_some g p l state_left machine_empty left_so may.apart may.parts_apart n y u choices offset there known chosen r somebody may.leave.own j may.is known_empty nobody (called_left r w.0 w.1)))))
       where
@@ -258,6 +258,6 @@ module _ (g : Ground) (p : Program) (l : Layouts) (s : State) (m : Machine) (q :
             ∙ may.called r (let a = length-set state_ends.processes q (process_back g p l state_ends machine_ends q ends.caller ends.slot ends.monitor ends.entries returns None) in let b = length-set s.processes q process_ends in omega (arith, a, b, h)) (sym (ap (λ (x : Process). x.status) same) ∙ e)
 
     -- what the queue has says who goes on
-    pub continues_on : (o : Option ℕ) → old_queue ≡ queue_value o → Represents g p l (meaning.continuing state_emptied n o) (machine.continued machine_left j at)
+    pub continues_on : (o : Option ℕ) → old_queue ≡ queue_value o → Represents g p l (meaning.continuing state_emptied n o) (machine.resume machine_left j at)
     continues_on None free = none_on free
     continues_on (Some r) somebody = some_on r somebody

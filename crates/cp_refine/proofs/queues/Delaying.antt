@@ -118,7 +118,7 @@ module _ (g : Ground) (p : Program) (l : Layouts) (s : State) (m : Machine) (q a
     doing = with_move (with_items (stored view place (queue_value (Some q))) (xs ++ ys)) (delays n)
 
     -- nobody waits there: the process does
-    waits : part_at old_variable pl.choices ≡ queue_value None → StepIs g p l q line (settled p s q (Ok doing)) (record { machine = machine.delayed (with_stack m q rest) q j at_cell; event = event.Kernel event_call.Delay })
+    waits : part_at old_variable pl.choices ≡ queue_value None → StepIs g p l q line (settled p s q (Ok doing)) (record { machine = machine.delay_caller (with_stack m q rest) q j at_cell; event = event.Kernel event_call.Delay })
     waits free =
         record {
           state = subst (λ w. Represents g p l (meaning.let_in s.discipline.gates (meaning.moved_to (named.delayed n) s q doing) n) (machine.let_in w j)) (sym machine_is)
@@ -127,19 +127,19 @@ module _ (g : Ground) (p : Program) (l : Layouts) (s : State) (m : Machine) (q a
         }
 
     by_queue : (o : Option ℕ) → part_at old_variable pl.choices ≡ queue_value o → slice_index_or m.permanents at_cell (pos 0) ≡ flag_of o →
-        StepIs g p l q line (settled p s q (delayed_in view q (xs ++ ys) place)) (calls.delayed_in m q line at_cell (kind.Monitor j) rest)
+        StepIs g p l q line (settled p s q (delayed_in view q (xs ++ ys) place)) (calls.delay_in m q line at_cell (kind.Monitor j) rest)
     by_queue o w f =
-        subst (λ (v : Value). StepIs g p l q line (settled p s q (queue_free (waiting_in v) >>= λ u. Ok doing)) (calls.delayed_in m q line at_cell (kind.Monitor j) rest)) (sym w)
-        (subst (λ (z : ℤ). StepIs g p l q line (settled p s q (queue_free o >>= λ u. Ok doing)) (if is_true z then statements.fault m q line error.QueueInUse else record { machine = machine.delayed (with_stack m q rest) q j at_cell; event = event.Kernel event_call.Delay })) (sym f) (go o w))
+        subst (λ (v : Value). StepIs g p l q line (settled p s q (queue_free (waiting_in v) >>= λ u. Ok doing)) (calls.delay_in m q line at_cell (kind.Monitor j) rest)) (sym w)
+        (subst (λ (z : ℤ). StepIs g p l q line (settled p s q (queue_free o >>= λ u. Ok doing)) (if is_true z then statements.fault m q line error.QueueInUse else record { machine = machine.delay_caller (with_stack m q rest) q j at_cell; event = event.Kernel event_call.Delay })) (sym f) (go o w))
       where
-        go : (o : Option ℕ) → part_at old_variable pl.choices ≡ queue_value o → StepIs g p l q line (settled p s q (queue_free o >>= λ u. Ok doing)) (if is_true (flag_of o) then statements.fault m q line error.QueueInUse else record { machine = machine.delayed (with_stack m q rest) q j at_cell; event = event.Kernel event_call.Delay })
+        go : (o : Option ℕ) → part_at old_variable pl.choices ≡ queue_value o → StepIs g p l q line (settled p s q (queue_free o >>= λ u. Ok doing)) (if is_true (flag_of o) then statements.fault m q line error.QueueInUse else record { machine = machine.delay_caller (with_stack m q rest) q j at_cell; event = event.Kernel event_call.Delay })
         go None w = waits w
         go (Some r) w = fails g p l s m q at item_here mid es xs ys k line queue_in_use error.QueueInUse refl
 
     in_queue : StepIs g p l q line (settled p s q (delayed_in view q (xs ++ ys) place)) (calls.delay_at g.tables m q line rest a)
     in_queue =
         subst (λ b. StepIs g p l q line (settled p s q (delayed_in view q (xs ++ ys) place)) (calls.delay_at g.tables m q line rest b)) (sym address_is)
-        (subst (λ c. StepIs g p l q line (settled p s q (delayed_in view q (xs ++ ys) place)) (calls.delayed_in m q line at_cell c rest)) (sym frame_kind) (by_queue queue.0 queue.1 flag))
+        (subst (λ c. StepIs g p l q line (settled p s q (delayed_in view q (xs ++ ys) place)) (calls.delay_in m q line at_cell c rest)) (sym frame_kind) (by_queue queue.0 queue.1 flag))
 
   -- ---- the outcomes
 

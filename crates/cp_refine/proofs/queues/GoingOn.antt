@@ -174,14 +174,14 @@ module _ (g : Ground) (p : Program) (l : Layouts) (s : State) (m : Machine) (q :
     abbrev at_gate_with : List Component → State
     at_gate_with cs = record state_on { processes = slice_set state_on.processes r (record (named.process_at state_on.processes r) { status = at_gate n }); components = cs }
 
-    notified : Represents g p l (meaning.at_gate_last state_emptied n r) (machine.joined machine_emptied j r)
+    notified : Represents g p l (meaning.at_gate_last state_emptied n r) (machine.join_line machine_emptied j r)
     notified =
-        subst (λ (line : List ℕ). Represents g p l (at_gate_with (with_line emptied n (line ++ r ∷ []))) (machine.joined machine_emptied j r)) (sym line_same)
-        (subst (λ (cs : List Component). Represents g p l (at_gate_with cs) (machine.joined machine_emptied j r)) (lined_written s.components n longer write there_n)
+        subst (λ (line : List ℕ). Represents g p l (at_gate_with (with_line emptied n (line ++ r ∷ []))) (machine.join_line machine_emptied j r)) (sym line_same)
+        (subst (λ (cs : List Component). Represents g p l (at_gate_with cs) (machine.join_line machine_emptied j r)) (lined_written s.components n longer write there_n)
         (resumed.comes_to_gate g p l state_longer machine_longer rep_longer may.delay.apart may.delay.parts_apart n y u choices offset there known chosen r (still_there longer) j may.delay.is))
 
-    pub notifies : Represents g p l (meaning.notifying state_emptied n (Some r)) (machine.joined machine_emptied j r)
-    notifies = subst (λ (b : Bool). Represents g p l (if b then meaning.at_gate_last state_emptied n r else state_emptied) (machine.joined machine_emptied j r)) (sym guard_on) notified
+    pub notifies : Represents g p l (meaning.notifying state_emptied n (Some r)) (machine.join_line machine_emptied j r)
+    notifies = subst (λ (b : Bool). Represents g p l (if b then meaning.at_gate_last state_emptied n r else state_emptied) (machine.join_line machine_emptied j r)) (sym guard_on) notified
 
     -- ---- it goes in, and the caller is the first of the line
 
@@ -244,35 +244,35 @@ module _ (g : Ground) (p : Program) (l : Layouts) (s : State) (m : Machine) (q :
     abbrev lined_emptied : List Component
     lined_emptied = with_permanents (with_line s.components n with_caller) n (write (named.component_at (with_line s.components n with_caller) n).environment)
 
-    resumed_inside : Represents g p l (ready_with (with_line emptied n with_caller)) (machine.changed_places machine_emptied j q r)
+    resumed_inside : Represents g p l (ready_with (with_line emptied n with_caller)) (machine.change_places machine_emptied j q r)
     resumed_inside =
-        subst (λ (cs : List Component). Represents g p l (ready_with cs) (machine.changed_places machine_emptied j q r)) (lined_written s.components n with_caller write there_n)
+        subst (λ (cs : List Component). Represents g p l (ready_with cs) (machine.change_places machine_emptied j q r)) (lined_written s.components n with_caller write there_n)
         (subst (λ (ts : List Thread). Represents g p l (ready_with lined_emptied) (goes_in_by ts (slice_set m.monitors j gate_taken))) (sym threads_same)
         (subst (λ (ms : List Monitor). Represents g p l (ready_with lined_emptied) (goes_in_by machine_waiting.threads ms)) monitors_same
         (resumed.resumed_some g p l state_waiting machine_waiting rep_waiting may.delay.apart may.delay.parts_apart n y u choices offset there known chosen r (still_there with_caller) may.delay.own j may.delay.is (let a = length-set m.monitors j gate_free in let b = may.delay.known in omega (arith, a, b)) nobody (still_called (at_gate n)))))
 
-    pub yields : (move : Move) → Represents g p l (meaning.yielding s q n (record { calls = before.calls; items = zs; components = emptied; move = move }) (Some r)) (machine.changed_places machine_emptied j q r)
+    pub yields : (move : Move) → Represents g p l (meaning.yielding s q n (record { calls = before.calls; items = zs; components = emptied; move = move }) (Some r)) (machine.change_places machine_emptied j q r)
     yields move =
         let doing : Doing = record { calls = before.calls; items = zs; components = emptied; move = move } in
-        subst (λ (b : Bool). Represents g p l (if b then meaning.made_ready (meaning.at_gate_first s q n doing) r else meaning.moved_to ready s q doing) (machine.changed_places machine_emptied j q r)) (sym guard_before)
-        (subst (λ (line : List ℕ). Represents g p l (ready_with (with_line emptied n (q ∷ line))) (machine.changed_places machine_emptied j q r)) (sym line_same) resumed_inside)
+        subst (λ (b : Bool). Represents g p l (if b then meaning.made_ready (meaning.at_gate_first s q n doing) r else meaning.moved_to ready s q doing) (machine.change_places machine_emptied j q r)) (sym guard_before)
+        (subst (λ (line : List ℕ). Represents g p l (ready_with (with_line emptied n (q ∷ line))) (machine.change_places machine_emptied j q r)) (sym line_same) resumed_inside)
 
   -- ---- by what the queue has
 
-  pub notifies_by : m.discipline.signals ≡ signals.Continue → (o : Option ℕ) → old_queue ≡ queue_value o → Represents g p l (meaning.notifying state_emptied n o) (machine.signalled machine_on q j at)
-  notifies_by rule o is = subst (λ (w : slot_signals.Signals). Represents g p l (meaning.notifying state_emptied n o) (machine.signalled_by w (machine.waits_in machine_on at) machine_emptied q j)) (sym rule) (go o is)
+  pub notifies_by : m.discipline.signals ≡ signals.Continue → (o : Option ℕ) → old_queue ≡ queue_value o → Represents g p l (meaning.notifying state_emptied n o) (machine.signal machine_on q j at)
+  notifies_by rule o is = subst (λ (w : slot_signals.Signals). Represents g p l (meaning.notifying state_emptied n o) (machine.signal_by w (machine.waits_in machine_on at) machine_emptied q j)) (sym rule) (go o is)
     where
-      go : (o : Option ℕ) → old_queue ≡ queue_value o → Represents g p l (meaning.notifying state_emptied n o) (machine.signalled_by signals.Continue (machine.waits_in machine_on at) machine_emptied q j)
-      go None free = subst (λ (w : Option ℕ). Represents g p l state_emptied (machine.signalled_by signals.Continue w machine_emptied q j)) (sym (found_none free)) (none_on free)
-      go (Some r) somebody = subst (λ (w : Option ℕ). Represents g p l (meaning.notifying state_emptied n (Some r)) (machine.signalled_by signals.Continue w machine_emptied q j)) (sym (found_some r somebody)) (notifies r somebody)
+      go : (o : Option ℕ) → old_queue ≡ queue_value o → Represents g p l (meaning.notifying state_emptied n o) (machine.signal_by signals.Continue (machine.waits_in machine_on at) machine_emptied q j)
+      go None free = subst (λ (w : Option ℕ). Represents g p l state_emptied (machine.signal_by signals.Continue w machine_emptied q j)) (sym (found_none free)) (none_on free)
+      go (Some r) somebody = subst (λ (w : Option ℕ). Represents g p l (meaning.notifying state_emptied n (Some r)) (machine.signal_by signals.Continue w machine_emptied q j)) (sym (found_some r somebody)) (notifies r somebody)
 
   module _ (move : Move) where
     abbrev doing : Doing
     doing = record { calls = before.calls; items = zs; components = emptied; move = move }
 
-    yields_to : (o : Option ℕ) → old_queue ≡ queue_value o → Represents g p l (meaning.yielding s q n doing o) (machine.signalled_by signals.Wait (machine.waits_in machine_on at) machine_emptied q j)
-    yields_to None free = subst (λ (w : Option ℕ). Represents g p l state_emptied (machine.signalled_by signals.Wait w machine_emptied q j)) (sym (found_none free)) (none_on free)
-    yields_to (Some r) somebody = subst (λ (w : Option ℕ). Represents g p l (meaning.yielding s q n doing (Some r)) (machine.signalled_by signals.Wait w machine_emptied q j)) (sym (found_some r somebody)) (yields r somebody move)
+    yields_to : (o : Option ℕ) → old_queue ≡ queue_value o → Represents g p l (meaning.yielding s q n doing o) (machine.signal_by signals.Wait (machine.waits_in machine_on at) machine_emptied q j)
+    yields_to None free = subst (λ (w : Option ℕ). Represents g p l state_emptied (machine.signal_by signals.Wait w machine_emptied q j)) (sym (found_none free)) (none_on free)
+    yields_to (Some r) somebody = subst (λ (w : Option ℕ). Represents g p l (meaning.yielding s q n doing (Some r)) (machine.signal_by signals.Wait w machine_emptied q j)) (sym (found_some r somebody)) (yields r somebody move)
 
-    pub yields_by : m.discipline.signals ≡ signals.Wait → (o : Option ℕ) → old_queue ≡ queue_value o → Represents g p l (meaning.yielding s q n doing o) (machine.signalled machine_on q j at)
-    yields_by rule o is = subst (λ (w : slot_signals.Signals). Represents g p l (meaning.yielding s q n doing o) (machine.signalled_by w (machine.waits_in machine_on at) machine_emptied q j)) (sym rule) (yields_to o is)
+    pub yields_by : m.discipline.signals ≡ signals.Wait → (o : Option ℕ) → old_queue ≡ queue_value o → Represents g p l (meaning.yielding s q n doing o) (machine.signal machine_on q j at)
+    yields_by rule o is = subst (λ (w : slot_signals.Signals). Represents g p l (meaning.yielding s q n doing o) (machine.signal_by w (machine.waits_in machine_on at) machine_emptied q j)) (sym rule) (yields_to o is)

@@ -4,7 +4,7 @@ use Rattle.cp_refine.proofs.Words.{some_same, pos, slice_index_or, bytes_eq-Deci
 use Rattle.cp_refine.proofs.Words.{Parameter, Content, holds, refers, knows, Environment, content_of, value_held, parameter_variables, HasType, Few, IsOther}
 use Rattle.cp_refine.proofs.Words.{AreDifferent, LiesAt, content_second, onward_is, cells_of, SystemLayout, look}
 use Rattle.cp_store.specs.declared.argument.Bound.TheVariants.{Copy, Reference, Component}
-use Rattle.cp_store.specs.Arguments.{put_value, bound_in_component, put_binding, bindings_after}
+use Rattle.cp_store.specs.Arguments.{put_value, bind_component, put_binding, bindings_after}
 use Rattle.cp_resolved.specs.Resolved.{AreApart, SystemParameterIs, SystemParametersAre}
 use Rattle.cp_refine.specs.Given.{IsValue, Keeps, IsApartFrom, IsOutside, IsHanded, AreHanded}
 use Rattle.cp_refine.proofs.control.Moving.{set_here, set_there}
@@ -207,7 +207,7 @@ module _ (lay : SystemLayout) (m : Memory) (bindings : List ℕ) (base own : ℕ
       all.number (cell_of q) (free_numbers q.name (component_of is.0) qs e xs bs (subst (λ u. SystemParameterIs lay u q.name) is.1 h) other hs are) ∙ one
   stays_handed q c b qs e xs bs n n2 ns ns2 h is other hs are all one = absurd is
 
-  pub all_handed : (qs : List Parameter) (e : Environment) (xs : List Argument) (bs : List Bound) (n : Memory) (ns : List ℕ) → Hands n ns → SystemParametersAre lay qs → AreDifferent qs → Given qs e xs bs → AllHanded qs e n (bound_in_component n base xs bs) ns (bindings_after ns base xs bs)
+  pub all_handed : (qs : List Parameter) (e : Environment) (xs : List Argument) (bs : List Bound) (n : Memory) (ns : List ℕ) → Hands n ns → SystemParametersAre lay qs → AreDifferent qs → Given qs e xs bs → AllHanded qs e n (bind_component n base xs bs) ns (bindings_after ns base xs bs)
   all_handed [] [] [] [] n ns i h d is = record { hands = i; cell = λ k free. refl; number = λ k free. refl; lies = tt }
   all_handed (q ∷ qs) (c ∷ e) (x ∷ xs) (b ∷ bs) n ns i h d is =
       let one = one_handed q c.1 b x.slot n ns is.1 i h.0 is.2 in
@@ -218,7 +218,7 @@ module _ (lay : SystemLayout) (m : Memory) (bindings : List ℕ) (base own : ℕ
         hands = more.hands;
         cell = λ k free. more.cell k free.1 ∙ one.cell k free.0;
         number = λ k free. more.number k free.1 ∙ one.number k free.0;
-        lies = (stays_handed q c.1 b qs e xs bs n2 (bound_in_component n2 base xs bs) ns2 (bindings_after ns2 base xs bs) h.0 is.2 d.0 h.1 is.3 more one.lies, more.lies);
+        lies = (stays_handed q c.1 b qs e xs bs n2 (bind_component n2 base xs bs) ns2 (bindings_after ns2 base xs bs) h.0 is.2 d.0 h.1 is.3 more one.lies, more.lies);
       }
   all_handed _ _ _ _ n ns i h d is = absurd is
 
@@ -261,7 +261,7 @@ module _ (lay : SystemLayout) (m : Memory) (bindings : List ℕ) (base own : ℕ
       -- no name is a variable and a component, and each component of the layout is a parameter
       (not_both : (x : Name) (t u : Ty) → look x lay.parts ≡ Some t → look x lay.variables ≡ Some u → ⊥) (closed : (x : Name) (t : Ty) → look x lay.parts ≡ Some t → look x (parameter_variables qs) ≡ Some t) where
     abbrev pub handed_memory : Memory
-    handed_memory = bound_in_component m base xs bs
+    handed_memory = bind_component m base xs bs
 
     abbrev pub handed_bindings : List ℕ
     handed_bindings = bindings_after bindings base xs bs

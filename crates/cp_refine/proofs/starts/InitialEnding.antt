@@ -67,7 +67,7 @@ module _ (g : Ground) (p : Program) (l : Layouts) (s : State) (m : Machine) (q :
       (subst (λ (fs : List Entry). CallsHold g.tables l (own_memory thread) before.calls (frames_of thread.frame fs)) k.stack runs_before.calls)
 
   abbrev thread_back : Thread
-  thread_back = calls.given_up g.tables thread caller None es
+  thread_back = calls.give_up_frame g.tables thread caller None es
 
   abbrev process_back : Process
   process_back = record { component = before.component; status = ready; calls = calls_around; items = items_after }
@@ -96,7 +96,7 @@ module _ (g : Ground) (p : Program) (l : Layouts) (s : State) (m : Machine) (q :
       subst (λ (is : List Item). StepIs g p l q line (settled p s q (takes (view_of p s q) q is)) (step_at g.tables m q)) (sym items_were)
       (subst (λ (fs : List Entry). StepIs g p l q line (settled p s q (takes (view_of p s q) q (init_end n ∷ items_after))) (take_top g.tables m q fs)) (sym k.stack)
       (record {
-        state = subst (λ cs. Represents g p l (record s { processes = slice_set s.processes q (record { component = before.component; status = ready; calls = callers cs; items = items_after }); components = (finished (view_of p s q) n items_after).components }) (calls.init_ended g.tables m q caller n es).machine) (sym calls_were)
+        state = subst (λ cs. Represents g p l (record s { processes = slice_set s.processes q (record { component = before.component; status = ready; calls = callers cs; items = items_after }); components = (finished (view_of p s q) n items_after).components }) (calls.end_init g.tables m q caller n es).machine) (sym calls_were)
             (phase_changed g p l (record s { processes = slice_set s.processes q process_back }) (with_thread m q thread_back) back n k.component k.phases initialised phase.Initialised (phase_agrees (component_at g.tables n).kind)
             (λ b. has_begun (component_at g.tables n).kind k.class (named.component_at s.components n).status (phase_at m n) (k.rep.components n k.component).phase k.begun));
         event = refl;

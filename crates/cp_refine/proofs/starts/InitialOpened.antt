@@ -3,7 +3,7 @@ use Rattle.cp_refine.proofs.Words.{◌≡◌, ◌∙◌, ℕ, ◌+◌, ◌<◌, 
 use Rattle.cp_refine.proofs.Words.{get_or_append_left, length-append, Program, Argument, routine_at, Bound, Permanent, Local, Frame, Memory, Entry, InitEnd}
 use Rattle.cp_refine.proofs.Words.{frame_behind, size_of, Machine, Thread, thread_at, with_thread, rest_of, Name, Ty, Value, Parameter, RoutineMeaning, system_of}
 use Rattle.cp_refine.proofs.Words.{items_of_all, Layouts, here, cell_named, first_values, initial_meaning, Ground, IsValue, Keeps, GivesValue, IsHanded, AreHanded}
-use Rattle.cp_refine.proofs.Words.{AreBound, ItemsAre, memory_at, frame_opened, StackIs, CallIs, CallsHold, frames_of, own_memory, Represents}
+use Rattle.cp_refine.proofs.Words.{AreBound, ItemsAre, memory_at, add_frame, StackIs, CallIs, CallsHold, frames_of, own_memory, Represents}
 use Rattle.cp_store.specs.declared.argument.Bound.TheVariants.{Copy, Reference, Component}
 use Rattle.cp_meaning.specs.Calls.{last_checks}
 use Rattle.cp_meaning.specs.Lifting.{check_items}
@@ -79,7 +79,7 @@ module _ (g : Ground) (p : Program) (l : Layouts) (s : State) (m : Machine) (q :
   process_in = record { component = before.component; status = ready; calls = initial_call ∷ before.calls; items = items_of_all (system_of p system).scope (system_of p system).body ++ check_items 0 (system_of p system).scope ++ init_end d ∷ zs }
 
   abbrev pub thread_in : Thread
-  thread_in = frame_opened (record thread { frame = frame; stack = rest_of (routine_at g.tables number).body (InitEnd thread.frame d ∷ rest) }) (routine_at g.tables number)
+  thread_in = add_frame (record thread { frame = frame; stack = rest_of (routine_at g.tables number).body (InitEnd thread.frame d ∷ rest) }) (routine_at g.tables number)
 
   -- no parameters are bound in the frame
   nothing : AreBound g.tables l frames (memory_at m q) (cell_named (l.frames number)) (l.meanings number).parameters [] [] []

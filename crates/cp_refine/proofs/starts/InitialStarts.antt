@@ -1,7 +1,7 @@
 -- The whole step that starts a class or monitor: its parameters are bound, and its initial statement is executed.
 use Rattle.cp_refine.proofs.Words.{◌≡◌, ◌∙◌, ℕ, ◌<◌, Bool, true, false, if◌then◌else◌, List, ◌++◌, Option, ap, sym, refl, subst, arith, length, ℤ, Ok, Err}
 use Rattle.cp_refine.proofs.Words.{replicate, slice_index, slice_set, SystemKind, Program, Start, Argument, ComponentKind, component_at}
-use Rattle.cp_refine.proofs.Words.{routine_at, system_at, Bound, bound_in_component, bindings_after, Memory, nowhere, Entry, InitEnd, Phase, frame_behind, rest_of}
+use Rattle.cp_refine.proofs.Words.{routine_at, system_at, Bound, bind_component, bindings_after, Memory, nowhere, Entry, InitEnd, Phase, frame_behind, rest_of}
 use Rattle.cp_refine.proofs.Words.{step_at, Parameter, system_of, View, at_designator, view_of, step_of, settled, Layouts}
 use Rattle.cp_refine.proofs.Words.{initial_meaning, Ground, SameKind, PhaseIs, frames_of}
 use Rattle.cp_refine.proofs.Words.{Represents, length-append, length-replicate, Machine, Thread, no_thread, thread_at, phase_at, with_phase, with_bindings, with_thread}
@@ -126,7 +126,7 @@ module _ (g : Ground) (p : Program) (l : Layouts) (s : State) (m : Machine) (q a
       given_in = all_more (memory_at m q) mem (component_at g.tables d).base (system_at g.tables (component_at g.tables d).system).own (l.systems (component_at g.tables d).system).slots (parameters_of d) e as' bs more given
 
       abbrev bound_memory : Memory
-      bound_memory = bound_in_component mem (component_at g.tables d).base as' bs
+      bound_memory = bind_component mem (component_at g.tables d).base as' bs
 
       abbrev numbers : List ℕ
       numbers = bindings_after m.bindings (component_at g.tables d).base as' bs
@@ -177,14 +177,14 @@ module _ (g : Ground) (p : Program) (l : Layouts) (s : State) (m : Machine) (q a
       machine_is =
           let h = hands g p l state_in machine_in rep_in mem d (parameters_of d) can_in e as' bs given_in initialising in
           let same_memory : memory_at machine_in q ≡ mem = ap (λ (w : Thread). memory_with m.permanents w.cells w.references) here_thread in
-          ap (λ (x : Memory). with_phase (with_bindings (with_memory machine_in q (bound_in_component x (component_at g.tables d).base as' bs)) numbers) d phase.Initialising) same_memory
+          ap (λ (x : Memory). with_phase (with_bindings (with_memory machine_in q (bind_component x (component_at g.tables d).base as' bs)) numbers) d phase.Initialising) same_memory
           ∙ (ap (λ (w : Thread). machine_with bound_memory.permanents (slice_set machine_in.threads q (record w { cells = bound_memory.cells; references = bound_memory.references }))) here_thread
           ∙ (ap (λ cells. machine_with bound_memory.permanents (slice_set machine_in.threads q (record Above { cells = cells; references = bound_memory.references }))) h.cells
           ∙ (ap (λ refs. machine_with bound_memory.permanents (slice_set machine_in.threads q (record Above { references = refs }))) h.references
           ∙ ap (λ threads. machine_with bound_memory.permanents threads) (set_set m.threads q Above Above))))
 
       started_so : StepIs g p l q line (settled p s q (Ok (initial view d (system_of p (named.component_at s.components d).system) (xs ++ ys) e)))
-          (statements.local (with_phase (parameters_bound (calls.opened g.tables m q routine d (InitEnd thread.frame d) rest) q (component_at g.tables d).base as' bs) d phase.Initialising))
+          (statements.local (with_phase (parameters_bound (calls.open_frame g.tables m q routine d (InitEnd thread.frame d) rest) q (component_at g.tables d).base as' bs) d phase.Initialising))
       started_so =
           subst (λ n. StepIs g p l q line (settled p s q (Ok (initial view d (system_of p n) (xs ++ ys) e))) (statements.local (with_phase (parameters_bound machine_in q (component_at g.tables d).base as' bs) d phase.Initialising))) (sym (initial_known.start.system d is_found))
           (record { state = subst (λ w. Represents g p l state_started w) (sym machine_is) started_stands; event = refl })
@@ -206,12 +206,12 @@ module _ (g : Ground) (p : Program) (l : Layouts) (s : State) (m : Machine) (q a
           (sym (status_same (component_at g.tables d).kind (named.component_at s.components d).status (phase_at m d) (λ r f. initial_known.no_process d r is_found f) (k.rep.components d there_d).phase)) (go (slot_machine.is_uninitialised (phase_at m d)))
         where
           go : (b : Bool) → StepIs g p l q line (settled p s q (if b then Ok (initial view d (system_of p (named.component_at s.components d).system) (xs ++ ys) e) else Err init_twice))
-              (if b then statements.local (with_phase (parameters_bound (calls.opened g.tables m q routine d (InitEnd thread.frame d) rest) q (component_at g.tables d).base as' bs) d phase.Initialising) else statements.fault m q line error.InitTwice)
+              (if b then statements.local (with_phase (parameters_bound (calls.open_frame g.tables m q routine d (InitEnd thread.frame d) rest) q (component_at g.tables d).base as' bs) d phase.Initialising) else statements.fault m q line error.InitTwice)
           go true = started_so
           go false = fails g p l s m q at (start_item t) mid es xs ys k line init_twice error.InitTwice refl
 
       by_kind : (c : ComponentKind) → (component_at g.tables d).kind ≡ c → (a : SystemKind) → SameKind a c →
-          StepIs g p l q line (settled p s q (started_as a view d (system_of p (named.component_at s.components d).system) (xs ++ ys) e)) (calls.started g.tables m q line c routine d as' bs rest)
+          StepIs g p l q line (settled p s q (started_as a view d (system_of p (named.component_at s.components d).system) (xs ++ ys) e)) (calls.start_by g.tables m q line c routine d as' bs rest)
       by_kind (kind.Monitor j) f system_kind.Monitor w = inside_so
       by_kind kind.Class f system_kind.Class w = inside_so
       by_kind (kind.Process r) f a w = absurd (initial_known.no_process d r is_found f)

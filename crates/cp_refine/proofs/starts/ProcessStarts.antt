@@ -1,7 +1,7 @@
 -- The whole step that starts a process: the component's place first, then the arguments, and last whether it was started before.
 use Rattle.std.proofs.Common.{◌≡◌, ◌∙◌, ℕ, zero, suc, ◌<◌, ◌==◌, if◌then◌else◌, List, [], ◌∷◌, ◌++◌, Option, Some, None, ap, sym, refl, subst, arith, length, length-set}
 use Rattle.cp_refine.proofs.Words.{ℤ, slice_index, slice_set, SystemKind, Program, Start, Argument, Bound}
-use Rattle.cp_refine.proofs.Words.{Address, bound_in_component, bindings_after, Memory, Entry, rest_of, step_at, Parameter, system_of, View}
+use Rattle.cp_refine.proofs.Words.{Address, bind_component, bindings_after, Memory, Entry, rest_of, step_at, Parameter, system_of, View}
 use Rattle.cp_refine.proofs.Words.{Doing, starts, after, process_of, at_designator, view_of, step_of, settled, Layouts, Ground}
 use Rattle.cp_refine.proofs.Words.{SameKind, StatusIs, Represents, init_twice, Environment, Item, start_item}
 use Rattle.cp_refine.proofs.Words.{unstarted, Status, Process, State, with_items, with_move, started_as}
@@ -103,7 +103,7 @@ module _ (g : Ground) (p : Program) (l : Layouts) (s : State) (m : Machine) (q a
 
     module _ (e : Environment) (bs : List Bound) (given : AreGivenTo d e as' bs) where
       abbrev bound_memory : Memory
-      bound_memory = bound_in_component (memory_at m q) (component_at g.tables d).base as' bs
+      bound_memory = bind_component (memory_at m q) (component_at g.tables d).base as' bs
 
       abbrev numbers : List ℕ
       numbers = bindings_after m.bindings (component_at g.tables d).base as' bs
@@ -115,7 +115,7 @@ module _ (g : Ground) (p : Program) (l : Layouts) (s : State) (m : Machine) (q a
       machine_is =
           let h = hands g p l state_on machine_on rep_on (memory_at m q) d (parameters_of d) can_on e as' bs given (named.component_at s.components d).status in
           let same_memory : memory_at machine_on q ≡ memory_at m q = ap (λ (w : Thread). memory_with m.permanents w.cells w.references) here_thread in
-          ap (λ (x : Memory). with_status (with_bindings (with_memory machine_on q (bound_in_component x (component_at g.tables d).base as' bs)) numbers) r status.Ready) same_memory
+          ap (λ (x : Memory). with_status (with_bindings (with_memory machine_on q (bind_component x (component_at g.tables d).base as' bs)) numbers) r status.Ready) same_memory
           ∙ (ap (λ (w : Thread). begun_machine bound_memory.permanents (slice_set machine_on.threads q (record w { cells = bound_memory.cells; references = bound_memory.references }))) here_thread
           ∙ (ap (λ cells. begun_machine bound_memory.permanents (slice_set machine_on.threads q (record (thread_at m.threads q) { stack = rest; cells = cells; references = bound_memory.references }))) h.cells
           ∙ (ap (λ refs. begun_machine bound_memory.permanents (slice_set machine_on.threads q (record (thread_at m.threads q) { stack = rest; references = refs }))) h.references
@@ -164,7 +164,7 @@ module _ (g : Ground) (p : Program) (l : Layouts) (s : State) (m : Machine) (q a
     started_so : (e : Environment) (bs : List Bound) → AreGivenTo d e as' bs → starting.StartsSo g p l s m q at t mid es xs ys k d as' e bs
     started_so e bs given =
         let is = process_known.process d is_found in
-        subst (λ c. StepIs g p l q line (settled p s q (started_as (named.component_at s.components d).kind view d (system_of p (named.component_at s.components d).system) (xs ++ ys) e)) (calls.started g.tables m q line c routine d as' bs rest)) (sym is)
+        subst (λ c. StepIs g p l q line (settled p s q (started_as (named.component_at s.components d).kind view d (system_of p (named.component_at s.components d).system) (xs ++ ys) e)) (calls.start_by g.tables m q line c routine d as' bs rest)) (sym is)
         (by_kind e bs given (named.component_at s.components d).kind (subst (λ c. SameKind (named.component_at s.components d).kind c) is (process_known.start.kinds d can_on.there)))
 
   pub start_process_step : ProcessKnown → StepIs g p l q line (step_of p s q) (step_at g.tables m q)

@@ -1,10 +1,10 @@
 -- What the arguments of a start give: values, and components.
 use Rattle.std.proofs.Common.{◌≡◌, ◌∙◌, ℕ, Bool, true, false, if◌then◌else◌, List, [], ◌∷◌, Some, ap, sym, refl, subst, length}
 use Rattle.cp_refine.proofs.Words.{map, Result, Ok, Err, ℤ, Expression, Expressions, no_expressions, more_expressions, Designator, Tables, Argument, ArgumentValue, Bound}
-use Rattle.cp_refine.proofs.Words.{Frame, Memory, then_with, ranged, Name, Outcome, ◌>>=◌, Parameter, Content, holds, refers, knows, Environment, View, Target}
+use Rattle.cp_refine.proofs.Words.{Frame, Memory, then_with, check_range, Name, Outcome, ◌>>=◌, Parameter, Content, holds, refers, knows, Environment, View, Target}
 use Rattle.cp_refine.proofs.Words.{component_there, value_at, target_value, variable_in, value, expression_calls, expressions_calls, Layouts, Here, cells_of, Sees}
 use Rattle.cp_refine.proofs.Words.{TargetAgrees, Address, SetValue, Value, checked, plain_value, plain_set, plain_address, PlaceAt, BoundsAgree, ComponentAgrees}
-use Rattle.cp_refine.proofs.Words.{IsOutside, IsHanded, AreHanded, error_of, AreKept, bound_at, bounds_at, Ty, ordinal, set_over, array_over, record_with, component_of}
+use Rattle.cp_refine.proofs.Words.{IsOutside, IsHanded, AreHanded, error_of, AreKept, evaluate_argument, bounds_at, Ty, ordinal, set_over, array_over, record_with, component_of}
 use Rattle.cp_refine.proofs.Words.{natural_of, Form, as_ordinal, as_set, as_place, as_component, Formed, expression_form, ValueGiven, GivenBy, IsGiven, AreGiven}
 use Rattle.std.proofs.lemmas.Bool.{eq-eqb}
 use Rattle.cp_slots.specs.Code as code
@@ -44,17 +44,17 @@ value_handed m base own q (Ok (refers x)) (Ok b) k n = absurd k
 value_handed m base own q (Ok (knows c)) (Ok b) k n = absurd k
 value_handed m base own q _ _ k n = absurd k
 
-scalar_no_copy : (x : Result ℤ slots.ErrorName) (low high : ℤ) → NoCopy (then_with x (λ z. then_with (ranged low high z) (λ v. Ok (Scalar v))))
+scalar_no_copy : (x : Result ℤ slots.ErrorName) (low high : ℤ) → NoCopy (then_with x (λ z. then_with (check_range low high z) (λ v. Ok (Scalar v))))
 scalar_no_copy (Err e) low high = tt
-scalar_no_copy (Ok z) low high = go (ranged low high z)
+scalar_no_copy (Ok z) low high = go (check_range low high z)
   where
     go : (r : Result ℤ slots.ErrorName) → NoCopy (then_with r (λ v. Ok (Scalar v)))
     go (Ok v) = tt
     go (Err e) = tt
 
-set_no_copy : (x : Result SetValue slots.ErrorName) (low high : ℕ) → NoCopy (then_with x (λ z. then_with (sets.ranged low high z) (λ v. Ok (Set v))))
+set_no_copy : (x : Result SetValue slots.ErrorName) (low high : ℕ) → NoCopy (then_with x (λ z. then_with (sets.check_members low high z) (λ v. Ok (Set v))))
 set_no_copy (Err e) low high = tt
-set_no_copy (Ok z) low high = go (sets.ranged low high z)
+set_no_copy (Ok z) low high = go (sets.check_members low high z)
   where
     go : (r : Result SetValue slots.ErrorName) → NoCopy (then_with r (λ v. Ok (Set v)))
     go (Ok v) = tt
@@ -87,11 +87,11 @@ module _ (r : Tables) (l : Layouts) (fs : List Frame) (v : View) (m : Memory) (f
   IsNamed k e = (d : Designator) × (variable_in e ≡ Some d) × ((t : Target) → target_value v d ≡ Ok t → (named.component_at v.components (component_there v t.place)).system ≡ k)
 
   component_given : (q : Parameter) (k : ℕ) (e : Expression) (a : ArgumentValue) (c : code.ComponentPlace) (z : Formed) → q.ty ≡ component_of k → code.value_seen a ≡ code.component_of c → expression_form h e ≡ Some z → z.form ≡ as_component c → AreKept h (expression_calls h.scope e) → IsNamed k e →
-      HandedAgrees m base own q (bound_value v (component_of k) e) (bound_at m bindings f a)
+      HandedAgrees m base own q (bound_value v (component_of k) e) (evaluate_argument m bindings f a)
   component_given q k e (value_of.Component p) c z ty seen formed is kept w =
       let part : code.component_seen p ≡ c = cc in
       let found = component_found v h e w.0 z c w.1 formed is in
-      subst (λ o. HandedAgrees m base own q (bound_variable v (knows_of v k) o) (bound_at m bindings f (value_of.Component p))) (sym w.1)
+      subst (λ o. HandedAgrees m base own q (bound_variable v (knows_of v k) o) (evaluate_argument m bindings f (value_of.Component p))) (sym w.1)
       (component_bound q k (target_value v w.0) (component_at m bindings f p) ty w.2 (component_agrees r l fs v m f h sees bindings known w.0 c found.0 p (found.2 kept) found.1 part))
   component_given q k e x c z ty seen formed is kept w = absurd (cc)
 
@@ -107,7 +107,7 @@ module _ (r : Tables) (l : Layouts) (fs : List Frame) (v : View) (m : Memory) (f
   block_handed q t _ _ free same out i = absurd i
 
   block_given : (q : Parameter) (t : Ty) (e : Expression) (a : ArgumentValue) (p : code.Place) → code.value_seen a ≡ code.copy p (cells_of t) → expression_form h e ≡ Some (record { ty = t; form = as_place p }) → AreKept h (expression_calls h.scope e) → ((w : Value) → checked q.ty w ≡ Ok w) → t ≡ q.ty →
-      StartArgumentKnown r l fs v base own q e → HandedAgrees m base own q (held q.ty (value v e)) (bound_at m bindings f a)
+      StartArgumentKnown r l fs v base own q e → HandedAgrees m base own q (held q.ty (value v e)) (evaluate_argument m bindings f a)
   block_given q t e a p seen formed kept free same k =
       let found = place_found r l fs v m f h sees e (record { ty = t; form = as_place p }) p kept formed refl in
       subst (λ s. HandedAgrees m base own q (held q.ty (value v e)) s) (sym (copy_bound m bindings f a p (cells_of t) seen))
@@ -116,26 +116,26 @@ module _ (r : Tables) (l : Layouts) (fs : List Frame) (v : View) (m : Memory) (f
 
   -- by the type of the parameter
   by_type : (q : Parameter) (u t : Ty) (form : Form) (e : Expression) (a : ArgumentValue) (c : code.ArgumentValue) → q.ty ≡ u → code.value_seen a ≡ c → expression_form h e ≡ Some (record { ty = t; form = form }) → AreKept h (expression_calls h.scope e) → StartArgumentKnown r l fs v base own q e → ValueGiven u t form c →
-      HandedAgrees m base own q (bound_value v u e) (bound_at m bindings f a)
+      HandedAgrees m base own q (bound_value v u e) (evaluate_argument m bindings f a)
   by_type q (component_of k) t (as_component x) e a c ty seen formed kept w given = component_given q k e a x (record { ty = t; form = as_component x }) ty (seen ∙ given.1) formed refl kept (w.component k ty)
   by_type q (ordinal n) t (as_ordinal x) e a c ty seen formed kept w given =
-      value_handed m base own q (bound_value v (ordinal n) e) (bound_at m bindings f a)
-      (subst (λ i. ValueAgrees m i (bound_value v (ordinal n) e) (bound_at m bindings f a)) (sym ty) (value_given r l fs v m f h sees bindings (ordinal n) t (as_ordinal x) e a c seen formed kept (subst RangeKnown ty w.range) tt given))
+      value_handed m base own q (bound_value v (ordinal n) e) (evaluate_argument m bindings f a)
+      (subst (λ i. ValueAgrees m i (bound_value v (ordinal n) e) (evaluate_argument m bindings f a)) (sym ty) (value_given r l fs v m f h sees bindings (ordinal n) t (as_ordinal x) e a c seen formed kept (subst RangeKnown ty w.range) tt given))
       (subst NoCopy (sym (scalar_bound m bindings f a x n.low n.high (seen ∙ given))) (scalar_no_copy (plain_value m f x) n.low n.high))
   by_type q (set_over n) t (as_set x) e a c ty seen formed kept w given =
-      value_handed m base own q (bound_value v (set_over n) e) (bound_at m bindings f a)
-      (subst (λ i. ValueAgrees m i (bound_value v (set_over n) e) (bound_at m bindings f a)) (sym ty) (value_given r l fs v m f h sees bindings (set_over n) t (as_set x) e a c seen formed kept (subst RangeKnown ty w.range) tt given))
+      value_handed m base own q (bound_value v (set_over n) e) (evaluate_argument m bindings f a)
+      (subst (λ i. ValueAgrees m i (bound_value v (set_over n) e) (evaluate_argument m bindings f a)) (sym ty) (value_given r l fs v m f h sees bindings (set_over n) t (as_set x) e a c seen formed kept (subst RangeKnown ty w.range) tt given))
       (subst NoCopy (sym (set_bound m bindings f a x (natural_of n.low) (natural_of n.high) (seen ∙ given))) (set_no_copy (plain_set m f x) (natural_of n.low) (natural_of n.high)))
   by_type q (array_over n u) t (as_place x) e a c ty seen formed kept w given =
-      subst (λ i. HandedAgrees m base own q (held i (value v e)) (bound_at m bindings f a)) ty (block_given q t e a x (seen ∙ given.1) formed kept (λ y. ap (λ i. checked i y) ty) (given.0 ∙ sym ty) w)
+      subst (λ i. HandedAgrees m base own q (held i (value v e)) (evaluate_argument m bindings f a)) ty (block_given q t e a x (seen ∙ given.1) formed kept (λ y. ap (λ i. checked i y) ty) (given.0 ∙ sym ty) w)
   by_type q (record_with ts) t (as_place x) e a c ty seen formed kept w given =
-      subst (λ i. HandedAgrees m base own q (held i (value v e)) (bound_at m bindings f a)) ty (block_given q t e a x (seen ∙ given.1) formed kept (λ y. ap (λ i. checked i y) ty) (given.0 ∙ sym ty) w)
+      subst (λ i. HandedAgrees m base own q (held i (value v e)) (evaluate_argument m bindings f a)) ty (block_given q t e a x (seen ∙ given.1) formed kept (λ y. ap (λ i. checked i y) ty) (given.0 ∙ sym ty) w)
   by_type q _ t _ e a c ty seen formed kept w given = absurd given
 
-  start_given : (q : Parameter) (e : Expression) (a : ArgumentValue) (c : code.ArgumentValue) → code.value_seen a ≡ c → IsGiven h q e c → AreKept h (expression_calls h.scope e) → StartArgumentKnown r l fs v base own q e → HandedAgrees m base own q (bound_argument v q e) (bound_at m bindings f a)
+  start_given : (q : Parameter) (e : Expression) (a : ArgumentValue) (c : code.ArgumentValue) → code.value_seen a ≡ c → IsGiven h q e c → AreKept h (expression_calls h.scope e) → StartArgumentKnown r l fs v base own q e → HandedAgrees m base own q (bound_argument v q e) (evaluate_argument m bindings f a)
   start_given q e a c seen given kept k = go q.is_var k.plain given.given
     where
-      go : (b : Bool) → b ≡ false → GivenBy b q.ty given.form c → HandedAgrees m base own q (if b then bound_variable v refers_to (variable_in e) else bound_value v q.ty e) (bound_at m bindings f a)
+      go : (b : Bool) → b ≡ false → GivenBy b q.ty given.form c → HandedAgrees m base own q (if b then bound_variable v refers_to (variable_in e) else bound_value v q.ty e) (evaluate_argument m bindings f a)
       go true is g = absurd (cc)
       go false is g = by_type q q.ty given.form.ty given.form.form e a c refl seen given.formed kept k g
 
@@ -162,7 +162,7 @@ module _ (r : Tables) (l : Layouts) (fs : List Frame) (v : View) (m : Memory) (f
       let first : code.argument_seen x ≡ c = cc in
       let rest : map code.argument_seen xs ≡ cs = cc in
       subst (λ s. BoundsAgree (Are places (q ∷ qs) (x ∷ xs)) (bound v (q ∷ qs) (more_expressions e es)) s) (sym (first_bound r l fs v m f h sees bindings x xs))
-      (more_bound places q qs x xs (bound_argument v q e) (bound_at m bindings f x.value) (bound v qs es) (bounds_at m bindings f xs) (ap (λ (y : code.Argument). y.slot) first ∙ given.0)
+      (more_bound places q qs x xs (bound_argument v q e) (evaluate_argument m bindings f x.value) (bound v qs es) (bounds_at m bindings f xs) (ap (λ (y : code.Argument). y.slot) first ∙ given.0)
       (start_given q e x.value c.value (ap (λ (y : code.Argument). y.value) first) given.1 (kept_left h (expression_calls h.scope e) (expressions_calls h.scope es) kept) k.0)
       (start_arguments_agree places qs es cs xs rest given.2 (kept_right h (expression_calls h.scope e) (expressions_calls h.scope es) kept) k.1))
   start_arguments_agree places _ _ _ xs seen given kept k = absurd given

@@ -48,28 +48,28 @@ module _ (g : Ground) (p : Program) (l : Layouts) (s : State) (m : Machine) (q a
   -- with its arguments the component starts
   abbrev pub StartsSo : ℕ → List Argument → Environment → List Bound → Type 0
   StartsSo d as' e bs =
-      StepIs g p l q line (settled p s q (started_as (named.component_at s.components d).kind view d (system_of p (named.component_at s.components d).system) (xs ++ ys) e)) (calls.started g.tables m q line (component_at g.tables d).kind routine d as' bs (rest_of mid es))
+      StepIs g p l q line (settled p s q (started_as (named.component_at s.components d).kind view d (system_of p (named.component_at s.components d).system) (xs ++ ys) e)) (calls.start_by g.tables m q line (component_at g.tables d).kind routine d as' bs (rest_of mid es))
 
   module _ (start : CanBeStarted) (starts : (d : ℕ) → IsFound d → (as' : List Argument) (e : Environment) (bs : List Bound) → AreGivenTo (memory_at m q) d e as' bs → StartsSo d as' e bs) where
     by_bounds : (d : ℕ) → IsFound d → (as' : List Argument) → (o : Outcome Environment) (b : Result (List Bound) slots.ErrorName) → BoundsAgree (λ e bs. AreGivenTo (memory_at m q) d e as' bs) o b →
         StepIs g p l q line (settled p s q (o >>= λ e. started_as (named.component_at s.components d).kind view d (system_of p (named.component_at s.components d).system) (xs ++ ys) e))
-        (statements.with_value b (statements.fault m q line) (λ bs. calls.started g.tables m q line (component_at g.tables d).kind routine d as' bs (rest_of mid es)))
+        (statements.with_value b (statements.fault m q line) (λ bs. calls.start_by g.tables m q line (component_at g.tables d).kind routine d as' bs (rest_of mid es)))
     by_bounds d is_found as' (Err e) (Err f) h = fails g p l s m q at (start_item t) mid es xs ys k line e f h
     by_bounds d is_found as' (Ok e) (Ok bs) h = starts d is_found as' e bs h
     by_bounds d is_found as' _ _ h = absurd h
 
     found_so : (as' : List Argument) → map code.argument_seen as' ≡ k.own.arguments → (d : ℕ) → IsFound d → StepIs g p l q line (settled p s q (started_at view d (system_of p (named.component_at s.components d).system) t.arguments (xs ++ ys)))
-        (statements.with_value (arguments_of m q as') (statements.fault m q line) (λ bs. calls.started g.tables m q line (component_at g.tables d).kind routine d as' bs (rest_of mid es)))
+        (statements.with_value (arguments_of m q as') (statements.fault m q line) (λ bs. calls.start_by g.tables m q line (component_at g.tables d).kind routine d as' bs (rest_of mid es)))
     found_so as' args_are d is_found =
         by_bounds d is_found as' (bound view (system_of p (named.component_at s.components d).system).parameters t.arguments) (arguments_of m q as')
         (subst (λ n. BoundsAgree (λ e bs. AreGivenTo (memory_at m q) d e as' bs) (bound view (system_of p n).parameters t.arguments) (arguments_of m q as')) (sym (start.system d is_found)) (start.arguments d is_found as' args_are))
 
     by_place : (place : ComponentPlace) (as' : List Argument) → code.component_seen place ≡ k.own.part → map code.argument_seen as' ≡ k.own.arguments → (o : Outcome Target) (b : Result ℕ slots.ErrorName) → component_of m q place ≡ b → ComponentAgrees view o b →
         StepIs g p l q line (settled p s q (o >>= λ u. started_at view (component_there view u.place) (system_of p (named.component_at s.components (component_there view u.place)).system) t.arguments (xs ++ ys)))
-        (statements.with_value b (statements.fault m q line) (λ component. statements.with_value (arguments_of m q as') (statements.fault m q line) (λ bs. calls.started g.tables m q line (component_at g.tables component).kind routine component as' bs (rest_of mid es))))
+        (statements.with_value b (statements.fault m q line) (λ component. statements.with_value (arguments_of m q as') (statements.fault m q line) (λ bs. calls.start_by g.tables m q line (component_at g.tables component).kind routine component as' bs (rest_of mid es))))
     by_place place as' place_is args_are (Err e) (Err f) same h = fails g p l s m q at (start_item t) mid es xs ys k line e f h
     by_place place as' place_is args_are (Ok u) (Ok d) same h =
-        subst (λ c. StepIs g p l q line (settled p s q (started_at view c (system_of p (named.component_at s.components c).system) t.arguments (xs ++ ys))) (statements.with_value (arguments_of m q as') (statements.fault m q line) (λ bs. calls.started g.tables m q line (component_at g.tables d).kind routine d as' bs (rest_of mid es)))) (sym h)
+        subst (λ c. StepIs g p l q line (settled p s q (started_at view c (system_of p (named.component_at s.components c).system) t.arguments (xs ++ ys))) (statements.with_value (arguments_of m q as') (statements.fault m q line) (λ bs. calls.start_by g.tables m q line (component_at g.tables d).kind routine d as' bs (rest_of mid es)))) (sym h)
         (found_so as' args_are d (place, place_is, same))
     by_place place as' place_is args_are _ _ same h = absurd h
 

@@ -99,7 +99,7 @@ module _ (t : Tree) (r : Tables) (l : Layouts) (g : Discipline) (ok : IsAccepted
     ready_to : ReadyInReached (ground_of t r) p s m
     ready_to = ready_in_reached t r l g s m ok stands sound.typed sim
 
-    admit_simulates : Simulates t r l g (admitted s q) (machine.admitted m q)
+    admit_simulates : Simulates t r l g (admitted s q) (machine.admit_waiting m q)
     admit_simulates =
         record {
           reached = by_admission s pending.0 q sim.reached pending.1 lined;

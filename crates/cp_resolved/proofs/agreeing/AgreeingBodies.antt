@@ -9,9 +9,9 @@ use Rattle.cp_scope.specs.Scopes.{Scope, Scopes, Shapes, Shape, body_shape, shap
 use Rattle.cp_scope.specs.Scopes as checker
 use Rattle.cp_check.specs.declared.types.Spot.TheVariants as spot
 use Rattle.cp_check.specs.Names as names
-use Rattle.cp_check.specs.Headings.{after_faults, Headed, may_enter, heading, announced, announced_of}
+use Rattle.cp_check.specs.Headings.{after_faults, Headed, may_enter, heading, announce, announce_judged}
 use Rattle.cp_check.specs.Routines as routines
-use Rattle.cp_check.specs.Routines.{routine_context, routine_step, routine_steps, routine_use, body_step, closed_of}
+use Rattle.cp_check.specs.Routines.{routine_context, routine_step, routine_steps, routine_use, body_step, close_routine_of}
 use Rattle.cp_check.specs.Statements.{statements}
 use Rattle.cp_meaning.specs.Scopes as scopes
 use Rattle.cp_meaning.specs.Declarations as meant
@@ -49,8 +49,8 @@ pub record BodyWritten (s : Scopes) (x : Place) (t : Scopes) (r : Routine) : Typ
   pub there : shape_in r.body.at t.shapes ≡ Some (body_shape body)
   pub same : body.delays ≡ uses.delays
 
-closed_written : (r : Routine) (v : Option ValueType) (u : Use) (t : Scopes) → shape_in r.body.at t.shapes ≡ None → shape_in r.body.at (routines.closed r v u t).shapes ≡ Some (body_shape (routine_use (census t.inner.names t.shapes).cells v u))
-unfolding routines.closed settle keep leave
+closed_written : (r : Routine) (v : Option ValueType) (u : Use) (t : Scopes) → shape_in r.body.at t.shapes ≡ None → shape_in r.body.at (routines.close_routine r v u t).shapes ≡ Some (body_shape (routine_use (census t.inner.names t.shapes).cells v u))
+unfolding routines.close_routine settle keep leave
 closed_written r v u t free = with_there t.shapes r.body.at (body_shape (routine_use (census t.inner.names t.shapes).cells v u)) free
 
 module _ (tokens : Tokens) (p : Program) where
@@ -60,7 +60,7 @@ module _ (tokens : Tokens) (p : Program) where
   unfolding names.visible
   all_heard b s m below ks h at x = go (look x s) (sees tokens p b None s m below ks h x tt)
     where
-      go : (o : Option (Option Meaning)) → IsKnown tokens s m x o → Loud (names.found at o)
+      go : (o : Option (Option Meaning)) → IsKnown tokens s m x o → Loud (names.check_visible at o)
       go None k = tt
       go (Some None) k = k
       go (Some (Some c)) k = tt
@@ -85,8 +85,8 @@ module _ (tokens : Tokens) (p : Program) where
 
   closed_agrees : (s a t : Scopes) (m below rs : scopes.Scope) (js ks : List ℕ) (r : Routine) (v : Option ValueType) (u : Use) → is_some (checker.find r.name.name s.inner.names) ≡ false → Agree tokens p false None s m below js → Known tokens a (with_routine m r) r.name.name (meaning.Routine r.name.at) →
       a.outer ≡ s.outer ++ with_name (sealed false s.inner) r.name.name (announcing tokens p r) ∷ [] → More s.shapes a.shapes → More a.shapes t.shapes → t.outer ≡ a.outer → Agree tokens p false None t rs (with_routine m r) (r.body.at ∷ ks) →
-      StepResult tokens p false None s (routines.closed r v u t) (with_routine m r) below ks
-  unfolding routines.closed settle keep leave add
+      StepResult tokens p false None s (routines.close_routine r v u t) (with_routine m r) below ks
+  unfolding routines.close_routine settle keep leave add
   closed_agrees s a t m below rs js ks r v u fresh before known outer more further same h =
       let d : Shape = body_shape (routine_use (census t.inner.names t.shapes).cells v u) in
       let c : Option Meaning = announcing tokens p r in
@@ -99,7 +99,7 @@ module _ (tokens : Tokens) (p : Program) where
       agree_known tokens p false None w m below ks r.name.name (meaning.Routine r.name.at) (routine_meaning r) fresh (λ e. absurd (cc)) (known_moved tokens a (add w r.name.name c) (with_routine m r) (with_routine m r) r.name.name (meaning.Routine r.name.at) all refl refl known) (λ e. absurd (cc)) returned in
       let last : last_of t.outer ≡ (let b : Around = record { outer = s.outer; inner = with_name (sealed false s.inner) r.name.name c } in b) = ap last_of (same ∙ outer) ∙ last_is s.outer (with_name (sealed false s.inner) r.name.name c) in
       record {
-        agree = agree_same tokens p false None (add w r.name.name c) (routines.closed r v u t) (with_routine m r) below ks
+        agree = agree_same tokens p false None (add w r.name.name c) (routines.close_routine r v u t) (with_routine m r) below ks
             (ap (λ (b : Around). b.outer) last)
             (ap (λ (b : Around). b.inner.names) last ∙ ap (λ (e : Scope). e.names) (new_names (sealed false s.inner) r.name.name c fresh) ∙ sym (ap (λ (e : Scope). e.names) (new_names s.inner r.name.name c fresh)))
             (sym (ap (λ (e : Scope). e.is_sealed) (new_names s.inner r.name.name c fresh) ∙ before.unsealed))
@@ -111,8 +111,8 @@ module _ (tokens : Tokens) (p : Program) where
       }
 
   -- with the parameters that stood before it
-  closed_read : (s a t : Scopes) (r : Routine) (v : Option ValueType) (u : Use) → is_some (checker.find r.name.name s.inner.names) ≡ false → a.outer ≡ s.outer ++ with_name (sealed false s.inner) r.name.name (announcing tokens p r) ∷ [] → t.outer ≡ a.outer → ReadsAs s (routines.closed r v u t)
-  unfolding routines.closed settle keep leave
+  closed_read : (s a t : Scopes) (r : Routine) (v : Option ValueType) (u : Use) → is_some (checker.find r.name.name s.inner.names) ≡ false → a.outer ≡ s.outer ++ with_name (sealed false s.inner) r.name.name (announcing tokens p r) ∷ [] → t.outer ≡ a.outer → ReadsAs s (routines.close_routine r v u t)
+  unfolding routines.close_routine settle keep leave
   closed_read s a t r v u fresh outer same =
       let c : Option Meaning = announcing tokens p r in
       let last : last_of t.outer ≡ (let b : Around = record { outer = s.outer; inner = with_name (sealed false s.inner) r.name.name c } in b) = ap last_of (same ∙ outer) ∙ last_is s.outer (with_name (sealed false s.inner) r.name.name c) in
@@ -124,13 +124,13 @@ module _ (tokens : Tokens) (p : Program) where
   opening_of m r k = record { meaning = routine_in (with_routine m r) r; owner = k; name = Some r.name.name }
 
   record BodyResult (owner : Option SystemKind) (s : Scopes) (m below : scopes.Scope) (ks : List ℕ) (r : Routine) (j : Judged (Option ValueType)) (hs : Scopes) : Type 0 where
-    pub agree : Agree tokens p false None (part_steps spot.Other (announced_of r j hs) r.parts).scopes (routine_in (with_routine m r) r).scope (with_routine m r) (r.body.at ∷ ks)
+    pub agree : Agree tokens p false None (part_steps spot.Other (announce_judged r j hs) r.parts).scopes (routine_in (with_routine m r) r).scope (with_routine m r) (r.body.at ∷ ks)
     pub variables : Each IsFreeVariable (routine_in (with_routine m r) r).variables
-    pub sound : faults (statements (part_steps spot.Other (announced_of r j hs) r.parts).scopes (routine_context owner r) (Ok no_use) r.body.statements) ≡ []
-    pub step : StepResult tokens p false None s (body_step r j (routines.opened owner r (announced_of r j hs))).scopes (with_routine m r) below ks
-    pub own : (n : ℕ) → Some r.name.at ≡ Some n → IsOwn tokens (record { scopes = (part_steps spot.Other (announced_of r j hs) r.parts).scopes; context = routine_context owner r }) (opening_of m r 0) n
-    pub read : ReadsAs s (body_step r j (routines.opened owner r (announced_of r j hs))).scopes
-    pub written : BodyWritten s (record { scopes = (part_steps spot.Other (announced_of r j hs) r.parts).scopes; context = routine_context owner r }) (body_step r j (routines.opened owner r (announced_of r j hs))).scopes r
+    pub sound : faults (statements (part_steps spot.Other (announce_judged r j hs) r.parts).scopes (routine_context owner r) (Ok no_use) r.body.statements) ≡ []
+    pub step : StepResult tokens p false None s (body_step r j (routines.enter_routine owner r (announce_judged r j hs))).scopes (with_routine m r) below ks
+    pub own : (n : ℕ) → Some r.name.at ≡ Some n → IsOwn tokens (record { scopes = (part_steps spot.Other (announce_judged r j hs) r.parts).scopes; context = routine_context owner r }) (opening_of m r 0) n
+    pub read : ReadsAs s (body_step r j (routines.enter_routine owner r (announce_judged r j hs))).scopes
+    pub written : BodyWritten s (record { scopes = (part_steps spot.Other (announce_judged r j hs) r.parts).scopes; context = routine_context owner r }) (body_step r j (routines.enter_routine owner r (announce_judged r j hs))).scopes r
 
   same_token : (n k : ℕ) → Some n ≡ Some k → n ≡ k
   same_token n k e = cc
@@ -141,11 +141,11 @@ module _ (tokens : Tokens) (p : Program) where
       (longer_routine a.inner t.inner x (look_outer x t.outer) n read (sym (look_is x t open_) ∙ e))
 
   body_agrees : (owner : Option SystemKind) (s hs : Scopes) (m below : scopes.Scope) (js ks : List ℕ) (r : Routine) (v : Option ValueType) → is_some (checker.find r.name.name s.inner.names) ≡ false → Agree tokens p false None s m below js →
-      Announced tokens p (announced r v hs) s r m (with_routine m r) (meant.heading_of (with_routine m r) r.kind).scope (all_tokens part_tokens r.parts (r.body.at ∷ ks)) → IsSmallRoutine r → Each (IsFew tokens) (in_routine r) → (body_step r (Ok v) (routines.opened owner r (announced_of r (Ok v) hs))).faults ≡ [] →
+      Announced tokens p (announce r v hs) s r m (with_routine m r) (meant.heading_of (with_routine m r) r.kind).scope (all_tokens part_tokens r.parts (r.body.at ∷ ks)) → IsSmallRoutine r → Each (IsFew tokens) (in_routine r) → (body_step r (Ok v) (routines.enter_routine owner r (announce_judged r (Ok v) hs))).faults ≡ [] →
       BodyResult owner s m below ks r (Ok v) hs
-  unfolding routines.opened
+  unfolding routines.enter_routine
   body_agrees owner s hs m below js ks r v fresh before ann small few e =
-      let a : Scopes = announced r v hs in
+      let a : Scopes = announce r v hs in
       let k : scopes.Scope = with_routine m r in
       let d : Step = part_steps spot.Other a r.parts in
       let j : Judged Use = statements d.scopes (routine_context owner r) (Ok no_use) r.body.statements in
@@ -159,7 +159,7 @@ module _ (tokens : Tokens) (p : Program) where
         variables = declares_stand tokens spot.Other d.scopes.shapes (routine_in k r).variables d.scopes.inner.names
             (parts_declare tokens p false spot.Other scopes.local_variable (local_kind tokens p) a (record { variables = []; scope = (meant.heading_of k r.kind).scope }) k (r.body.at ∷ ks) r.parts none small few ann.settled ann.agree tt);
         sound = sound;
-        step = subst (λ (i : Judged Use). StepResult tokens p false None s (closed_of r (Ok v) i d.scopes) k below ks) (sym (same ∙ uses.is))
+        step = subst (λ (i : Judged Use). StepResult tokens p false None s (close_routine_of r (Ok v) i d.scopes) k below ks) (sym (same ∙ uses.is))
             (closed_agrees s a d.scopes m below (routine_in k r).scope js ks r v uses.value fresh before ann.known ann.outer ann.more parts.more parts.outer parts.agree);
         own = λ n i. record {
           routine = λ g. (let bad : Some r.name.name ≡ None = g in cc);
@@ -167,13 +167,13 @@ module _ (tokens : Tokens) (p : Program) where
           heading = subst (λ (z : ℕ). HeadingIs (W tokens d.scopes.shapes) (heading_at z d.scopes) (Some (routine_in k r))) (same_token r.name.at n i)
               (subst (λ (z : checker.Heading). HeadingIs (W tokens d.scopes.shapes) z (Some (routine_in k r))) (sym (heading_kept r.name.at a.shapes d.scopes.shapes parts.more ann.known.there)) (heading_is_more tokens a.shapes d.scopes.shapes parts.more (heading_at r.name.at a) (Some (routine_in k r)) ann.heading));
         };
-        read = subst (λ (i : Judged Use). ReadsAs s (closed_of r (Ok v) i d.scopes)) (sym (same ∙ uses.is)) (closed_read s a d.scopes r v uses.value fresh ann.outer parts.outer);
+        read = subst (λ (i : Judged Use). ReadsAs s (close_routine_of r (Ok v) i d.scopes)) (sym (same ∙ uses.is)) (closed_read s a d.scopes r v uses.value fresh ann.outer parts.outer);
         written = record {
           before = more_trans s.shapes a.shapes d.scopes.shapes ann.more parts.more;
           uses = uses.value;
           judged = uses.is;
           body = routine_use (census d.scopes.inner.names d.scopes.shapes).cells v uses.value;
-          there = subst (λ (i : Judged Use). shape_in r.body.at (closed_of r (Ok v) i d.scopes).shapes ≡ Some (body_shape (routine_use (census d.scopes.inner.names d.scopes.shapes).cells v uses.value))) (sym (same ∙ uses.is)) (closed_written r v uses.value d.scopes parts.agree.free.0);
+          there = subst (λ (i : Judged Use). shape_in r.body.at (close_routine_of r (Ok v) i d.scopes).shapes ≡ Some (body_shape (routine_use (census d.scopes.inner.names d.scopes.shapes).cells v uses.value))) (sym (same ∙ uses.is)) (closed_written r v uses.value d.scopes parts.agree.free.0);
           same = refl;
         };
       }
@@ -188,13 +188,13 @@ module _ (tokens : Tokens) (p : Program) where
 
   -- what a routine leaves, by what its heading leaves
   routine_result : (owner : Option SystemKind) (s a : Scopes) (m below : scopes.Scope) (js ks : List ℕ) (n : ℕ) (r : Routine) (h : Headed) (v : Option ValueType) → h.result ≡ Ok v → Each IsFreeParameter (routine_in (with_routine m r) r).parameters → IsOrdinalResult (routine_in (with_routine m r) r).result → BodyResult owner a m below ks r (Ok v) h.scopes → a.outer ≡ s.outer → More s.shapes a.shapes → Appends s.inner.names a.inner.names → ReadsAs s a →
-      IsAgreed tokens p (record { scopes = (part_steps spot.Other (announced_of r h.result h.scopes) r.parts).scopes; context = routine_context owner r }) (record { meaning = routine_in (with_routine m r) r; owner = n; name = Some r.name.name })
-      × StepResult tokens p false None s (routines.headed_step owner r h).scopes (with_routine m r) below ks × ReadsAs s (routines.headed_step owner r h).scopes
-      × BodyWritten s (record { scopes = (part_steps spot.Other (announced_of r h.result h.scopes) r.parts).scopes; context = routine_context owner r }) (routines.headed_step owner r h).scopes r
+      IsAgreed tokens p (record { scopes = (part_steps spot.Other (announce_judged r h.result h.scopes) r.parts).scopes; context = routine_context owner r }) (record { meaning = routine_in (with_routine m r) r; owner = n; name = Some r.name.name })
+      × StepResult tokens p false None s (routines.routine_after_heading owner r h).scopes (with_routine m r) below ks × ReadsAs s (routines.routine_after_heading owner r h).scopes
+      × BodyWritten s (record { scopes = (part_steps spot.Other (announce_judged r h.result h.scopes) r.parts).scopes; context = routine_context owner r }) (routines.routine_after_heading owner r h).scopes r
   routine_result owner s a m below js ks n r h v is parameters result b outer more longer read =
       let body : BodyResult owner a m below ks r h.result h.scopes = subst (λ (j : Judged (Option ValueType)). BodyResult owner a m below ks r j h.scopes) (sym is) b in (
-        place_agreed (part_steps spot.Other (announced_of r h.result h.scopes) r.parts).scopes (routine_context owner r) (routine_in (with_routine m r) r).scope (with_routine m r) (r.body.at ∷ ks) (record { meaning = routine_in (with_routine m r) r; owner = n; name = Some r.name.name }) refl body.sound body.variables parameters result (λ z i. (let o = body.own z i in record { routine = o.routine; named = o.named; heading = o.heading })) body.agree,
-        record { agree = body.step.agree; outer = body.step.outer ∙ outer; settled = body.step.settled; more = more_trans s.shapes a.shapes (routines.headed_step owner r h).scopes.shapes more body.step.more; appends = appends_then s.inner.names a.inner.names (routines.headed_step owner r h).scopes.inner.names longer body.step.appends },
+        place_agreed (part_steps spot.Other (announce_judged r h.result h.scopes) r.parts).scopes (routine_context owner r) (routine_in (with_routine m r) r).scope (with_routine m r) (r.body.at ∷ ks) (record { meaning = routine_in (with_routine m r) r; owner = n; name = Some r.name.name }) refl body.sound body.variables parameters result (λ z i. (let o = body.own z i in record { routine = o.routine; named = o.named; heading = o.heading })) body.agree,
+        record { agree = body.step.agree; outer = body.step.outer ∙ outer; settled = body.step.settled; more = more_trans s.shapes a.shapes (routines.routine_after_heading owner r h).scopes.shapes more body.step.more; appends = appends_then s.inner.names a.inner.names (routines.routine_after_heading owner r h).scopes.inner.names longer body.step.appends },
         body.read ∙ read,
         (let b = body.written in record { before = more_trans s.shapes a.shapes _ more b.before; uses = b.uses; judged = b.judged; body = b.body; there = b.there; same = b.same }),
       )
@@ -204,14 +204,14 @@ module _ (tokens : Tokens) (p : Program) where
   routine_agrees owner s m below ks n r e small few empty h =
       let a : Scopes = (reserve_name s r.name).scopes in
       let hd : Headed = heading owner r (reserve_name s r.name) in
-      let none : faults hd.result ≡ [] = none_left (faults hd.result) (faults (routines.opened owner r (announced_of r hd.result hd.scopes)).uses) e in
+      let none : faults hd.result ≡ [] = none_left (faults hd.result) (faults (routines.enter_routine owner r (announce_judged r hd.result hd.scopes)).uses) e in
       let reserved : (reserve_name s r.name).faults ≡ [] = heading_none tokens p owner r (reserve_name s r.name) none in
       let named = name_result tokens p false None s r.name m below (routine_tokens r ks) reserved empty h in
       let fresh : is_some (checker.find r.name.name a.inner.names) ≡ false = named.reserved.pends r.name.name named.reserved.all.0 in
       let head = heading_agrees tokens p owner s m below (routine_tokens r ks) r none named.agree in
       let ann = announced_agrees tokens p a hd.scopes m below (with_routine m r) (meant.heading_of (with_routine m r) r.kind).scope (routine_tokens r ks) (all_tokens part_tokens r.parts (r.body.at ∷ ks)) r head.value refl fresh named.agree head.step.agree head.step.outer head.step.settled head.step.more (head.result, head.read, sym (body_entry m r)) in
       let body = body_agrees owner a hd.scopes m below (routine_tokens r ks) ks r head.value fresh named.agree ann small few
-      (subst (λ (j : Judged (Option ValueType)). faults (routines.opened owner r (announced_of r j hd.scopes)).uses ≡ []) head.is (none_right (faults hd.result) (faults (routines.opened owner r (announced_of r hd.result hd.scopes)).uses) e)) in
+      (subst (λ (j : Judged (Option ValueType)). faults (routines.enter_routine owner r (announce_judged r j hd.scopes)).uses ≡ []) head.is (none_right (faults hd.result) (faults (routines.enter_routine owner r (announce_judged r hd.result hd.scopes)).uses) e)) in
       let all = routine_result owner s a m below (routine_tokens r ks) ks n r hd head.value head.is head.parameters head.ordinal body named.outer (λ k d i. ap (shape_in k) named.shapes ∙ i) (appends_none s.inner.names a.inner.names named.reserved.names) (ap checker.parameters_in named.reserved.names) in
       record { place = all.0; step = all.1; read = all.2; written = all.3; entry = entry_allowed owner r (reserve_name s r.name) head.value head.is }
 

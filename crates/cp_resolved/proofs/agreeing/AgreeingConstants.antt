@@ -85,7 +85,7 @@ module _ (tokens : Tokens) where
         within = integers_within q.0 (neg_ℤ q.1) (integer_base tokens q.0 n.base h.base e) (opposite_small q.1 h.small);
       }
 
-  signed_number : (at : ℕ) (o : Option Sign) (q : named.Base × ℤ) (n : ConstantNumber) → NumberIs q n → Good (NumberIs (q.0, meant.signed o q.1)) (constants.signed at o n)
+  signed_number : (at : ℕ) (o : Option Sign) (q : named.Base × ℤ) (n : ConstantNumber) → NumberIs q n → Good (NumberIs (q.0, meant.signed o q.1)) (constants.number_with_sign at o n)
   signed_number at None q n h = h
   signed_number at (Some sign.Plus) q n h = good_if (NumberIs q) (same_base n.base base.Integer) n (check_fault.Rule at C5) [] (λ e. h)
   signed_number at (Some sign.Minus) q n h =
@@ -96,17 +96,17 @@ module _ (tokens : Tokens) where
   constant_number b v _ h f = absurd h
 
 module _ (tokens : Tokens) where
-  named_number : (at : ℕ) (s : Scopes) (m : scopes.Scope) (x : Name) (o : Option (Option Meaning)) → IsKnown tokens s m x o → Good (NumberIs tokens (meant.constant_meant (find x m))) (names.found at o >>= constants.to_constant at)
+  named_number : (at : ℕ) (s : Scopes) (m : scopes.Scope) (x : Name) (o : Option (Option Meaning)) → IsKnown tokens s m x o → Good (NumberIs tokens (meant.constant_meant (find x m))) (names.check_visible at o >>= constants.to_constant at)
   named_number at s m x (Some None) h = absurd h
   named_number at s m x (Some (Some (meaning.Constant b v))) h = constant_number tokens b v (find x m) h.means h.fit
   named_number at s m x _ h = tt
 
   kind_number : (at : ℕ) (s : Scopes) (m : scopes.Scope) (c : ConstantKind) → IsSmallConstant c → ((x : Name) → IsKnown tokens s m x (look x s)) → Good (NumberIs tokens (meant.constant_of_kind m c)) (constants.constant_kind s at c)
-  unfolding constants.named names.visible
+  unfolding constants.constant_named names.visible
   kind_number at s m (kinds.Number o n) h k =
       signed_number tokens at o (named.integers, pos n) (record { base = base.Integer; value = pos n }) (record { base = refl; value = refl; small = h; within = small_within (pos n) h })
   kind_number at s m (kinds.Name o i) h k =
-      good_then (NumberIs tokens (meant.constant_meant (find i.name m))) (NumberIs tokens ((meant.constant_meant (find i.name m)).0, meant.signed o (meant.constant_meant (find i.name m)).1)) (names.found i.at (look i.name s) >>= constants.to_constant i.at) (constants.signed at o)
+      good_then (NumberIs tokens (meant.constant_meant (find i.name m))) (NumberIs tokens ((meant.constant_meant (find i.name m)).0, meant.signed o (meant.constant_meant (find i.name m)).1)) (names.check_visible i.at (look i.name s) >>= constants.to_constant i.at) (constants.number_with_sign at o)
       (named_number i.at s m i.name (look i.name s) (k i.name))
       (λ n e. signed_number tokens at o (meant.constant_meant (find i.name m)) n e)
   kind_number at s m (kinds.Character c) h k = record { base = refl; value = refl; small = omega (arith, h); within = character_within c h }

@@ -12,7 +12,7 @@ use Rattle.cp_scope.specs.Scopes as checker
 use Rattle.cp_check.specs.declared.types.Spot.TheVariants as spot
 use Rattle.cp_check.specs.Constants.{constant}
 use Rattle.cp_check.specs.Records.{reserve_field, reserve_fields, with_fields}
-use Rattle.cp_check.specs.Declarations.{as_declared, reserve_name, reserve_names, add_names, add_all, add_one, to_constant, to_kind, to_variable, constant_step, constant_steps, type_step, type_steps, variable_step, variable_steps, part_step, part_steps}
+use Rattle.cp_check.specs.Declarations.{meaning_or_none, reserve_name, reserve_names, add_names, add_all, add_one, to_constant, to_kind, to_variable, constant_step, constant_steps, type_step, type_steps, variable_step, variable_steps, part_step, part_steps}
 use Rattle.cp_meaning.specs.Types as named
 use Rattle.cp_meaning.specs.Scopes as scopes
 use Rattle.cp_meaning.specs.Declarations as meant
@@ -154,7 +154,7 @@ module _ (tokens : Tokens) (p : Program) where
       let r : NamesResult b None s t (d.name ∷ []) m below ks = name_result b None s d.name m below ks (none_left (reserve_name s d.name).faults (faults (constant t d.value >>= to_constant)) e) empty h in
       let n : Sound (NumberIs tokens (meant.constant_of m d.value)) (constant t d.value) =
       good_sound (NumberIs tokens (meant.constant_of m d.value)) (constant t d.value) (constant_number_of tokens t m d.value small (λ x. sees tokens p b None t m below ks r.agree x tt)) (none_first (constant t d.value) to_constant (none_right (reserve_name s d.name).faults (faults (constant t d.value >>= to_constant)) e)) in
-      subst (λ (j : Judged ConstantNumber). StepResult b None s (add_one t d.name (as_declared (j >>= to_constant))) ((d.name.name, scopes.constant_meaning (meant.constant_of m d.value).0 (meant.constant_of m d.value).1) ∷ m) below ks) (sym n.is)
+      subst (λ (j : Judged ConstantNumber). StepResult b None s (add_one t d.name (meaning_or_none (j >>= to_constant))) ((d.name.name, scopes.constant_meaning (meant.constant_of m d.value).0 (meant.constant_of m d.value).1) ∷ m) below ks) (sym n.is)
       (one_declared b None s t d.name m below ks (meaning.Constant n.value.base n.value.value) (scopes.constant_meaning (meant.constant_of m d.value).0 (meant.constant_of m d.value).1)
       (one_fresh t d.name t.inner.pending refl r.reserved.pends r.reserved.all) (λ g. refl) (constant_new (add t d.name.name (Some (meaning.Constant n.value.base n.value.value))) d.name.name (meant.constant_of m d.value) n.value n.holds)
       r.outer (λ k g i. ap (checker.shape_in k) r.shapes ∙ i) (appends_none s.inner.names t.inner.names r.reserved.names) r.agree)
@@ -203,10 +203,10 @@ module _ (tokens : Tokens) (p : Program) where
 
   -- a name for a type that was written
   pub kind_declared : (b : Bool) (s : Scopes) (n : Identifier) (t : Typed) (m below : scopes.Scope) (ks : List ℕ) (u : Ty) (v : ValueType) → t.type ≡ Ok v → TypeIs (W tokens t.scopes.shapes) u v → is_standing u ≡ true → is_some (checker.find n.name t.scopes.inner.names) ≡ false →
-      t.scopes.outer ≡ s.outer → More s.shapes t.scopes.shapes → Appends s.inner.names t.scopes.inner.names → Agree tokens p b None t.scopes m below ks → StepResult b None s (add_one t.scopes n (as_declared (t.type >>= to_kind))) ((n.name, scopes.type_meaning u) ∷ m) below ks
+      t.scopes.outer ≡ s.outer → More s.shapes t.scopes.shapes → Appends s.inner.names t.scopes.inner.names → Agree tokens p b None t.scopes m below ks → StepResult b None s (add_one t.scopes n (meaning_or_none (t.type >>= to_kind))) ((n.name, scopes.type_meaning u) ∷ m) below ks
   unfolding add
   kind_declared b s n t m below ks u v is h g fresh outer more longer agree =
-      subst (λ (j : Judged ValueType). StepResult b None s (add_one t.scopes n (as_declared (j >>= to_kind))) ((n.name, scopes.type_meaning u) ∷ m) below ks) (sym is)
+      subst (λ (j : Judged ValueType). StepResult b None s (add_one t.scopes n (meaning_or_none (j >>= to_kind))) ((n.name, scopes.type_meaning u) ∷ m) below ks) (sym is)
       (one_declared b None s t.scopes n m below ks (meaning.Kind v) (scopes.type_meaning u) fresh (λ e. refl) (kind_new (add t.scopes n.name (Some (meaning.Kind v))) n.name u v h g) outer more longer agree)
 
   type_step_agrees : (b : Bool) (s : Scopes) (m below : scopes.Scope) (ks : List ℕ) (d : TypeDefinition) → (type_step s d).faults ≡ [] → IsSmallType d.value → Each (IsFew tokens) (in_type d.value) → s.inner.pending ≡ [] → Agree tokens p b None s m below (type_tokens d.value ks) →
@@ -256,7 +256,7 @@ module _ (tokens : Tokens) (p : Program) where
       let u : Ty × scopes.Scope = meant.type_in m g.variable_type in
       let r = type_reached b s a g.names m below ks q g.variable_type (names_result b None s g.names m below (type_tokens g.variable_type ks) (none_left (reserve_names s g.names).faults (faults (t.type >>= to_variable)) e) empty h)
       (none_first t.type to_variable (none_right (reserve_names s g.names).faults (faults (t.type >>= to_variable)) e)) small few in
-      subst (λ (j : Judged ValueType). StepResult b None s (add_all t.scopes g.names (as_declared (j >>= to_variable))) (meant.with_names (meant.names_of g.names) (kind u.0) u.1) below ks) (sym r.is)
+      subst (λ (j : Judged ValueType). StepResult b None s (add_all t.scopes g.names (meaning_or_none (j >>= to_variable))) (meant.with_names (meant.names_of g.names) (kind u.0) u.1) below ks) (sym r.is)
       (all_declared b None s t.scopes g.names u.1 below ks (meaning.Variable r.value) (kind u.0) r.fresh r.others (λ i. how.hidden i u.0) (λ w i n. how.new w u.0 r.value (typed_moved t.scopes.shapes w.shapes q u.0 r.value i r.typed) n) r.outer r.more r.appends r.agree)
 
   pub variables_agree : (b : Bool) (q : Spot) (kind : Ty → scopes.Meaning) → Kind b q kind → (s : Scopes) (o : Block) (below : scopes.Scope) (ks : List ℕ) (gs : List VariableGroup) → (variable_steps q s gs).faults ≡ [] → Each (λ g. IsSmallType g.variable_type) gs → Each (IsFew tokens) (each_in (λ g. in_type g.variable_type) gs) → s.inner.pending ≡ [] → Agree tokens p b None s o.scope below (all_tokens (λ g. type_tokens g.variable_type) gs ks) →

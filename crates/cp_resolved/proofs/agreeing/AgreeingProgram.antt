@@ -3,7 +3,7 @@ use Rattle.std.proofs.Common.{◌≡◌, ◌≤◌, ℕ, pos, Bool, true, false,
 use Rattle.cp_resolved.proofs.Words.{bytes_eq, Identifier, Range, ValueType, whole, Meaning, Use, no_use, Judged, ◌>>=◌, faults, Step, Typed, typed, routine_steps, Heard}
 use Rattle.cp_resolved.proofs.Words.{Name, find, predeclared, seen_inside, in_routine, in_definition, in_program_part, each_in, enumerations_of, nothing_declared, Each}
 use Rattle.cp_resolved.proofs.Words.{IsSmallDefinition, IsSmallProgramPart, IsSmallProgram, IsFit, IsStandingVariable, IsStandingParameter, none_first, none_before}
-use Rattle.cp_resolved.proofs.Words.{as_declared, to_kind, reserve_name, add_one, constant_steps, variable_steps, definition_step, definition_steps, program_part_step}
+use Rattle.cp_resolved.proofs.Words.{meaning_or_none, to_kind, reserve_name, add_one, constant_steps, variable_steps, definition_step, definition_steps, program_part_step}
 use Rattle.cp_resolved.proofs.Words.{program_part_steps, Place, definition_places, definitions_places, part_places, parts_places, routine_places, places_of, AreAgreed}
 use Rattle.cp_tree.specs.Syntax.{Program, Definition, type_definition, system_definition, SystemDefinition, ProgramPart, program_constants, program_types, program_variables, Tree}
 use Rattle.cp_scope.specs.declared.types.Base.TheVariants as base
@@ -14,7 +14,7 @@ use Rattle.cp_scope.specs.Scopes as checker
 use Rattle.cp_check.specs.declared.types.Spot.TheVariants as spot
 use Rattle.cp_check.specs.Statements.{statements}
 use Rattle.cp_check.specs.Systems as systems_of
-use Rattle.cp_check.specs.Faults.{declarations, program_context, opened, limit_faults, faults_of}
+use Rattle.cp_check.specs.Faults.{declarations, program_context, declarations_and_body, limit_faults, faults_of}
 use Rattle.cp_meaning.specs.Types as named
 use Rattle.cp_meaning.specs.Scopes as scopes
 use Rattle.cp_meaning.specs.Declarations as meant
@@ -107,12 +107,12 @@ module _ (tokens : Tokens) (p : Program) where
   unfolding add_one add settle
   counted_added t n o c h = h
 
-  pub defined_agrees : (s a : Scopes) (d : Declared) (below : scopes.Scope) (ks : List ℕ) (n : SystemDefinition) (v : Definition) → NamesResult tokens p true None s a (n.name ∷ []) d.scope below (definition_tokens v ks) → faults (systems_of.defined a v).type ≡ [] → IsNumberedDefinition d v → IsSmallDefinition v → Each (IsFew tokens) (in_definition v) →
-      DefinedResult s (add_one (systems_of.defined a v).scopes n.name (as_declared ((systems_of.defined a v).type >>= to_kind))) d (definition_in d n v) below ks (definition_places a v) (definition_openings d v) (IsFitDefinition d v)
-  unfolding systems_of.defined
+  pub defined_agrees : (s a : Scopes) (d : Declared) (below : scopes.Scope) (ks : List ℕ) (n : SystemDefinition) (v : Definition) → NamesResult tokens p true None s a (n.name ∷ []) d.scope below (definition_tokens v ks) → faults (systems_of.type_of_definition a v).type ≡ [] → IsNumberedDefinition d v → IsSmallDefinition v → Each (IsFew tokens) (in_definition v) →
+      DefinedResult s (add_one (systems_of.type_of_definition a v).scopes n.name (meaning_or_none ((systems_of.type_of_definition a v).type >>= to_kind))) d (definition_in d n v) below ks (definition_places a v) (definition_openings d v) (IsFitDefinition d v)
+  unfolding systems_of.type_of_definition
   defined_agrees s a d below ks n (type_definition t) r e number small few =
       let w = type_reached tokens p true s a (n.name ∷ []) d.scope below ks spot.Definition t r e small few in
-      let u : Scopes = add_one (typed a spot.Definition t).scopes n.name (as_declared ((typed a spot.Definition t).type >>= to_kind)) in
+      let u : Scopes = add_one (typed a spot.Definition t).scopes n.name (meaning_or_none ((typed a spot.Definition t).type >>= to_kind)) in
       let k : scopes.Scope = (definition_in d n (type_definition t)).scope in
       let step : StepResult tokens p true None s u k below ks =
       kind_declared tokens p true s n.name (typed a spot.Definition t) (meant.type_in d.scope t).1 below ks (meant.type_in d.scope t).0 w.value w.is w.typed.belongs (standing_at spot.Definition (meant.type_in d.scope t).0 w.typed.stands) w.fresh.0 w.outer w.more w.appends w.agree in
@@ -127,9 +127,9 @@ module _ (tokens : Tokens) (p : Program) where
       }
   defined_agrees s a d below ks n (system_definition y) r e number small few =
       let c : ℕ = length d.systems in
-      let t : Typed = systems_of.system_typed a y in
+      let t : Typed = systems_of.system_type a y in
       let w = system_agrees tokens p a d.scope below ks c y number e small few r.agree in
-      let u : Scopes = add_one t.scopes n.name (as_declared (t.type >>= to_kind)) in
+      let u : Scopes = add_one t.scopes n.name (meaning_or_none (t.type >>= to_kind)) in
       let k : scopes.Scope = (definition_in d n (system_definition y)).scope in
       let step : StepResult tokens p true None s u k below ks =
       kind_declared tokens p true s n.name t d.scope below ks (named.component_of c) (types.Component y.kind y.at) w.is (record { kind = y.kind; is = ap (types.Component y.kind) (sym number.token); own = sym number.kind; only = λ k i. number.only k (i ∙ number.token); there = subst (λ (k : ℕ). SystemThere k t.scopes.shapes) (sym number.token) w.closed.there }) refl
@@ -142,7 +142,7 @@ module _ (tokens : Tokens) (p : Program) where
             (x.0, λ h. each_both (SystemNumbered p tokens) d.systems (system_in (seen_inside d.scope) y ∷ []) h (x.1, tt)));
         step = step;
         types = λ h. each_both IsStandingSystem d.systems (system_in (seen_inside d.scope) y ∷ []) h ((w.variables, w.parameters, w.handed), tt);
-        counted = last_counted tokens p s.shapes u.shapes d.systems (system_in (seen_inside d.scope) y) step.more (counted_added t n.name (as_declared (t.type >>= to_kind)) c w.counted);
+        counted = last_counted tokens p s.shapes u.shapes d.systems (system_in (seen_inside d.scope) y) step.more (counted_added t n.name (meaning_or_none (t.type >>= to_kind)) c w.counted);
         declares = λ h. step_declares true s u k below ks d.variables step h;
       }
 
@@ -152,7 +152,7 @@ module _ (tokens : Tokens) (p : Program) where
   definitions_agree s d below ks [] e number small few empty h = record { places = tt; fit = tt; noted = λ around listed. (tt, λ i. i); step = step_same tokens p true None s d.scope below ks empty h; types = λ i. i; counted = λ i. i; declares = λ i. i }
   definitions_agree s d below ks (n ∷ ns) e number small few empty h =
       let a : Scopes = (reserve_name s n.name).scopes in
-      let x : Typed = systems_of.defined a n.value in
+      let x : Typed = systems_of.type_of_definition a n.value in
       let t : Scopes = (definition_step s n).scopes in
       let js : List ℕ = all_tokens (λ (c : SystemDefinition). definition_tokens c.value) ns ks in
       let k : Declared = definition_in d n n.value in
@@ -397,9 +397,9 @@ module _ (tokens : Tokens) (p : Program) where
     pub declares : Declares tokens (spot.Permanent None) (declarations start p).scopes.shapes (declared p).variables (declarations start p).scopes.inner.names
 
   pub program_agrees : (t : Tree) → p ≡ t.program → faults_of t ≡ [] → AreNumberedParts nothing_declared p.parts → IsSmallProgram p → Each (IsFew tokens) (enumerations_of p) → AreDifferent (program_tokens p) → ProgramResult
-  unfolding faults_of opened declarations
+  unfolding faults_of declarations_and_body declarations
   program_agrees t is e number small few different =
-      let none : faults (opened start p).uses ≡ [] = subst (λ (q : Program). faults (opened start q).uses ≡ []) (sym is) (uses_sound t.program.period (opened start t.program).scopes (opened start t.program).uses e) in
+      let none : faults (declarations_and_body start p).uses ≡ [] = subst (λ (q : Program). faults (declarations_and_body start q).uses ≡ []) (sym is) (uses_sound t.program.period (declarations_and_body start t.program).scopes (declarations_and_body start t.program).uses e) in
       let d : Step = declarations start p in
       let j : Judged Use = statements d.scopes program_context (Ok no_use) p.body.statements in
       let sound : d.faults ≡ [] = none_before d.faults j none in

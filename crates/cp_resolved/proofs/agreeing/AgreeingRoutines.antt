@@ -1,7 +1,7 @@
 -- Routines that break no rule: where their statements stand, the checker's scopes agree with the scope of the routine, and so they do after it.
 use Rattle.std.proofs.Common.{◌≡◌, ℕ, Bool, true, false, if◌then◌else◌, List, [], ◌∷◌, ◌++◌, Option, Some, None, Ok, is_some, refl, sym, ap, subst, ◌∙◌}
 use Rattle.cp_resolved.proofs.Words.{◌-◌, bytes_eq, Identifier, SystemKind, CheckFault, ValueType, Meaning, Judged, ◌>>=◌, faults, Holding, Step, C5, fault, unless}
-use Rattle.cp_resolved.proofs.Words.{as_declared, reserve_name, reserve_names, add_names, add_all, last_is, Name, Ty, find, since, routine_meaning, routine_in}
+use Rattle.cp_resolved.proofs.Words.{meaning_or_none, reserve_name, reserve_names, add_names, add_all, last_is, Name, Ty, find, since, routine_meaning, routine_in}
 use Rattle.cp_resolved.proofs.Words.{with_routine, Each, is_free, IsFit, IsFreeParameter, itself, none_first, none_before, is_ordinal, parameter_of}
 use Rattle.cp_tree.specs.declared.declaration.SystemKind.TheVariants as system_kind
 use Rattle.cp_tree.specs.Syntax.{Program, Group, ParameterGroup, RoutineKind, procedure, function, invariants, Routine}
@@ -13,7 +13,7 @@ use Rattle.cp_scope.specs.Scopes as checker
 use Rattle.cp_check.specs.declared.types.Holding.TheVariants as holds
 use Rattle.cp_check.specs.Types as typing
 use Rattle.cp_check.specs.Headings as headings
-use Rattle.cp_check.specs.Headings.{after_faults, Headed, written, heading, announced}
+use Rattle.cp_check.specs.Headings.{after_faults, Headed, parameters_and_result, heading, announce}
 use Rattle.cp_meaning.specs.Scopes as scopes
 use Rattle.cp_meaning.specs.Declarations as meant
 use Rattle.cp_resolved.specs.Framed as framed
@@ -36,7 +36,7 @@ module _ (tokens : Tokens) (p : Program) where
     pub belongs : TypeIs (W tokens ss) t v
     pub free : is_free t ≡ true
 
-  admitted_good : (ss : Shapes) (at : ℕ) (h : Holding) (t : Ty) (v : ValueType) → TypeIs (W tokens ss) t v → Held h t → Good (PlainType ss t) (headings.admitted at h v)
+  admitted_good : (ss : Shapes) (at : ℕ) (h : Holding) (t : Ty) (v : ValueType) → TypeIs (W tokens ss) t v → Held h t → Good (PlainType ss t) (headings.check_parameter_type at h v)
   admitted_good ss at holds.Plain t v b k = record { belongs = b; free = k.free refl }
   admitted_good ss at (holds.Component system_kind.Class) t v b k = tt
   admitted_good ss at _ t v b k = tt
@@ -44,7 +44,7 @@ module _ (tokens : Tokens) (p : Program) where
   parameter_good : (s : Scopes) (m : scopes.Scope) (g : Group) → Good (KindOf tokens s.shapes (meant.type_named m g.type_name.name)) (typing.type_named s g.type_name.at g.type_name.name) → Good (PlainType s.shapes (meant.type_named m g.type_name.name)) (headings.parameter_type s g)
   unfolding headings.parameter_type
   parameter_good s m g h =
-      good_then (KindOf tokens s.shapes (meant.type_named m g.type_name.name)) (PlainType s.shapes (meant.type_named m g.type_name.name)) (typing.type_named s g.type_name.at g.type_name.name) (headings.admitted_in s g.type_name.at)
+      good_then (KindOf tokens s.shapes (meant.type_named m g.type_name.name)) (PlainType s.shapes (meant.type_named m g.type_name.name)) (typing.type_named s g.type_name.at g.type_name.name) (headings.check_parameter_type_in s g.type_name.at)
       h
       (λ v k. admitted_good s.shapes g.type_name.at (typing.holding s v) (meant.type_named m g.type_name.name) v k.belongs (held_named (W tokens s.shapes) s (meant.type_named m g.type_name.name) v refl k.belongs k.standing))
 
@@ -61,7 +61,7 @@ module _ (tokens : Tokens) (p : Program) where
       let t : Ty = meant.type_named m g.type_name.name in
       let r = names_result tokens p false but s g.names m below ks (none_left (reserve_names s g.names).faults (faults (j >>= headings.to_parameter is_var)) e) empty h in
       let v = good_sound (PlainType a.shapes t) j (parameter_good a m g (type_seen tokens p false but a m below ks g.type_name.at g.type_name.name r.agree)) (none_first j (headings.to_parameter is_var) (none_right (reserve_names s g.names).faults (faults (j >>= headings.to_parameter is_var)) e)) in
-      subst (λ (i : Judged ValueType). StepResult tokens p false but s (add_all a g.names (as_declared (i >>= headings.to_parameter is_var))) (meant.with_names (meant.names_of g.names) (scopes.local_variable t) m) below ks) (sym v.is)
+      subst (λ (i : Judged ValueType). StepResult tokens p false but s (add_all a g.names (meaning_or_none (i >>= headings.to_parameter is_var))) (meant.with_names (meant.names_of g.names) (scopes.local_variable t) m) below ks) (sym v.is)
       (all_declared tokens p false but s a g.names m below ks (if is_var then meaning.Reference v.value else meaning.Parameter v.value) (scopes.local_variable t) (pending_fresh a.inner g.names a.inner.pending r.reserved.pends r.reserved.all) r.reserved.others (λ i. absurd (cc))
       (λ u i n. parameter_new is_var a.shapes u n t v.value i v.holds) r.outer (λ k d i. ap (shape_in k) r.shapes ∙ i) (appends_none s.inner.names a.inner.names r.reserved.names) r.agree)
 
@@ -154,7 +154,7 @@ module _ (tokens : Tokens) (p : Program) where
       let all : AreParameters (W tokens a.shapes) (parameters_in (add_names a g.names (Some c)).inner.names) (qs ++ meant.parameters_named (meant.names_of g.names) t is_var) =
       subst (λ (as' : List check_parameter.Parameter). AreParameters (W tokens a.shapes) as' (qs ++ meant.parameters_named (meant.names_of g.names) t is_var)) (sym (names_read a g.names c b (is_read is_var v.value) fresh r.reserved.others))
       (parameters_both (W tokens a.shapes) (parameters_in a.inner.names) (copies b g.names) qs (meant.parameters_named (meant.names_of g.names) t is_var) before (copies_are (W tokens a.shapes) b t is_var g.names refl v.holds.belongs (free_handed is_var t v.holds.free))) in
-      subst (λ (i : Judged ValueType). AreRead (add_all a g.names (as_declared (i >>= headings.to_parameter is_var))) (qs ++ meant.parameters_named (meant.names_of g.names) t is_var)) (sym v.is)
+      subst (λ (i : Judged ValueType). AreRead (add_all a g.names (meaning_or_none (i >>= headings.to_parameter is_var))) (qs ++ meant.parameters_named (meant.names_of g.names) t is_var)) (sym v.is)
       (subst (λ (ss : Shapes). AreParameters (W tokens ss) (parameters_in (add_names a g.names (Some c)).inner.names) (qs ++ meant.parameters_named (meant.names_of g.names) t is_var)) (sym (shapes_added a g.names (Some c))) all)
     where
       is_read : (b : Bool) (v : ValueType) → parameter_of (if b then meaning.Reference v else meaning.Parameter v) ≡ Some (record { is_var = b; value_type = v })
@@ -191,7 +191,7 @@ module _ (tokens : Tokens) (p : Program) where
   IsResult ss (Some v) (Some t) = PlainType ss t v
   IsResult ss (Some v) None = ⊥
 
-  returned_good : (ss : Shapes) (at : ℕ) (h : Holding) (t : Ty) (v : ValueType) → TypeIs (W tokens ss) t v → Held h t → Good (PlainType ss t) (headings.returned at h v)
+  returned_good : (ss : Shapes) (at : ℕ) (h : Holding) (t : Ty) (v : ValueType) → TypeIs (W tokens ss) t v → Held h t → Good (PlainType ss t) (headings.check_result_type at h v)
   returned_good ss at holds.Plain t v b k = record { belongs = b; free = k.free refl }
   returned_good ss at _ t v b k = tt
 
@@ -199,8 +199,8 @@ module _ (tokens : Tokens) (p : Program) where
   unfolding headings.result_type
   result_good s m i h =
       let t : Ty = meant.type_named m i.name in
-      good_then (PlainType s.shapes t) (λ o. IsResult s.shapes o (Some t)) (typing.type_named s i.at i.name >>= headings.returned_in s i.at) headings.some_type
-      (good_then (KindOf tokens s.shapes t) (PlainType s.shapes t) (typing.type_named s i.at i.name) (headings.returned_in s i.at) h
+      good_then (PlainType s.shapes t) (λ o. IsResult s.shapes o (Some t)) (typing.type_named s i.at i.name >>= headings.check_result_type_in s i.at) headings.some_type
+      (good_then (KindOf tokens s.shapes t) (PlainType s.shapes t) (typing.type_named s i.at i.name) (headings.check_result_type_in s i.at) h
       (λ v k. returned_good s.shapes i.at (typing.holding s v) t v k.belongs (held_named (W tokens s.shapes) s t v refl k.belongs k.standing)))
       (λ v k. k)
 
@@ -244,8 +244,8 @@ module _ (tokens : Tokens) (p : Program) where
     pub parameters : Each IsFreeParameter (meant.heading_of m k).parameters
     pub read : AreRead h.scopes (meant.heading_of m k).parameters
 
-  written_agrees : (own : Name) (s : Scopes) (m below : scopes.Scope) (ks : List ℕ) (k : RoutineKind) → faults (written s k).result ≡ [] → s.inner.pending ≡ [] → Agree tokens p false (Some own) s m below ks → AreRead s [] → WrittenResult own s m below ks (written s k) k
-  unfolding headings.written
+  written_agrees : (own : Name) (s : Scopes) (m below : scopes.Scope) (ks : List ℕ) (k : RoutineKind) → faults (parameters_and_result s k).result ≡ [] → s.inner.pending ≡ [] → Agree tokens p false (Some own) s m below ks → AreRead s [] → WrittenResult own s m below ks (parameters_and_result s k) k
+  unfolding headings.parameters_and_result
   written_agrees own s m below ks (procedure gs) e empty agree first =
       let none : (headings.parameter_steps s gs).faults ≡ [] = none_before {A = Option ValueType} (headings.parameter_steps s gs).faults (Ok None) e in
       record {
@@ -296,16 +296,16 @@ module _ (tokens : Tokens) (p : Program) where
   ruled_none (f ∷ fs) v h = h
 
   -- the rules of the heading itself
-  ruled_result : (owner : Option SystemKind) (s e : Scopes) (m k below : scopes.Scope) (ks : List ℕ) (r : Routine) (fs : List CheckFault) (h : Headed) → faults (headings.ruled_behind owner r fs h).result ≡ [] → WrittenResult r.name.name e k below ks h r.kind → HeadingResult e m k below ks r (headings.ruled_behind owner r fs h)
+  ruled_result : (owner : Option SystemKind) (s e : Scopes) (m k below : scopes.Scope) (ks : List ℕ) (r : Routine) (fs : List CheckFault) (h : Headed) → faults (headings.check_heading_behind owner r fs h).result ≡ [] → WrittenResult r.name.name e k below ks h r.kind → HeadingResult e m k below ks r (headings.check_heading_behind owner r fs h)
   ruled_result owner s e m k below ks r fs h none w =
-      let first : faults (after_faults fs h.result) ≡ [] = none_first (after_faults fs h.result) (headings.ruled owner r) none in
+      let first : faults (after_faults fs h.result) ≡ [] = none_first (after_faults fs h.result) (headings.check_heading owner r) none in
       let same : after_faults fs h.result ≡ Ok w.value = none_after fs h.result first ∙ w.is in
-      let all : headings.heading_faults owner r w.value ≡ [] = ruled_none (headings.heading_faults owner r w.value) w.value (subst (λ (j : Judged (Option ValueType)). faults (j >>= headings.ruled owner r) ≡ []) same none) in
+      let all : headings.heading_faults owner r w.value ≡ [] = ruled_none (headings.heading_faults owner r w.value) w.value (subst (λ (j : Judged (Option ValueType)). faults (j >>= headings.check_heading owner r) ≡ []) same none) in
       let fine : headings.result_faults r.at w.value ≡ [] = none_left (headings.result_faults r.at w.value) (headings.entry_faults (r.name.at - 1) owner r.is_entry) all in
       record {
         step = w.step;
         value = w.value;
-        is = ap (λ (j : Judged (Option ValueType)). j >>= headings.ruled owner r) same ∙ ap (λ gs. unless gs w.value) all;
+        is = ap (λ (j : Judged (Option ValueType)). j >>= headings.check_heading owner r) same ∙ ap (λ gs. unless gs w.value) all;
         result = result_is h.scopes.shapes r.at w.value (meant.result_of (meant.heading_of k r.kind).scope r.kind) w.result fine (routine_in k r) refl;
         parameters = w.parameters;
         read = w.read;
@@ -341,7 +341,7 @@ module _ (tokens : Tokens) (p : Program) where
   -- the name breaks no rule
   pub heading_none : (owner : Option SystemKind) (r : Routine) (d : Step) → faults (heading owner r d).result ≡ [] → d.faults ≡ []
   unfolding heading
-  heading_none owner r d h = none_before d.faults (written (enter false d.scopes) r.kind).result (none_first (after_faults d.faults (written (enter false d.scopes) r.kind).result) (headings.ruled owner r) h)
+  heading_none owner r d h = none_before d.faults (parameters_and_result (enter false d.scopes) r.kind).result (none_first (after_faults d.faults (parameters_and_result (enter false d.scopes) r.kind).result) (headings.check_heading owner r) h)
 
   pub heading_agrees : (owner : Option SystemKind) (s : Scopes) (m below : scopes.Scope) (ks : List ℕ) (r : Routine) → faults (heading owner r (reserve_name s r.name)).result ≡ [] → Agree tokens p false None (reserve_name s r.name).scopes m below ks →
       HeadingResult (enter false (reserve_name s r.name).scopes) m (with_routine m r) (with_routine m r) ks r (heading owner r (reserve_name s r.name))
@@ -350,8 +350,8 @@ module _ (tokens : Tokens) (p : Program) where
       let a : Scopes = (reserve_name s r.name).scopes in
       let e : Scopes = enter false a in
       let d : Step = reserve_name s r.name in
-      let w : Headed = written e r.kind in
-      let first : faults (after_faults d.faults w.result) ≡ [] = none_first (after_faults d.faults w.result) (headings.ruled owner r) none in
+      let w : Headed = parameters_and_result e r.kind in
+      let first : faults (after_faults d.faults w.result) ≡ [] = none_first (after_faults d.faults w.result) (headings.check_heading owner r) none in
       ruled_result owner s e m (with_routine m r) (with_routine m r) ks r d.faults w none
       (written_agrees r.name.name e (with_routine m r) (with_routine m r) ks r.kind (ap faults (sym (none_after d.faults w.result first)) ∙ first) refl (entered_agrees a m below ks r h) tt)
 
@@ -384,7 +384,7 @@ module _ (tokens : Tokens) (p : Program) where
         fit = subst IsFit (find_first tokens r.name.name (routine_meaning r) m) tt;
       }
 
-  -- a name that stands for the routine at a token where nothing was written is not visible
+  -- a name that stands for the routine at a token where nothing was parameters_and_result is not visible
   unwritten : (s : Scopes) (m : scopes.Scope) (x : Name) (n : ℕ) (o : Option (Option Meaning)) → shape_in n s.shapes ≡ None → IsKnown tokens s m x o → o ≡ Some (Some (meaning.Routine n)) → ⊥
   unwritten s m x n o free k e =
       let known : Known tokens s m x (meaning.Routine n) = subst (IsKnown tokens s m x) e k in
@@ -412,14 +412,14 @@ module _ (tokens : Tokens) (p : Program) where
 
   -- from its heading on the routine's name alone stands for it
   announced_own : (s hs : Scopes) (m below k rs : scopes.Scope) (js ks : List ℕ) (r : Routine) (v : Option ValueType) → is_some (checker.find r.name.name s.inner.names) ≡ false → Agree tokens p false None s m below js → Agree tokens p false (Some r.name.name) hs rs k (r.name.at ∷ ks) → hs.outer ≡ s.outer ++ sealed false s.inner ∷ [] → More s.shapes hs.shapes →
-      (x : Name) → or_else (checker.find x (announced r v hs).inner.names) (look_outer x (announced r v hs).outer) ≡ Some (Some (meaning.Routine r.name.at)) → bytes_eq x r.name.name ≡ true
-  unfolding announced add_around keep
+      (x : Name) → or_else (checker.find x (announce r v hs).inner.names) (look_outer x (announce r v hs).outer) ≡ Some (Some (meaning.Routine r.name.at)) → bytes_eq x r.name.name ≡ true
+  unfolding announce add_around keep
   announced_own s hs m below k rs js ks r v fresh before h outer more x e =
       let last : last_of hs.outer ≡ (let b : Around = record { outer = s.outer; inner = sealed false s.inner } in b) = ap last_of outer ∙ last_is s.outer (sealed false s.inner) in
       let c : Scope = with_name (sealed false s.inner) r.name.name (announcing r) in
-      let is : (announced r v hs).outer ≡ s.outer ++ c ∷ [] = ap (λ (b : Around). b.outer ++ with_name b.inner r.name.name (announcing r) ∷ []) last in
-      let around : look_outer x (announced r v hs).outer ≡ Some (Some (meaning.Routine r.name.at)) =
-      either_is (checker.find x hs.inner.names) (look_outer x (announced r v hs).outer) r.name.at (unwritten_inner hs rs k x r.name.at (checker.find x hs.inner.names) h.free.0 (h.names x)) e in
+      let is : (announce r v hs).outer ≡ s.outer ++ c ∷ [] = ap (λ (b : Around). b.outer ++ with_name b.inner r.name.name (announcing r) ∷ []) last in
+      let around : look_outer x (announce r v hs).outer ≡ Some (Some (meaning.Routine r.name.at)) =
+      either_is (checker.find x hs.inner.names) (look_outer x (announce r v hs).outer) r.name.at (unwritten_inner hs rs k x r.name.at (checker.find x hs.inner.names) h.free.0 (h.names x)) e in
       let both : or_else (if bytes_eq x r.name.name then Some (announcing r) else checker.find x s.inner.names) (look_outer x s.outer) ≡ Some (Some (meaning.Routine r.name.at)) =
       sym (ap (look_outer x) is ∙ look_last x s.outer c ∙ ap (λ o. or_else o (look_outer x s.outer)) (routine_last x s.inner r.name.name (announcing r) fresh)) ∙ around in
       go (bytes_eq x r.name.name) both
@@ -432,12 +432,12 @@ module _ (tokens : Tokens) (p : Program) where
       go false i = absurd (unwritten s m x r.name.at (look x s) free (sees tokens p false None s m below js before x tt) (look_is x s before.unsealed ∙ i))
 
   pub announced_agrees : (s hs : Scopes) (m below k rs : scopes.Scope) (js ks : List ℕ) (r : Routine) (v : Option ValueType) → k ≡ with_routine m r → is_some (checker.find r.name.name s.inner.names) ≡ false → Agree tokens p false None s m below js → Agree tokens p false (Some r.name.name) hs rs k (r.name.at ∷ ks) → hs.outer ≡ s.outer ++ sealed false s.inner ∷ [] → hs.inner.pending ≡ [] → More s.shapes hs.shapes →
-      HeadingIs (W tokens hs.shapes) (headings.as_heading r v hs) (Some (routine_in (with_routine m r) r)) → Announced (announced r v hs) s r m k rs ks
-  unfolding announced add_around keep
+      HeadingIs (W tokens hs.shapes) (headings.as_heading r v hs) (Some (routine_in (with_routine m r) r)) → Announced (announce r v hs) s r m k rs ks
+  unfolding announce add_around keep
   announced_agrees s hs m below k rs js ks r v same fresh before h outer settled more is_heading =
       let d : Shape = heading_shape (headings.as_heading r v hs) r.body.at in
       let t : Scopes = keep hs r.name.at d in
-      let a : Scopes = announced r v hs in
+      let a : Scopes = announce r v hs in
       let kept : Agree tokens p false (Some r.name.name) t rs k ks = agree_kept tokens p false (Some r.name.name) hs rs k r.name.at ks d tt (λ y. refl) h in
       let there : shape_in r.name.at t.shapes ≡ Some d = with_there hs.shapes r.name.at d h.free.0 in
       let further : More s.shapes a.shapes = more_trans s.shapes hs.shapes a.shapes more (with_more hs.shapes r.name.at d h.free.0) in

@@ -1,6 +1,6 @@
 -- System types that break no rule: where their statements stand the scopes agree, and they stand for components whose routines are those of their scope.
 use Rattle.std.proofs.Common.{◌≡◌, ℕ, Bool, true, false, if◌then◌else◌, List, [], ◌∷◌, ◌++◌, Option, Some, None, Ok, refl, sym, ap, subst, ◌∙◌}
-use Rattle.cp_resolved.proofs.Words.{nat_eq, Decides-eqb, SystemKind, ValueType, Census, Use, no_use, Judged, ◌>>=◌, faults, Holding, Step, Typed, as_declared}
+use Rattle.cp_resolved.proofs.Words.{nat_eq, Decides-eqb, SystemKind, ValueType, Census, Use, no_use, Judged, ◌>>=◌, faults, Holding, Step, Typed, meaning_or_none}
 use Rattle.cp_resolved.proofs.Words.{reserve_names, add_names, add_all, part_steps, after_faults, last_is, statements_loud, Name, Ty, find, seen_inside, Block}
 use Rattle.cp_resolved.proofs.Words.{SystemMeaning, with_routines, system_in, system_of, routine_of_system, routine_of_type, each_in, in_part, in_routine, in_system}
 use Rattle.cp_resolved.proofs.Words.{AreLimited, Each, IsSmallSystem, is_element, is_standing, IsStandingVariable, IsStandingParameter, none_first, none_before, Opening}
@@ -57,7 +57,7 @@ seen_limited (d ∷ ds) h = go (scopes.is_seen d.1) (seen_limited ds h.1)
 module _ (tokens : Tokens) (p : Program) where
   -- ---- parameters
 
-  component_good : (at : ℕ) (o k : SystemKind) (P : ValueType → Type 0) (v : ValueType) → P v → Good P (systems_of.component_admitted at o k v)
+  component_good : (at : ℕ) (o k : SystemKind) (P : ValueType → Type 0) (v : ValueType) → P v → Good P (systems_of.check_component_parameter at o k v)
   component_good at system_kind.Class system_kind.Class P v h = h
   component_good at system_kind.Class system_kind.Monitor P v h = h
   component_good at system_kind.Monitor system_kind.Monitor P v h = h
@@ -79,7 +79,7 @@ module _ (tokens : Tokens) (p : Program) where
       let queue : v ≡ types.Queue = subst (λ (u : Ty). TypeIs (W tokens s.shapes) u v) q i in
       (let bad : holds.Queue ≡ holds.Component j = sym (ap (typing.holding s) queue) ∙ e in cc)
 
-  admitted_handed : (at : ℕ) (o : SystemKind) (s : Scopes) (t : Ty) (v : ValueType) (h : Holding) → typing.holding s v ≡ h → KindOf tokens s.shapes t v → Held h t → Good (HandedType s.shapes t) (systems_of.admitted at o h v)
+  admitted_handed : (at : ℕ) (o : SystemKind) (s : Scopes) (t : Ty) (v : ValueType) (h : Holding) → typing.holding s v ≡ h → KindOf tokens s.shapes t v → Held h t → Good (HandedType s.shapes t) (systems_of.check_parameter_type at o h v)
   admitted_handed at o s t v holds.Plain e i k = record { kind = i; handed = free_handed false t (k.free refl) }
   admitted_handed at o s t v (holds.Component j) e i k = component_good at o j (HandedType s.shapes t) v (record { kind = i; handed = element_handed t (k.element tt) (no_queue s t v j i.belongs e) })
   admitted_handed at o s t v _ e i k = tt
@@ -88,7 +88,7 @@ module _ (tokens : Tokens) (p : Program) where
   unfolding systems_of.parameter_type
   parameter_handed o s m g h =
       let t : Ty = meant.type_named m g.type_name.name in
-      good_then (KindOf tokens s.shapes t) (HandedType s.shapes t) (typing.type_named s g.type_name.at g.type_name.name) (systems_of.admitted_in s g.type_name.at o) (type_named tokens s m g.type_name.at g.type_name.name h)
+      good_then (KindOf tokens s.shapes t) (HandedType s.shapes t) (typing.type_named s g.type_name.at g.type_name.name) (systems_of.check_parameter_type_in s g.type_name.at o) (type_named tokens s m g.type_name.at g.type_name.name h)
       (λ v k. admitted_handed g.type_name.at o s t v (typing.holding s v) refl k (held_named (W tokens s.shapes) s t v refl k.belongs k.standing))
 
   -- a group of parameters, after its names are reserved
@@ -119,7 +119,7 @@ module _ (tokens : Tokens) (p : Program) where
       let x : GroupTyped o s m below ks g = group_typed o s m below ks g e empty h in
       let r = x.reserved in
       let v = x.type in
-      subst (λ (i : Judged ValueType). StepResult tokens p false None s (add_all a g.names (as_declared (i >>= systems_of.to_parameter))) (meant.with_names (meant.names_of g.names) (scopes.permanent_variable t) m) below ks) (sym v.is)
+      subst (λ (i : Judged ValueType). StepResult tokens p false None s (add_all a g.names (meaning_or_none (i >>= systems_of.to_parameter))) (meant.with_names (meant.names_of g.names) (scopes.permanent_variable t) m) below ks) (sym v.is)
       (all_declared tokens p false None s a g.names m below ks (meaning.Parameter v.value) (scopes.permanent_variable t) (pending_fresh a.inner g.names a.inner.pending r.reserved.pends r.reserved.all) r.reserved.others (λ i. absurd (cc))
       (λ u i n. parameter_new a.shapes u n t v.value i v.holds.kind) r.outer (λ k d i. ap (shape_in k) r.shapes ∙ i) (appends_none s.inner.names a.inner.names r.reserved.names) r.agree)
 
@@ -164,7 +164,7 @@ module _ (tokens : Tokens) (p : Program) where
       let all : AreParameters (W tokens a.shapes) (parameters_in (add_names a g.names (Some (meaning.Parameter v.value))).inner.names) (qs ++ meant.parameters_named (meant.names_of g.names) t false) =
       subst (λ (as' : List check_parameter.Parameter). AreParameters (W tokens a.shapes) as' (qs ++ meant.parameters_named (meant.names_of g.names) t false)) (sym (names_read a g.names (meaning.Parameter v.value) b refl fresh r.reserved.others))
       (parameters_both (W tokens a.shapes) (parameters_in a.inner.names) (copies b g.names) qs (meant.parameters_named (meant.names_of g.names) t false) before (copies_are (W tokens a.shapes) b t false g.names refl v.holds.kind.belongs v.holds.handed)) in
-      subst (λ (i : Judged ValueType). AreRead tokens p (add_all a g.names (as_declared (i >>= systems_of.to_parameter))) (qs ++ meant.parameters_named (meant.names_of g.names) t false)) (sym v.is)
+      subst (λ (i : Judged ValueType). AreRead tokens p (add_all a g.names (meaning_or_none (i >>= systems_of.to_parameter))) (qs ++ meant.parameters_named (meant.names_of g.names) t false)) (sym v.is)
       (subst (λ (ss : Shapes). AreParameters (W tokens ss) (parameters_in (add_names a g.names (Some (meaning.Parameter v.value))).inner.names) (qs ++ meant.parameters_named (meant.names_of g.names) t false)) (sym (shapes_added a g.names (Some (meaning.Parameter v.value)))) all)
 
   groups_read : (o : SystemKind) (s : Scopes) (h : meant.Heading) (below : scopes.Scope) (ks : List ℕ) (gs : List Group) → (systems_of.group_steps o s gs).faults ≡ [] → s.inner.pending ≡ [] → Agree tokens p false None s h.scope below ks → AreRead tokens p s h.parameters →
@@ -225,14 +225,14 @@ module _ (tokens : Tokens) (p : Program) where
     pub fit : HaveFit (record { parameters = []; scope = m }) y.parameters
     pub read : AreRead tokens p (inside s y).scopes (system_in m y).parameters
     pub declares : Declares tokens (spot.Permanent (Some y.kind)) (inside s y).scopes.shapes (system_in m y).variables (inside s y).scopes.inner.names
-    pub uses : Uses (systems_of.opened s y).uses
+    pub uses : Uses (systems_of.enter_system s y).uses
     -- where its routines begin
     pub begins : Agree tokens p false None (parts_scopes s y) (parts_scope m y) m (all_tokens routine_tokens y.routines (y.at ∷ ks))
     pub settled : (parts_scopes s y).inner.pending ≡ []
     pub none : (routine_steps (Some y.kind) (parts_scopes s y) y.routines).faults ≡ []
 
-  pub inside_agrees : (s : Scopes) (m : scopes.Scope) (ks : List ℕ) (n : ℕ) (y : System) → faults (systems_of.opened s y).uses ≡ [] → IsSmallSystem y → Each (IsFew tokens) (in_system y) → s.inner.pending ≡ [] → Agree tokens p false None s m m (system_tokens y ks) → AreRead tokens p s [] → InsideResult s m ks n y
-  unfolding systems_of.opened inside
+  pub inside_agrees : (s : Scopes) (m : scopes.Scope) (ks : List ℕ) (n : ℕ) (y : System) → faults (systems_of.enter_system s y).uses ≡ [] → IsSmallSystem y → Each (IsFew tokens) (in_system y) → s.inner.pending ≡ [] → Agree tokens p false None s m m (system_tokens y ks) → AreRead tokens p s [] → InsideResult s m ks n y
+  unfolding systems_of.enter_system inside
   inside_agrees s m ks n y e small few empty h first_read =
       let d : Step = inside s y in
       let j : Judged Use = statements d.scopes (initial_context y.kind) (Ok no_use) y.body.statements in
@@ -351,11 +351,11 @@ module _ (tokens : Tokens) (p : Program) where
     pub there : SystemThere y.at t.shapes
 
   closed_agrees : (s u : Scopes) (m below : scopes.Scope) (js ks : List ℕ) (c : ℕ) (y : System) (w : Use) → IsNumbered c (seen_inside m) y → Agree tokens p true None s m below js → Agree tokens p false None u (system_in (seen_inside m) y).scope (seen_inside m) (y.at ∷ ks) → u.outer ≡ (enter true s).outer → More s.shapes u.shapes → AreRead tokens p u (system_in (seen_inside m) y).parameters →
-      ClosedResult s (systems_of.closed u y.at w) m below ks y
-  unfolding systems_of.closed keep leave enter
+      ClosedResult s (systems_of.close_system u y.at w) m below ks y
+  unfolding systems_of.close_system keep leave enter
   closed_agrees s u m below js ks c y w i before h outer more read =
       let d : Shape = system_shape u.inner (system_heading u) (census u.inner.names u.shapes) (need_of w) in
-      let t : Scopes = systems_of.closed u y.at w in
+      let t : Scopes = systems_of.close_system u y.at w in
       let last : last_of u.outer ≡ (let b : Around = record { outer = s.outer; inner = sealed true s.inner } in b) = ap last_of outer ∙ last_is s.outer (sealed true s.inner) in
       let all : More s.shapes t.shapes = more_trans s.shapes u.shapes t.shapes more (with_more u.shapes y.at d h.free.0) in
       record {
@@ -386,12 +386,12 @@ module _ (tokens : Tokens) (p : Program) where
     pub is : t.type ≡ Ok (types.Component y.kind y.at)
     pub closed : ClosedResult s t.scopes m below ks y
 
-  pub system_agrees : (s : Scopes) (m below : scopes.Scope) (ks : List ℕ) (n : ℕ) (y : System) → IsNumbered n (seen_inside m) y → faults (systems_of.system_typed s y).type ≡ [] → IsSmallSystem y → Each (IsFew tokens) (in_system y) → Agree tokens p true None s m below (system_tokens y ks) →
-      SystemResult s m below ks n y (systems_of.system_typed s y)
-  unfolding systems_of.system_typed systems_of.opened enter parameters_in
+  pub system_agrees : (s : Scopes) (m below : scopes.Scope) (ks : List ℕ) (n : ℕ) (y : System) → IsNumbered n (seen_inside m) y → faults (systems_of.system_type s y).type ≡ [] → IsSmallSystem y → Each (IsFew tokens) (in_system y) → Agree tokens p true None s m below (system_tokens y ks) →
+      SystemResult s m below ks n y (systems_of.system_type s y)
+  unfolding systems_of.system_type systems_of.enter_system enter parameters_in
   system_agrees s m below ks n y i e small few h =
       let a : Scopes = enter true s in
-      let o : Opened = systems_of.opened a y in
+      let o : Opened = systems_of.enter_system a y in
       let r : InsideResult a (seen_inside m) ks n y = inside_agrees a (seen_inside m) ks n y (none_first o.uses (systems_of.to_component y.kind y.at) e) small few refl (entered_agrees s m below (system_tokens y ks) h) tt in
       let handed : Each IsSystemParameter (system_in (seen_inside m) y).parameters = system_handed (W tokens (inside a y).scopes.shapes) (parameters_in (inside a y).scopes.inner.names) (system_in (seen_inside m) y).parameters r.read (groups_values (record { parameters = []; scope = seen_inside m }) y.parameters tt) in
       record {

@@ -82,7 +82,7 @@ MayHold p (holds.Component k) = MayOwn p k
 MayHold p (holds.Components k) = MayOwn p k
 MayHold p h = Unit {0}
 
-pub spotted_stands : (at : ℕ) (p : Spot) (h : Holding) (v : ValueType) (t : Ty) → Held h t → Good (λ u. (u ≡ v) × StandsAt p t × MayHold p h) (typing.spotted at p h v)
+pub spotted_stands : (at : ℕ) (p : Spot) (h : Holding) (v : ValueType) (t : Ty) → Held h t → Good (λ u. (u ≡ v) × StandsAt p t × MayHold p h) (typing.check_spot at p h v)
 spotted_stands at spot.Base holds.Plain v t k = (refl, k.standing, tt)
 spotted_stands at spot.Other holds.Plain v t k = (refl, k.free refl, tt)
 spotted_stands at spot.Other holds.Queue v t k = tt
@@ -189,7 +189,7 @@ module _ (tokens : Tokens) where
   kind_meant ss v x m (Some (scopes.type_meaning t)) e h f = subst (λ (q : Ty). KindOf ss q v) (sym (latest_is x m t e)) (record { belongs = h; standing = f })
   kind_meant ss v x m _ e h f = absurd h
 
-  found_kind : (at : ℕ) (s : Scopes) (m : scopes.Scope) (x : Name) (o : Option (Option Meaning)) → IsKnown tokens s m x o → Good (KindOf s.shapes (meant.type_named m x)) (names.found at o >>= typing.to_type at)
+  found_kind : (at : ℕ) (s : Scopes) (m : scopes.Scope) (x : Name) (o : Option (Option Meaning)) → IsKnown tokens s m x o → Good (KindOf s.shapes (meant.type_named m x)) (names.check_visible at o >>= typing.to_type at)
   found_kind at s m x (Some None) h = absurd h
   found_kind at s m x (Some (Some (meaning.Kind v))) h = kind_meant s.shapes v x m (find x m) refl h.means h.fit
   found_kind at s m x _ h = tt
@@ -198,12 +198,12 @@ module _ (tokens : Tokens) where
   unfolding typing.type_named names.visible
   type_named s m at x h = found_kind at s m x (look x s) h
 
-  outer_kind : (at : ℕ) (s : Scopes) (m below : scopes.Scope) (x : Name) (o : Option (Option Meaning)) → meant.type_named below x ≡ meant.type_named m x → IsTypeKnown tokens s below x o → Good (KindOf s.shapes (meant.type_named m x)) (names.found at o >>= typing.to_type at)
+  outer_kind : (at : ℕ) (s : Scopes) (m below : scopes.Scope) (x : Name) (o : Option (Option Meaning)) → meant.type_named below x ≡ meant.type_named m x → IsTypeKnown tokens s below x o → Good (KindOf s.shapes (meant.type_named m x)) (names.check_visible at o >>= typing.to_type at)
   outer_kind at s m below x (Some None) e h = absurd h
   outer_kind at s m below x (Some (Some (meaning.Kind v))) e h = subst (λ (t : Ty). KindOf s.shapes t v) e (record { belongs = h.0; standing = h.1 })
   outer_kind at s m below x _ e h = tt
 
-  stacked_kind : (at : ℕ) (s : Scopes) (m below : scopes.Scope) (x : Name) (o q : Option (Option Meaning)) → IsStacked tokens s m below x o → IsTypeKnown tokens s below x q → Good (KindOf s.shapes (meant.type_named m x)) (names.found at (or_else o q) >>= typing.to_type at)
+  stacked_kind : (at : ℕ) (s : Scopes) (m below : scopes.Scope) (x : Name) (o q : Option (Option Meaning)) → IsStacked tokens s m below x o → IsTypeKnown tokens s below x q → Good (KindOf s.shapes (meant.type_named m x)) (names.check_visible at (or_else o q) >>= typing.to_type at)
   stacked_kind at s m below x None q h g = outer_kind at s m below x q h.latest g
   stacked_kind at s m below x (Some None) q h g = absurd h
   stacked_kind at s m below x (Some (Some c)) q h g = found_kind at s m x (Some (Some c)) h
@@ -214,10 +214,10 @@ module _ (tokens : Tokens) where
   type_seen p b None s m below ks at x h = found_kind at s m x (look x s) (sees tokens p b None s m below ks h x tt)
   type_seen p b (Some n) s m below ks at x h = go (bytes_eq x n) refl
     where
-      go : (c : Bool) → bytes_eq x n ≡ c → Good (KindOf s.shapes (meant.type_named m x)) (names.found at (look x s) >>= typing.to_type at)
+      go : (c : Bool) → bytes_eq x n ≡ c → Good (KindOf s.shapes (meant.type_named m x)) (names.check_visible at (look x s) >>= typing.to_type at)
       go false e = found_kind at s m x (look x s) (sees tokens p b (Some n) s m below ks h x e)
       go true e =
-          subst (λ o. Good (KindOf s.shapes (meant.type_named m x)) (names.found at o >>= typing.to_type at)) (sym (look_is x s h.unsealed))
+          subst (λ o. Good (KindOf s.shapes (meant.type_named m x)) (names.check_visible at o >>= typing.to_type at)) (sym (look_is x s h.unsealed))
           (stacked_kind at s m below x (inner_look false s x) (look_outer x s.outer) (h.names x) (subst (λ (y : Name). IsTypeKnown tokens s below y (look_outer y s.outer)) (sym (is_itself x n e)) h.own))
 
   -- what a name stands for that is visible outside
@@ -258,8 +258,8 @@ module _ (tokens : Tokens) where
       good_of (Err []) g = absurd g
       good_of (Err (f ∷ fs)) g = tt
 
-  pub type_spotted : (s : Scopes) (m : scopes.Scope) (p : Spot) (at : ℕ) (x : Name) → IsKnown tokens s m x (look x s) → Good (TypedAs s.shapes p (meant.type_named m x)) (typing.type_spotted s p at x)
-  unfolding typing.type_spotted
+  pub type_spotted : (s : Scopes) (m : scopes.Scope) (p : Spot) (at : ℕ) (x : Name) → IsKnown tokens s m x (look x s) → Good (TypedAs s.shapes p (meant.type_named m x)) (typing.type_at_spot s p at x)
+  unfolding typing.type_at_spot
   type_spotted s m p at x h = good_then (KindOf s.shapes (meant.type_named m x)) (TypedAs s.shapes p (meant.type_named m x)) (typing.type_named s at x) (typing.at_spot s p at) (type_named s m at x h) (λ v k. spotted_kind s p at (meant.type_named m x) v k)
 
   -- ---- subranges
@@ -267,7 +267,7 @@ module _ (tokens : Tokens) where
   in_order : (a c : ℤ) → int_lt c a ≡ false → int_le a c ≡ true
   in_order a c h = search (arith, h)
 
-  ranged_typed : (ss : Shapes) (at : ℕ) (p : Spot) (q r : named.Base × ℤ) (n k : ConstantNumber) → NumberIs tokens q n → NumberIs tokens r k → Good (TypedAs ss p (named.ordinal (record { base = q.0; low = q.1; high = r.1 }))) (typing.ranged at (n, k))
+  ranged_typed : (ss : Shapes) (at : ℕ) (p : Spot) (q r : named.Base × ℤ) (n k : ConstantNumber) → NumberIs tokens q n → NumberIs tokens r k → Good (TypedAs ss p (named.ordinal (record { base = q.0; low = q.1; high = r.1 }))) (typing.subrange_type at (n, k))
   ranged_typed ss at p q r n k h g = go (same_base n.base k.base) refl
     where
       R : named.Range
@@ -294,8 +294,8 @@ module _ (tokens : Tokens) where
       go false e = tt
 
   pub subrange_typed : (s : Scopes) (m : scopes.Scope) (p : Spot) (at : ℕ) (c d : Constant) → IsSmallSimple (syntax.subrange at c d) → ((x : Name) → IsKnown tokens s m x (look x s)) →
-      Good (TypedAs s.shapes p (meant.simple_in m (syntax.subrange at c d)).0) (both (constant s c) (constant s d) >>= typing.ranged at)
+      Good (TypedAs s.shapes p (meant.simple_in m (syntax.subrange at c d)).0) (both (constant s c) (constant s d) >>= typing.subrange_type at)
   subrange_typed s m p at c d h k =
-      good_then (λ (q : ConstantNumber × ConstantNumber). NumberIs tokens (meant.constant_of m c) q.0 × NumberIs tokens (meant.constant_of m d) q.1) (TypedAs s.shapes p (meant.simple_in m (syntax.subrange at c d)).0) (both (constant s c) (constant s d)) (typing.ranged at)
+      good_then (λ (q : ConstantNumber × ConstantNumber). NumberIs tokens (meant.constant_of m c) q.0 × NumberIs tokens (meant.constant_of m d) q.1) (TypedAs s.shapes p (meant.simple_in m (syntax.subrange at c d)).0) (both (constant s c) (constant s d)) (typing.subrange_type at)
       (good_both (NumberIs tokens (meant.constant_of m c)) (NumberIs tokens (meant.constant_of m d)) (constant s c) (constant s d) (constant_number_of tokens s m c h.0 k) (constant_number_of tokens s m d h.1 k))
       (λ q g. ranged_typed s.shapes at p (meant.constant_of m c) (meant.constant_of m d) q.0 q.1 g.0 g.1)

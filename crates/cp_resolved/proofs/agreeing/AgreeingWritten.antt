@@ -16,7 +16,7 @@ use Rattle.cp_scope.specs.Scopes.{Names, Scope, new_scope, Scopes, Shape, array_
 use Rattle.cp_scope.specs.Scopes as checker
 use Rattle.cp_check.specs.declared.types.Spot.TheVariants as spot
 use Rattle.cp_check.specs.Constants.{constant}
-use Rattle.cp_check.specs.Records.{Fields, reserve_fields, with_fields, add_fields, sound_of}
+use Rattle.cp_check.specs.Records.{Fields, reserve_fields, with_fields, add_fields, check_fields_of}
 use Rattle.cp_check.specs.Types as typing
 use Rattle.cp_meaning.specs.Types as named
 use Rattle.cp_meaning.specs.Scopes as scopes
@@ -72,7 +72,7 @@ from_zero n = search arith
 last_is : (n : ℕ) → 1 ≤ n → (pos n -ℤ pos 1) ≡ pos (n - 1)
 last_is n h = search (arith, h)
 
-limited_good : (at n : ℕ) → Good (λ (u : Unit {0}). nat_lt 8192 n ≡ false) (typing.limited at n)
+limited_good : (at n : ℕ) → Good (λ (u : Unit {0}). nat_lt 8192 n ≡ false) (typing.check_cells at n)
 limited_good at n = go (nat_lt 8192 n)
   where
     go : (b : Bool) → Good (λ (u : Unit {0}). b ≡ false) (if b then Err (check_fault.Rule at C20 ∷ []) else Ok tt)
@@ -187,15 +187,15 @@ module _ (tokens : Tokens) (p : Program) where
         owned = tt;
       }
 
-  pub simple_agrees : (b : Bool) (s : Scopes) (m below : scopes.Scope) (ks : List ℕ) (q : Spot) (t : syntax.Simple) → faults (typing.simple_typed s q t).type ≡ [] → IsSmallSimple t → Each (IsFew tokens) (in_simple t) → Pends s.inner → Agree tokens p b None s m below ks →
-      TypeResult b s below ks q (typing.simple_typed s q t) (meant.simple_in m t)
-  unfolding typing.simple_typed
+  pub simple_agrees : (b : Bool) (s : Scopes) (m below : scopes.Scope) (ks : List ℕ) (q : Spot) (t : syntax.Simple) → faults (typing.simple_type s q t).type ≡ [] → IsSmallSimple t → Each (IsFew tokens) (in_simple t) → Pends s.inner → Agree tokens p b None s m below ks →
+      TypeResult b s below ks q (typing.simple_type s q t) (meant.simple_in m t)
+  unfolding typing.simple_type
   simple_agrees b s m below ks q (syntax.type_name at x) e small few pends agree =
-      let v : Sound (TypedAs tokens s.shapes q (meant.type_named m x)) (typing.type_spotted s q at x) =
-      good_sound (TypedAs tokens s.shapes q (meant.type_named m x)) (typing.type_spotted s q at x) (type_spotted tokens s m q at x (sees tokens p b None s m below ks agree x tt)) e in
+      let v : Sound (TypedAs tokens s.shapes q (meant.type_named m x)) (typing.type_at_spot s q at x) =
+      good_sound (TypedAs tokens s.shapes q (meant.type_named m x)) (typing.type_at_spot s q at x) (type_spotted tokens s m q at x (sees tokens p b None s m below ks agree x tt)) e in
       record { value = v.value; is = v.is; typed = v.holds; agree = agree; outer = refl; pending = refl; pends = pends; more = more_same s.shapes; appends = appends_same s.inner.names }
   simple_agrees b s m below ks q (syntax.subrange at c d) e small few pends agree =
-      let v = good_sound (TypedAs tokens s.shapes q (meant.simple_in m (syntax.subrange at c d)).0) (both (constant s c) (constant s d) >>= typing.ranged at)
+      let v = good_sound (TypedAs tokens s.shapes q (meant.simple_in m (syntax.subrange at c d)).0) (both (constant s c) (constant s d) >>= typing.subrange_type at)
       (subrange_typed tokens s m q at c d small (λ x. sees tokens p b None s m below ks agree x tt)) e in
       record { value = v.value; is = v.is; typed = v.holds; agree = agree; outer = refl; pending = refl; pends = pends; more = more_same s.shapes; appends = appends_same s.inner.names }
   simple_agrees b s m below ks q (syntax.enumeration at is) e small few pends agree =
@@ -248,21 +248,21 @@ module _ (tokens : Tokens) (p : Program) where
       bounded = index_bounded s.shapes i r o h.stands
 
       shaped : Judged (Unit {0}) → Judged ArrayShape
-      shaped j = typing.spotted at q (typing.holding_array ev) (types.Array at) >>= (λ u. j >>= (λ v. Ok (record { index = r; element = ev; cells = n })))
+      shaped j = typing.check_spot at q (typing.holding_array ev) (types.Array at) >>= (λ u. j >>= (λ v. Ok (record { index = r; element = ev; cells = n })))
 
       -- where it stands, whatever its length
-      spotted : (k : named.Range) → (is_indexed k e && is_element e) ≡ true → Good (λ u. (u ≡ types.Array at) × StandsAt q (named.array_over k e) × MayHold q (typing.holding_array ev)) (typing.spotted at q (typing.holding_array ev) (types.Array at))
+      spotted : (k : named.Range) → (is_indexed k e && is_element e) ≡ true → Good (λ u. (u ≡ types.Array at) × StandsAt q (named.array_over k e) × MayHold q (typing.holding_array ev)) (typing.check_spot at q (typing.holding_array ev) (types.Array at))
       spotted k f = spotted_stands at q (typing.holding_array ev) (types.Array at) (named.array_over k e) (held_array (W tokens s.shapes) k e ev g.belongs f)
 
       go : (b : Bool) → nat_lt 8192 n ≡ b → Good (ArrayAs s.shapes q i e) (shaped (if b then Err (check_fault.Rule at C20 ∷ []) else Ok tt))
       go true f =
           let few : cells_of e ≤ 8192 = few_element e g.stands in
           let one : length_of_range one_place * cells_of e ≤ 8192 = omega (arith, few) in
-          good_then (λ u. (u ≡ types.Array at) × StandsAt q (named.array_over one_place e) × MayHold q (typing.holding_array ev)) (ArrayAs s.shapes q i e) (typing.spotted at q (typing.holding_array ev) (types.Array at)) (λ u. Err (check_fault.Rule at C20 ∷ []) >>= (λ (v : Unit {0}). Ok (record { index = r; element = ev; cells = n })))
+          good_then (λ u. (u ≡ types.Array at) × StandsAt q (named.array_over one_place e) × MayHold q (typing.holding_array ev)) (ArrayAs s.shapes q i e) (typing.check_spot at q (typing.holding_array ev) (types.Array at)) (λ u. Err (check_fault.Rule at C20 ∷ []) >>= (λ (v : Unit {0}). Ok (record { index = r; element = ev; cells = n })))
           (spotted one_place (indexed one_place e refl one g.stands)) (λ u k. tt)
       go false f =
           let takes : n ≡ length_of_range (range_of i) * cells_of e = array_takes (W tokens s.shapes) (range_of i) r e ev o.range (in_order (range_of i) bounded) g.belongs f in
-          good_then (λ u. (u ≡ types.Array at) × StandsAt q (named.array_over (range_of i) e) × MayHold q (typing.holding_array ev)) (ArrayAs s.shapes q i e) (typing.spotted at q (typing.holding_array ev) (types.Array at)) (λ u. Ok (record { index = r; element = ev; cells = n }))
+          good_then (λ u. (u ≡ types.Array at) × StandsAt q (named.array_over (range_of i) e) × MayHold q (typing.holding_array ev)) (ArrayAs s.shapes q i e) (typing.check_spot at q (typing.holding_array ev) (types.Array at)) (λ u. Ok (record { index = r; element = ev; cells = n }))
           (spotted (range_of i) (indexed (range_of i) e bounded (subst (λ m. m ≤ 8192) takes (ltb-false 8192 n f)) g.stands)) (λ u k. record { range = o.range; element = g.belongs; takes = takes; few = subst (λ m. m ≤ 8192) takes (ltb-false 8192 n f); stands = k.1; owned = array_owned tokens s.shapes q (range_of i) e ev g.belongs k.2 })
   array_good s q at i e types.Queue ev h g = tt
   array_good s q at i e _ ev h g = tt
@@ -290,15 +290,15 @@ module _ (tokens : Tokens) (p : Program) where
       })
 
   array_typed : (b : Bool) (s u : Scopes) (below : scopes.Scope) (ks : List ℕ) (q : Spot) (at : ℕ) (i : Ty) (ij : Judged ValueType) (iv : ValueType) (t : Typed) (e : Ty × scopes.Scope) → ij ≡ Ok iv → TypedAs tokens u.shapes spot.Other i iv → More u.shapes t.scopes.shapes → u.outer ≡ s.outer → u.inner.pending ≡ s.inner.pending → More s.shapes u.shapes → Appends s.inner.names u.inner.names →
-      TypeResult b u below (at ∷ ks) spot.Element t e → faults (typing.array_typed q at ij t).type ≡ [] → TypeResult b s below ks q (typing.array_typed q at ij t) (named.array_over (range_of i) e.0, e.1)
-  unfolding typing.arrayed
+      TypeResult b u below (at ∷ ks) spot.Element t e → faults (typing.array_type q at ij t).type ≡ [] → TypeResult b s below ks q (typing.array_type q at ij t) (named.array_over (range_of i) e.0, e.1)
+  unfolding typing.shape_of_array
   array_typed b s u below ks q at i ij iv t e is h more outer pending before longer r none =
       let index : TypedAs tokens t.scopes.shapes spot.Other i iv = record { belongs = type_more tokens u.shapes t.scopes.shapes more i iv h.belongs; stands = h.stands; owned = h.owned } in
-      let good : Good (ArrayAs t.scopes.shapes q i e.0) (both ij t.type >>= typing.arrayed t.scopes q at) =
-      subst (λ (j : Judged ValueType). Good (ArrayAs t.scopes.shapes q i e.0) (both j t.type >>= typing.arrayed t.scopes q at)) (sym is)
-      (subst (λ (j : Judged ValueType). Good (ArrayAs t.scopes.shapes q i e.0) (both (Ok iv) j >>= typing.arrayed t.scopes q at)) (sym r.is) (array_good t.scopes q at i e.0 iv r.value index r.typed)) in
-      array_kept b s t.scopes e.1 below ks q at i e.0 (both ij t.type >>= typing.arrayed t.scopes q at)
-      (good_sound (ArrayAs t.scopes.shapes q i e.0) (both ij t.type >>= typing.arrayed t.scopes q at) good (none_first (both ij t.type >>= typing.arrayed t.scopes q at) (typing.to_array at) none))
+      let good : Good (ArrayAs t.scopes.shapes q i e.0) (both ij t.type >>= typing.shape_of_array t.scopes q at) =
+      subst (λ (j : Judged ValueType). Good (ArrayAs t.scopes.shapes q i e.0) (both j t.type >>= typing.shape_of_array t.scopes q at)) (sym is)
+      (subst (λ (j : Judged ValueType). Good (ArrayAs t.scopes.shapes q i e.0) (both (Ok iv) j >>= typing.shape_of_array t.scopes q at)) (sym r.is) (array_good t.scopes q at i e.0 iv r.value index r.typed)) in
+      array_kept b s t.scopes e.1 below ks q at i e.0 (both ij t.type >>= typing.shape_of_array t.scopes q at)
+      (good_sound (ArrayAs t.scopes.shapes q i e.0) (both ij t.type >>= typing.shape_of_array t.scopes q at) good (none_first (both ij t.type >>= typing.shape_of_array t.scopes q at) (typing.to_array at) none))
       r.agree (r.outer ∙ outer) (r.pending ∙ pending) r.pends (more_trans s.shapes u.shapes t.scopes.shapes before r.more) (appends_then s.inner.names u.inner.names t.scopes.inner.names longer r.appends)
 
   -- ---- sets
@@ -324,7 +324,7 @@ module _ (tokens : Tokens) (p : Program) where
   set_good ss q at base_at t types.Queue h = tt
   set_good ss q at base_at t _ h = tt
 
-  set_typed : (b : Bool) (s : Scopes) (below : scopes.Scope) (ks : List ℕ) (q : Spot) (at base_at : ℕ) (t : Typed) (u : Ty × scopes.Scope) → TypeResult b s below ks spot.Base t u → faults (typing.set_typed at base_at t).type ≡ [] → TypeResult b s below ks q (typing.set_typed at base_at t) (named.set_over (range_of u.0), u.1)
+  set_typed : (b : Bool) (s : Scopes) (below : scopes.Scope) (ks : List ℕ) (q : Spot) (at base_at : ℕ) (t : Typed) (u : Ty × scopes.Scope) → TypeResult b s below ks spot.Base t u → faults (typing.set_type_of at base_at t).type ≡ [] → TypeResult b s below ks q (typing.set_type_of at base_at t) (named.set_over (range_of u.0), u.1)
   set_typed b s below ks q at base_at t u r none =
       let v = good_sound (TypedAs tokens t.scopes.shapes q (named.set_over (range_of u.0))) (t.type >>= typing.set_of at base_at)
       (subst (λ (j : Judged ValueType). Good (TypedAs tokens t.scopes.shapes q (named.set_over (range_of u.0))) (j >>= typing.set_of at base_at)) (sym r.is) (set_good t.scopes.shapes q at base_at u.0 r.value r.typed)) none in
@@ -374,7 +374,7 @@ module _ (tokens : Tokens) (p : Program) where
     pub appends : Appends s.inner.names t.scopes.inner.names
 
   group_filled : (b : Bool) (s : Scopes) (below : scopes.Scope) (ks : List ℕ) (f : Scope) (is : List Identifier) (t : Typed) (u : Ty × scopes.Scope) → f.pending ≡ [] → (reserve_fields f is).faults ≡ [] → TypeResult b s below ks spot.Other t u →
-      GroupResult b s below ks f is (typing.fields_declared is (reserve_fields f is) t) u.0 u.1
+      GroupResult b s below ks f is (typing.field_group is (reserve_fields f is) t) u.0 u.1
   unfolding add_fields with_fields
   group_filled b s below ks f is t u empty none r =
       let c : Scope = (reserve_fields f is).fields in
@@ -416,10 +416,10 @@ module _ (tokens : Tokens) (p : Program) where
   abbrev IsRecord : Scopes → Scope → Shape → Type 0
   IsRecord s f d = (d ≡ record_shape f (typing.cells_in f s)) × (nat_lt 8192 (typing.cells_in f s) ≡ false)
 
-  shaped_good : (s : Scopes) (at : ℕ) (f : Scope) → Good (IsRecord s f) (typing.shaped s at f)
-  shaped_good s at f = good_then (λ (u : Unit {0}). nat_lt 8192 (typing.cells_in f s) ≡ false) (IsRecord s f) (typing.limited at (typing.cells_in f s)) (λ u. Ok (record_shape f (typing.cells_in f s))) (limited_good at (typing.cells_in f s)) (λ u h. (refl, h))
+  shaped_good : (s : Scopes) (at : ℕ) (f : Scope) → Good (IsRecord s f) (typing.shape_within_limits s at f)
+  shaped_good s at f = good_then (λ (u : Unit {0}). nat_lt 8192 (typing.cells_in f s) ≡ false) (IsRecord s f) (typing.check_cells at (typing.cells_in f s)) (λ u. Ok (record_shape f (typing.cells_in f s))) (limited_good at (typing.cells_in f s)) (λ u h. (refl, h))
 
-  sound_none : (fs : List CheckFault) (f : Scope) → faults (sound_of fs f) ≡ [] → fs ≡ []
+  sound_none : (fs : List CheckFault) (f : Scope) → faults (check_fields_of fs f) ≡ [] → fs ≡ []
   sound_none [] f h = refl
   sound_none (e ∷ es) f h = h
 
@@ -458,19 +458,19 @@ module _ (tokens : Tokens) (p : Program) where
         appends = r.appends;
       })
 
-  record_typed : (b : Bool) (s : Scopes) (below : scopes.Scope) (ks : List ℕ) (q : Spot) (at : ℕ) (f : Fields) (u : FieldTypes × scopes.Scope) → faults (typing.record_typed at f).type ≡ [] → FieldsResult b s below (at ∷ ks) new_scope f u → TypeResult b s below ks q (typing.record_typed at f) (named.record_with u.0, u.1)
+  record_typed : (b : Bool) (s : Scopes) (below : scopes.Scope) (ks : List ℕ) (q : Spot) (at : ℕ) (f : Fields) (u : FieldTypes × scopes.Scope) → faults (typing.record_type at f).type ≡ [] → FieldsResult b s below (at ∷ ks) new_scope f u → TypeResult b s below ks q (typing.record_type at f) (named.record_with u.0, u.1)
   record_typed b s below ks q at f u none r =
-      let sound : faults (typing.recorded at f) ≡ [] = none_first (typing.recorded at f) (typing.to_record at) none in
-      let well : f.faults ≡ [] = sound_none f.faults f.fields (none_first (sound_of f.faults f.fields) (typing.shaped f.scopes at) sound) in
-      record_kept b s below ks q at f u (typing.recorded at f) r
-      (good_sound (IsRecord f.scopes f.fields) (typing.recorded at f)
-      (subst (λ (fs : List CheckFault). Good (IsRecord f.scopes f.fields) (sound_of fs f.fields >>= typing.shaped f.scopes at)) (sym well) (shaped_good f.scopes at f.fields)) sound)
+      let sound : faults (typing.sound_shape at f) ≡ [] = none_first (typing.sound_shape at f) (typing.to_record at) none in
+      let well : f.faults ≡ [] = sound_none f.faults f.fields (none_first (check_fields_of f.faults f.fields) (typing.shape_within_limits f.scopes at) sound) in
+      record_kept b s below ks q at f u (typing.sound_shape at f) r
+      (good_sound (IsRecord f.scopes f.fields) (typing.sound_shape at f)
+      (subst (λ (fs : List CheckFault). Good (IsRecord f.scopes f.fields) (check_fields_of fs f.fields >>= typing.shape_within_limits f.scopes at)) (sym well) (shaped_good f.scopes at f.fields)) sound)
 
-  record_well : (at : ℕ) (f : Fields) → faults (typing.record_typed at f).type ≡ [] → f.faults ≡ []
-  record_well at f none = sound_none f.faults f.fields (none_first (sound_of f.faults f.fields) (typing.shaped f.scopes at) (none_first (typing.recorded at f) (typing.to_record at) none))
+  record_well : (at : ℕ) (f : Fields) → faults (typing.record_type at f).type ≡ [] → f.faults ≡ []
+  record_well at f none = sound_none f.faults f.fields (none_first (check_fields_of f.faults f.fields) (typing.shape_within_limits f.scopes at) (none_first (typing.sound_shape at f) (typing.to_record at) none))
 
-  index_none : (q : Spot) (at : ℕ) (i : Judged ValueType) (e : Typed) → faults (typing.array_typed q at i e).type ≡ [] → (faults i ≡ []) × (faults e.type ≡ [])
-  index_none q at i e h = none_of_both i e.type (none_first (both i e.type) (typing.arrayed e.scopes q at) (none_first (both i e.type >>= typing.arrayed e.scopes q at) (typing.to_array at) h))
+  index_none : (q : Spot) (at : ℕ) (i : Judged ValueType) (e : Typed) → faults (typing.array_type q at i e).type ≡ [] → (faults i ≡ []) × (faults e.type ≡ [])
+  index_none q at i e h = none_of_both i e.type (none_first (both i e.type) (typing.shape_of_array e.scopes q at) (none_first (both i e.type >>= typing.shape_of_array e.scopes q at) (typing.to_array at) h))
 
   mutual
     unfolding typed
@@ -479,13 +479,13 @@ module _ (tokens : Tokens) (p : Program) where
         TypeResult b s below ks q (typed s q t) (meant.type_in m t)
     type_agrees b s m below ks q (syntax.simple at t) e small few pends agree = simple_agrees b s m below ks q t e small few pends agree
     type_agrees b s m below ks q (syntax.array_of at i t) e small few pends agree =
-        let none = index_none q at (typing.simple_typed s spot.Other i).type (typed (typing.simple_typed s spot.Other i).scopes spot.Element t) e in
+        let none = index_none q at (typing.simple_type s spot.Other i).type (typed (typing.simple_type s spot.Other i).scopes spot.Element t) e in
         let index = simple_agrees b s m below (type_tokens t (at ∷ ks)) spot.Other i none.0 small.0 (each_left (IsFew tokens) (in_simple i) (in_type t) few) pends agree in
-        let u : Scopes = (typing.simple_typed s spot.Other i).scopes in
+        let u : Scopes = (typing.simple_type s spot.Other i).scopes in
         let element = type_agrees b u (meant.simple_in m i).1 below (at ∷ ks) spot.Element t none.1 small.1 (each_right (IsFew tokens) (in_simple i) (in_type t) few) index.pends index.agree in
-        array_typed b s u below ks q at (meant.simple_in m i).0 (typing.simple_typed s spot.Other i).type index.value (typed u spot.Element t) (meant.type_in (meant.simple_in m i).1 t) index.is index.typed element.more index.outer index.pending index.more index.appends element e
+        array_typed b s u below ks q at (meant.simple_in m i).0 (typing.simple_type s spot.Other i).type index.value (typed u spot.Element t) (meant.type_in (meant.simple_in m i).1 t) index.is index.typed element.more index.outer index.pending index.more index.appends element e
     type_agrees b s m below ks q (syntax.set_type at t) e small few pends agree =
-        set_typed b s below ks q at (typing.simple_at t) (typing.simple_typed s spot.Base t) (meant.simple_in m t) (simple_agrees b s m below ks spot.Base t (none_first (typing.simple_typed s spot.Base t).type (typing.set_of at (typing.simple_at t)) e) small few pends agree) e
+        set_typed b s below ks q at (typing.simple_at t) (typing.simple_type s spot.Base t) (meant.simple_in m t) (simple_agrees b s m below ks spot.Base t (none_first (typing.simple_type s spot.Base t).type (typing.set_of at (typing.simple_at t)) e) small few pends agree) e
     type_agrees b s m below ks q (syntax.record_of at gs o) e small few pends agree =
         record_typed b s below ks q at (typing.groups_typed new_scope s gs) (meant.fields_in m gs) e
         (groups_agree b s m below (at ∷ ks) new_scope gs (record_well at (typing.groups_typed new_scope s gs) e) refl small few pends agree)

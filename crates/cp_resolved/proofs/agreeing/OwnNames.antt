@@ -2,7 +2,7 @@
 use Rattle.std.proofs.Common.{◌≡◌, ℕ, ◌+◌, Bool, true, false, if◌then◌else◌, List, [], ◌∷◌, ◌++◌, Option, Some, None, Ok, Err, is_some, pos, refl, sym, subst, ◌∙◌}
 use Rattle.cp_resolved.proofs.Words.{bytes_eq, bytes_eq-Decides, Identifier, SystemKind, C2, ArrayShape, Judged, Spot, Step, nothing, typed, CellBase, CellType}
 use Rattle.cp_resolved.proofs.Words.{Contained, LayoutMeaning, as_integer, ConstantDefinition, TypeDefinition, VariableGroup, Part, Group, ParameterGroup, RoutineKind}
-use Rattle.cp_resolved.proofs.Words.{Fields, no_fields, with_constant, enumerated, simple_type, written_type, field_groups, field_group, named_type}
+use Rattle.cp_resolved.proofs.Words.{Fields, no_fields, with_constant, enumerate, simple_type, written_type, field_groups, field_group, type_of_name}
 use Rattle.cp_tree.specs.Syntax as syntax
 use Rattle.cp_scope.specs.declared.fault.CheckFault.TheVariants as check_fault
 use Rattle.cp_scope.specs.declared.types.Base as checked_base
@@ -84,8 +84,8 @@ module _ (Q : List ℕ → Type 0) (n : ℕ) where
 
   -- ---- types
 
-  enumerated_inside : (l : Layer) (s : Scopes) (b : CellBase) (c : checked_base.Base) (j k : ℕ) (is : List Identifier) → Inside l.names s → Inside (enumerated l b j is).names (typing.members s c k is).scopes
-  unfolding enumerated typing.members typing.member
+  enumerated_inside : (l : Layer) (s : Scopes) (b : CellBase) (c : checked_base.Base) (j k : ℕ) (is : List Identifier) → Inside l.names s → Inside (enumerate l b j is).names (typing.members s c k is).scopes
+  unfolding enumerate typing.members typing.member
   enumerated_inside l s b c j k [] h = h
   enumerated_inside l s b c j k (i ∷ is) h = enumerated_inside (with_constant l i.name (meaning.Constant b (as_integer j))) (typing.member s c k i).scopes b c (j + 1) (k + 1) is (go (is_declared s i.name))
     where
@@ -93,8 +93,8 @@ module _ (Q : List ℕ → Type 0) (n : ℕ) where
       go true = hidden l.names s i.name (meaning.Constant b (as_integer j)) tt h
       go false = declared l.names s i.name (meaning.Constant b (as_integer j)) (Some (checked_meaning.Constant c (pos k))) tt h
 
-  simple_inside : (l : Layer) (s : Scopes) (p : Spot) (t : syntax.Simple) → Inside l.names s → Inside (simple_type l t).1.names (typing.simple_typed s p t).scopes
-  unfolding simple_type typing.simple_typed
+  simple_inside : (l : Layer) (s : Scopes) (p : Spot) (t : syntax.Simple) → Inside l.names s → Inside (simple_type l t).1.names (typing.simple_type s p t).scopes
+  unfolding simple_type typing.simple_type
   simple_inside l s p (syntax.enumeration at is) h = enumerated_inside l s _ _ 0 0 is h
   simple_inside l s p _ h = h
 
@@ -113,7 +113,7 @@ module _ (Q : List ℕ → Type 0) (n : ℕ) where
 
     pub type_inside : (l : Layer) (s : Scopes) (p : Spot) (t : syntax.TypeTerm) → Inside l.names s → Inside (written_type l t).1.names (typed s p t).scopes
     type_inside l s p (syntax.simple at t) h = simple_inside l s p t h
-    type_inside l s p (syntax.array_of at i e) h = array_inside _ _ at _ (type_inside (simple_type l i).1 (typing.simple_typed s spot.Other i).scopes spot.Element e (simple_inside l s spot.Other i h))
+    type_inside l s p (syntax.array_of at i e) h = array_inside _ _ at _ (type_inside (simple_type l i).1 (typing.simple_type s spot.Other i).scopes spot.Element e (simple_inside l s spot.Other i h))
     type_inside l s p (syntax.set_type at t) h = simple_inside l s spot.Base t h
     type_inside l s p (syntax.record_of at gs b) h = record_inside _ _ at _ (groups_inside l s _ no_fields gs h)
 
@@ -226,8 +226,8 @@ module _ (Q : List ℕ → Type 0) (n : ℕ) where
   unfolding constant_groups headings.group_steps headings.group_step
   constant_groups_inside l ps s [] h = h
   constant_groups_inside l ps s (g ∷ gs) h =
-      let x = constant_parameters_of l ps (named_type l g.type_name.name) g.names in
-      constant_groups_inside x.1 x.0 (headings.group_step false s g).scopes gs (settled x.1.names (reserve_names s g.names).scopes g.names _ (constants_of_inside l ps (reserve_names s g.names).scopes (named_type l g.type_name.name) g.names _ (all_reserved l.names s g.names h)))
+      let x = constant_parameters_of l ps (type_of_name l g.type_name.name) g.names in
+      constant_groups_inside x.1 x.0 (headings.group_step false s g).scopes gs (settled x.1.names (reserve_names s g.names).scopes g.names _ (constants_of_inside l ps (reserve_names s g.names).scopes (type_of_name l g.type_name.name) g.names _ (all_reserved l.names s g.names h)))
 
   one_group_inside : (l : Layer) (ps : Parameters) (s : Scopes) (g : ParameterGroup) → Inside l.names s → Inside (parameter_group l ps g).1.names (headings.group_step g.is_var s g.group).scopes
   unfolding headings.group_step
@@ -236,9 +236,9 @@ module _ (Q : List ℕ → Type 0) (n : ℕ) where
       after : Scopes
       after = (reserve_names s g.group.names).scopes
 
-      go : (b : Bool) → Inside (if b then var_parameters_of l ps (named_type l g.group.type_name.name) g.group.names else constant_parameters_of l ps (named_type l g.group.type_name.name) g.group.names).1.names (headings.group_step b s g.group).scopes
-      go true = settled _ after g.group.names _ (vars_of_inside l ps after (named_type l g.group.type_name.name) g.group.names _ (all_reserved l.names s g.group.names h))
-      go false = settled _ after g.group.names _ (constants_of_inside l ps after (named_type l g.group.type_name.name) g.group.names _ (all_reserved l.names s g.group.names h))
+      go : (b : Bool) → Inside (if b then var_parameters_of l ps (type_of_name l g.group.type_name.name) g.group.names else constant_parameters_of l ps (type_of_name l g.group.type_name.name) g.group.names).1.names (headings.group_step b s g.group).scopes
+      go true = settled _ after g.group.names _ (vars_of_inside l ps after (type_of_name l g.group.type_name.name) g.group.names _ (all_reserved l.names s g.group.names h))
+      go false = settled _ after g.group.names _ (constants_of_inside l ps after (type_of_name l g.group.type_name.name) g.group.names _ (all_reserved l.names s g.group.names h))
 
   groups_of_inside : (l : Layer) (ps : Parameters) (s : Scopes) (gs : List ParameterGroup) → Inside l.names s → Inside (parameter_groups l ps gs).1.names (headings.parameter_steps s gs).scopes
   unfolding parameter_groups headings.parameter_steps
@@ -249,8 +249,8 @@ module _ (Q : List ℕ → Type 0) (n : ℕ) where
   unfolding headings.parameter_steps
   nothing_inside l s h = h
 
-  pub heading_inside : (l : Layer) (s : Scopes) (x : List ℕ) (k : RoutineKind) → Inside l.names s → Inside (heading l x k).1.names (headings.written s k).scopes
-  unfolding heading headings.written
+  pub heading_inside : (l : Layer) (s : Scopes) (x : List ℕ) (k : RoutineKind) → Inside l.names s → Inside (heading l x k).1.names (headings.parameters_and_result s k).scopes
+  unfolding heading headings.parameters_and_result
   heading_inside l s x (syntax.procedure gs) h = groups_of_inside l [] s gs h
   heading_inside l s x (syntax.function gs i) h = constant_groups_inside l [] s gs h
   heading_inside l s x syntax.invariants h = nothing_inside l s h
@@ -270,5 +270,5 @@ module _ (Q : List ℕ → Type 0) (n : ℕ) where
   unfolding system_groups systems.group_steps systems.group_step
   system_groups_inside k l ps s [] h = h
   system_groups_inside k l ps s (g ∷ gs) h =
-      let x = system_parameters_of l ps (named_type l g.type_name.name) g.names in
-      system_groups_inside k x.1 x.0 (systems.group_step k s g).scopes gs (settled x.1.names (reserve_names s g.names).scopes g.names _ (system_parameters_inside l ps (reserve_names s g.names).scopes (named_type l g.type_name.name) g.names _ (all_reserved l.names s g.names h)))
+      let x = system_parameters_of l ps (type_of_name l g.type_name.name) g.names in
+      system_groups_inside k x.1 x.0 (systems.group_step k s g).scopes gs (settled x.1.names (reserve_names s g.names).scopes g.names _ (system_parameters_inside l ps (reserve_names s g.names).scopes (type_of_name l g.type_name.name) g.names _ (all_reserved l.names s g.names h)))

@@ -8,9 +8,9 @@ use Rattle.cp_tree.specs.Syntax.{Program, VariableGroup, Part, System}
 use Rattle.cp_scope.specs.declared.types.Meaning.TheVariants as meaning
 use Rattle.cp_scope.specs.Scopes.{Names, Scopes, Shapes, Shape, system_shape, shape_in, with_shape, settle, leave, keep, census}
 use Rattle.cp_check.specs.declared.types.Spot.TheVariants as spot
-use Rattle.cp_check.specs.Declarations.{as_declared, to_variable, reserve_names, add_names, add_all, variable_step, variable_steps, part_step, part_steps}
+use Rattle.cp_check.specs.Declarations.{meaning_or_none, to_variable, reserve_names, add_names, add_all, variable_step, variable_steps, part_step, part_steps}
 use Rattle.cp_check.specs.Routines.{need_of}
-use Rattle.cp_check.specs.Systems.{system_heading, closed}
+use Rattle.cp_check.specs.Systems.{system_heading, close_system}
 use Rattle.cp_meaning.specs.Scopes as scopes
 use Rattle.cp_meaning.specs.Declarations as meant
 use Rattle.cp_resolved.proofs.agreeing.Agreeing.{Appends, none_left, none_right, More, more_trans, with_more, with_there}
@@ -102,7 +102,7 @@ module _ (tokens : Tokens) where
         let names : (add_names t.scopes g.names o).inner.names ≡ t.scopes.inner.names ++ named_all g.names o = all_named tokens p t.scopes g.names o r.fresh r.others in
         let all : Declares q t.scopes.shapes (vs ++ ws) (t.scopes.inner.names ++ named_all g.names o) =
         declares_both q t.scopes.shapes vs ws t.scopes.inner.names (named_all g.names o) (declares_more q s.shapes t.scopes.shapes r.more vs s.inner.names t.scopes.inner.names r.appends before) (declares_named q t.scopes.shapes g.names u.0 r.value r.typed) in
-        subst (λ (j : Judged ValueType). Declares q (add_all t.scopes g.names (as_declared (j >>= to_variable))).shapes (vs ++ ws) (add_all t.scopes g.names (as_declared (j >>= to_variable))).inner.names) (sym r.is)
+        subst (λ (j : Judged ValueType). Declares q (add_all t.scopes g.names (meaning_or_none (j >>= to_variable))).shapes (vs ++ ws) (add_all t.scopes g.names (meaning_or_none (j >>= to_variable))).inner.names) (sym r.is)
         (subst (λ (ss : Shapes). Declares q ss (vs ++ ws) (add_names t.scopes g.names o).inner.names) (sym (shapes_added t.scopes g.names o)) (subst (λ (ns : Names). Declares q t.scopes.shapes (vs ++ ws) ns) (sym names) all))
 
     pub variables_declare : (b : Bool) (q : Spot) (kind : Ty → scopes.Meaning) → Kind tokens p b q kind → (s : Scopes) (o : Block) (below : scopes.Scope) (ks : List ℕ) (gs : List VariableGroup) → (variable_steps q s gs).faults ≡ [] → Each (λ g. IsSmallType g.variable_type) gs → Each (IsFew tokens) (each_in (λ g. in_type g.variable_type) gs) → s.inner.pending ≡ [] → Agree tokens p b None s o.scope below (all_tokens (λ g. type_tokens g.variable_type) gs ks) →
@@ -157,8 +157,8 @@ module _ (tokens : Tokens) where
       pub is : there.census ≡ census there.names.names within
       pub declares : Declares (spot.Permanent (Some (system_of p k).kind)) within (system_of p k).variables there.names.names
 
-    pub closed_counted : (c : ℕ) (around : scopes.Scope) (y : System) (u : Scopes) (w : Use) → tokens.systems c ≡ y.at → system_of p c ≡ system_in around y → shape_in y.at u.shapes ≡ None → Declares (spot.Permanent (Some y.kind)) u.shapes (system_in around y).variables u.inner.names → Counted c (closed u y.at w).shapes
-    unfolding closed keep leave
+    pub closed_counted : (c : ℕ) (around : scopes.Scope) (y : System) (u : Scopes) (w : Use) → tokens.systems c ≡ y.at → system_of p c ≡ system_in around y → shape_in y.at u.shapes ≡ None → Declares (spot.Permanent (Some y.kind)) u.shapes (system_in around y).variables u.inner.names → Counted c (close_system u y.at w).shapes
+    unfolding close_system keep leave
     closed_counted c around y u w token means free h =
         let d : Shape = system_shape u.inner (system_heading u) (census u.inner.names u.shapes) (need_of w) in
         record {

@@ -1,7 +1,7 @@
 -- The law of components: those of the tables of a tree stand for those of the program, and its processes for its processes.
 use Rattle.std.proofs.Common.{◌≡◌, ◌≤◌, ◌<◌, ◌+◌, ℕ, ℤ, Bool, true, false, ◌||◌, if◌then◌else◌, List, [], ◌∷◌, ◌++◌, length, Option, Some, None, slice_get, refl, sym, ap, subst, ◌∙◌, ◌⊎◌, inl, inr, append_assoc, arith, length-append}
 use Rattle.cp_resolved.proofs.Words.{◌-◌, length-map, none-some, bytes_eq-Decides, Program, Tree, LayoutMeaning, Component, Process, Compounds, most, plain, laid}
-use Rattle.cp_resolved.proofs.Words.{PlainTables, Listing, nothing_listed, contents_least, System, Name, same_name, Ty, array_over, component_of, has_components, find}
+use Rattle.cp_resolved.proofs.Words.{PlainTables, Listing, empty_listing, contents_least, System, Name, same_name, Ty, array_over, component_of, has_components, find}
 use Rattle.cp_resolved.proofs.Words.{permanent_variable, Parameter, SystemMeaning, program_system, system_of, component_with, parameter_variables, first_component}
 use Rattle.cp_resolved.proofs.Words.{first_components, encode, CellsAre, PartsAre, BoundIs, look, is_parameter, Each, Ground, numbering_of, IsVisible, AreFew, StandsAt}
 use Rattle.cp_resolved.proofs.Words.{first_permanent, ContainedAt, slot_in, first_in, components_among, initial_or, parts_at, layouts_of, whole_laid}
@@ -108,7 +108,7 @@ module _ (g : Ground) (t : Tree) (e : plain g.tables ≡ laid t) (h : HasCompone
       subst (λ (y : Component). (x : Name) (u : Ty) → look x ((layouts_of t).systems y.system).variables ≡ Some u → StandsAt r.permanents (y.base + ((layouts_of t).systems y.system).slots x) (encode (first_permanent (system_of p y.system) x))) (sym l.there)
       (λ x u i.
       let m : SystemMeaning = system_of p j in
-      let c : Listing = all_made p ts ss o last nothing_listed l.among.before in
+      let c : Listing = all_made p ts ss o last empty_listing l.among.before in
       let b = block_of (numbering_of p) (whole_laid t) (earlier t h.plain) j (parts_at t j) own.owned m own.own (h.own.visible j) (h.own.standing j) x u i in
       let image : image_at p ts ss o last j ≡ b.before ++ (encode (values.least u) ++ b.after) = ap (λ (q : layers.Owned). contents_least ts q.contents) own.is ∙ b.is in
       let whole : r.permanents ≡ (c.permanents ++ b.before) ++ (encode (values.least u) ++ (b.after ++ l.grows.permanents)) =

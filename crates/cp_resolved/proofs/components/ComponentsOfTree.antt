@@ -1,6 +1,6 @@
 -- The tables of a tree list its components and processes.
 use Rattle.std.proofs.Common.{◌≡◌, ℕ, suc, ◌<◌, ◌≤◌, List, [], ◌∷◌, length, Option, Some, None, slice_get, refl, sym, ap, subst, ◌∙◌, arith}
-use Rattle.cp_resolved.proofs.Words.{◌-◌, slice_get_within, Program, Tree, Contained, plain, laid, program_parts, Listing, nothing_listed, Layer, Owned, System}
+use Rattle.cp_resolved.proofs.Words.{◌-◌, slice_get_within, Program, Tree, Contained, plain, laid, program_parts, Listing, empty_listing, Layer, Owned, System}
 use Rattle.cp_resolved.proofs.Words.{nothing_laid, Tables, Numbering, IsPlain, numbering_of, program_parts_parts, layer_or, parts_at, whole_laid}
 use Rattle.cp_tree.specs.declared.declaration.SystemKind.TheVariants as system_kind
 use Rattle.cp_meaning.specs.Components.{listed, components_of}
@@ -111,13 +111,13 @@ module _ (t : Tree) (h : IsPlain t.program) where
         low = low j;
       }
 
-  listing_is : listing_of end ≡ steps program end.types end.systems end.owned last nothing_listed (components_of program)
+  listing_is : listing_of end ≡ steps program end.types end.systems end.owned last empty_listing (components_of program)
   listing_is =
       let c = count_same in
       let kind = ap (λ j. (system_of program j).kind) c ∙ program_kind in
       let vs = ap (λ j. (system_of program j).variables) c ∙ ap (λ (m : SystemMeaning). m.variables) program_meaning in
       program_same program end.types end.systems end.owned last meant kind (laid_all.program.owns.contained ∙ ap all_contained (sym vs)) (low (length end.systems))
-      ∙ ap (λ j. steps program end.types end.systems end.owned last nothing_listed (listed program (suc j) j [])) c
+      ∙ ap (λ j. steps program end.types end.systems end.owned last empty_listing (listed program (suc j) j [])) c
 
   pub tables_listed : (r : Tables) → plain r ≡ laid t → AreListed program end.types end.systems end.owned last r
   tables_listed r e =

@@ -3,7 +3,7 @@ use Rattle.std.proofs.Common.{◌≡◌, ℕ, zero, suc, ◌+◌, ◌<◌, ◌�
 use Rattle.cp_resolved.proofs.Words.{min, length-map, none-some, same_Some, SystemKind, Program, Component, Process, Compounds, Owned, System, Tables}
 use Rattle.cp_resolved.proofs.Words.{component_at, no_component, SystemMeaning, system_of, program_system}
 use Rattle.cp_tree.specs.declared.declaration.SystemKind.TheVariants as system_kind
-use Rattle.cp_layout.specs.LaidComponents.{Listing, nothing_listed, byte, process_at, next_kind, component_with, with_component}
+use Rattle.cp_layout.specs.LaidComponents.{Listing, empty_listing, byte, process_at, next_kind, component_with, with_component}
 use Rattle.cp_slots.specs.Tables as tables
 use Rattle.cp_meaning.specs.Components.{Listed, components_of, listed_variables, listed}
 use Rattle.cp_meaning.specs.Kernel.{begun}
@@ -179,7 +179,7 @@ module _ (p : Program) where
 
     module _ (r : Tables) where
       abbrev pub all : Listing
-      all = all_made nothing_listed (components_of p)
+      all = all_made empty_listing (components_of p)
 
       -- the tables have what is listed
       pub record AreListed : Type 0 where
@@ -191,14 +191,14 @@ module _ (p : Program) where
       module _ (h : AreListed) where
         pub count_stands : length r.components ≡ length (first_components p)
         count_stands =
-            let a = components_count nothing_listed (components_of p) in
+            let a = components_count empty_listing (components_of p) in
             let b : length r.components ≡ length all.components = ap (λ (ys : List Component). length ys) h.components in
             let c = length-map (components_of p) (first_component p) in
             omega (arith, a, b, c)
 
         few_monitors : r.monitors < 255 → r.monitors ≡ monitor_count (components_of p)
         few_monitors lt =
-            let a = monitors_same nothing_listed 0 (components_of p) (omega arith) in
+            let a = monitors_same empty_listing 0 (components_of p) (omega arith) in
             let b : r.monitors ≡ all.monitors = h.monitors in
             omega (arith, a, b, lt)
 
@@ -210,21 +210,21 @@ module _ (p : Program) where
         -- the component of a number, with those listed before it
         pub record Listing_at (n : ℕ) : Type 0 where
           pub among : Among (components_of p) n
-          pub there : component_at r n ≡ component_with (next_kind (all_made nothing_listed among.before) (kind_at among.entry.system) (initial_at p ts ss o last among.entry.system)).0 (length (all_made nothing_listed among.before).permanents) among.entry.system
+          pub there : component_at r n ≡ component_with (next_kind (all_made empty_listing among.before) (kind_at among.entry.system) (initial_at p ts ss o last among.entry.system)).0 (length (all_made empty_listing among.before).permanents) among.entry.system
           pub named : named.component_at (first_components p) n ≡ first_component p among.entry
-          pub grows : Grows (made (all_made nothing_listed among.before) among.entry.system) all
+          pub grows : Grows (made (all_made empty_listing among.before) among.entry.system) all
 
         pub listing_at : (n : ℕ) → n < length r.components → Listing_at n
         listing_at n lt =
             let many : length r.components ≡ length (components_of p) = count_stands ∙ length-map (components_of p) (first_component p) in
             let a : Among (components_of p) n = among (components_of p) n (omega (arith, lt, many)) in
-            let c : Listing = all_made nothing_listed a.before in
+            let c : Listing = all_made empty_listing a.before in
             let d : Listing = made c a.entry.system in
-            let whole : all ≡ all_made d a.after = ap (all_made nothing_listed) a.is ∙ steps_append p ts ss o last nothing_listed a.before (a.entry ∷ a.after) in
+            let whole : all ≡ all_made d a.after = ap (all_made empty_listing) a.is ∙ steps_append p ts ss o last empty_listing a.before (a.entry ∷ a.after) in
             let g : Grows d all = subst (Grows d) (sym whole) (all_grow d a.after) in
             let x : Component = component_with (next_kind c (kind_at a.entry.system) (initial_at p ts ss o last a.entry.system)).0 (length c.permanents) a.entry.system in
             let e : r.components ≡ c.components ++ x ∷ g.components = h.components ∙ g.components_grow ∙ ap (λ ys. ys ++ g.components) (stepped c a.entry.system).components ∙ append_assoc c.components (x ∷ []) g.components in
-            let place : length c.components ≡ n = (let m = components_count nothing_listed a.before in let l = a.place in omega (arith, m, l)) in
+            let place : length c.components ≡ n = (let m = components_count empty_listing a.before in let l = a.place in omega (arith, m, l)) in
             let got : slice_get r.components n ≡ Some x = ap (λ j. slice_get r.components j) (sym place) ∙ ap (λ (ys : List Component). slice_get ys (length c.components)) e ∙ entry_there c.components x g.components in
             let listed : slice_get (components_of p) n ≡ Some a.entry = ap (λ j. slice_get (components_of p) j) (sym a.place) ∙ ap (λ (ys : List Listed). slice_get ys (length a.before)) a.is ∙ entry_there a.before a.entry a.after in
             record {
@@ -253,12 +253,12 @@ module _ (p : Program) where
         pub kind_stands : length r.processes ≤ 255 → r.monitors < 255 → (n : ℕ) → n < length r.components → KindIs r p n (named.component_at (first_components p) n).kind (component_at r n).kind
         kind_stands few rare n lt =
             let l = listing_at n lt in
-            let c : Listing = all_made nothing_listed l.among.before in
+            let c : Listing = all_made empty_listing l.among.before in
             let k : SystemKind = kind_at l.among.entry.system in
             let i : ℕ = initial_at p ts ss o last l.among.entry.system in
-            let place : length c.components ≡ n = (let m = components_count nothing_listed l.among.before in let l = l.among.place in omega (arith, m, l)) in
+            let place : length c.components ≡ n = (let m = components_count empty_listing l.among.before in let l = l.among.place in omega (arith, m, l)) in
             let ps : r.processes ≡ (c.processes ++ process_made k (length c.components) i) ++ l.grows.processes = h.processes ∙ l.grows.processes_grow ∙ ap (λ ys. ys ++ l.grows.processes) (stepped c l.among.entry.system).processes in
-            rw (l.named, l.there) (go n l.among c k i l.grows.processes refl place ps (monitors_same nothing_listed 0 l.among.before (omega arith)))
+            rw (l.named, l.there) (go n l.among c k i l.grows.processes refl place ps (monitors_same empty_listing 0 l.among.before (omega arith)))
           where
             go : (n : ℕ) (a : Among (components_of p) n) (c : Listing) (k : SystemKind) (i : ℕ) (rest : List Process) → k ≡ kind_at a.entry.system → length c.components ≡ n → r.processes ≡ (c.processes ++ process_made k (length c.components) i) ++ rest → c.monitors ≡ min (0 + monitor_count a.before) 255 → KindIs r p n k (next_kind c k i).0
             go n a c system_kind.Class i rest e place ps ms = tt
@@ -296,7 +296,7 @@ module _ (p : Program) where
         opening_processes e =
             let xs : List Listed = listed_variables (listed p (program_system p)) [] (system_of p (program_system p)).variables in
             let rest : List named.Process = processes_from 1 (map (first_component p) xs) in
-            let a : AreProcesses all.processes (processes_from 0 (first_components p)) = processes_same nothing_listed [] (components_of p) tt in
+            let a : AreProcesses all.processes (processes_from 0 (first_components p)) = processes_same empty_listing [] (components_of p) tt in
             let first : processes_from 0 (first_components p) ≡ unstarted_process 0 ∷ rest = ap (λ k. process_first k 0 rest) e in
             let b : AreProcesses r.processes (unstarted_process 0 ∷ rest) = rw h.processes (subst (AreProcesses all.processes) first a) in
             subst (λ ps. AreProcesses r.processes (own_begun p (first_components p) ps)) (sym first) (begun_same (system_of p (program_system p)) r.processes rest b)

@@ -5,8 +5,8 @@ use Rattle.cp_resolved.proofs.Words.{written_type}
 use Rattle.cp_tree.specs.declared.declaration.SystemKind.TheVariants as system_kind
 use Rattle.cp_tree.specs.Syntax as syntax
 use Rattle.cp_tree.specs.Syntax.{ConstantDefinition, TypeDefinition, VariableGroup, Part, RoutineKind, TypeTerm, Body, Routine, Definition, SystemDefinition, ProgramPart, Program}
-use Rattle.cp_layout.specs.LaidComponents.{Listing, nothing_listed, contents_least, process_at, next_kind, component_with, with_component, program_listed}
-use Rattle.cp_layout.specs.LaidDeclarations.{constants, type_definitions, components_of, variable_with, variable, variables_of, variable_group, variables, local_parts, heading, body, opened, with_heading, with_new_frame, heading_with, routine, routines, system, definition, system_definition, system_definitions, program_part, program_parts, program}
+use Rattle.cp_layout.specs.LaidComponents.{Listing, empty_listing, contents_least, process_at, next_kind, component_with, with_component, components_of_program}
+use Rattle.cp_layout.specs.LaidDeclarations.{constants, type_definitions, components_of, variable_with, variable, variables_of, variable_group, variables, local_parts, heading, body, open_routine, with_heading, with_new_frame, heading_with, routine, routines, system, definition, system_definition, system_definitions, program_part, program_parts, program}
 use Rattle.cp_resolved.proofs.names.Entries.{still_there}
 use Rattle.cp_resolved.proofs.laid.Declaring.{TypeSteps, FrameSteps, plain_types, type_leads, constants_lead, definitions_lead, local_parts_lead, heading_leads}
 use Rattle.cp_resolved.proofs.laid.Grown.{body_grew}
@@ -40,7 +40,7 @@ body_owned l b c = ap (λ (j : Layer). j.owned) (body_grew l b.statements c).1
 
 pub routine_owned : (l : Layer) (r : Routine) → (routine l r).owned ≡ l.owned
 routine_owned l r =
-    let x = opened l r.name.name in
+    let x = open_routine l r.name.name in
     let h = heading x.1 r.name.name r.kind in
     let m : Layer = with_heading h.1 h.0 in
     body_owned (local_parts m r.parts) r.body r.is_entry ∙ local_parts_owned m r.parts ∙ heading_owned x.1 r.name.name r.kind
@@ -111,7 +111,7 @@ first_step : (initial system : ℕ) (k : SystemKind) (c : Listing) (n : ℕ) (im
 first_step initial system system_kind.Process c n image s h = record { process = still_there c.processes _ 0 (process_at 0 initial) h.process; component = h.component; there = still_there c.components _ 0 h.component h.there; is = h.is }
 first_step initial system _ c n image s h = record { process = h.process; component = h.component; there = still_there c.components _ 0 h.component h.there; is = h.is }
 
-pub program_first : (ts : Compounds) (ss : List System) (o : Owned) (initial : ℕ) → First initial (length ss) (program_listed ts ss o initial)
+pub program_first : (ts : Compounds) (ss : List System) (o : Owned) (initial : ℕ) → First initial (length ss) (components_of_program ts ss o initial)
 program_first ts ss o initial =
     program_keeps (First initial (length ss)) ts ss (λ k s e c h. first_step initial (length ss) s.kind c s.initial (contents_least ts s.owned.contents) k h) o initial
-    (record { process = refl; component = component_with (next_kind nothing_listed system_kind.Process initial).0 0 (length ss); there = refl; is = refl })
+    (record { process = refl; component = component_with (next_kind empty_listing system_kind.Process initial).0 0 (length ss); there = refl; is = refl })

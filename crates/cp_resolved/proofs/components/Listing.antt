@@ -3,7 +3,7 @@ use Rattle.std.proofs.Common.{◌≡◌, ℕ, zero, suc, ◌+◌, ◌<◌, ◌�
 use Rattle.cp_resolved.proofs.Words.{none-some, slice_get_within, SystemKind, Component, ComponentKind, Process, Contained, Compounds, Owned, System}
 use Rattle.cp_tree.specs.declared.declaration.SystemKind.TheVariants as system_kind
 use Rattle.cp_slots.specs.declared.tables.ComponentKind.TheVariants as kind
-use Rattle.cp_layout.specs.LaidComponents.{Listing, nothing_listed, contents_least, byte, process_at, next_kind, component_with, with_component, again_and_again, contained_by, system_by, listed_below, program_listed}
+use Rattle.cp_layout.specs.LaidComponents.{Listing, empty_listing, contents_least, byte, process_at, next_kind, component_with, with_component, again_and_again, add_contained, system_by, add_below, components_of_program}
 use Rattle.cp_resolved.proofs.names.Entries.{still_there, last_entry, last_or_before}
 
 -- ---- what holds of a listing
@@ -148,7 +148,7 @@ one_listed own initial count system_kind.Class c image system number within cell
 one_listed own initial count system_kind.Monitor c image system number within cells is h = monitor_listed own initial count c h image system number within cells is
 one_listed own initial count system_kind.Process c image system number within cells is h = process_listed own initial count c h image system number within cells is
 
-pub none_listed : (own initial : ℕ → ℕ) (count : ℕ) → Lists own initial count nothing_listed
+pub none_listed : (own initial : ℕ → ℕ) (count : ℕ) → Lists own initial count empty_listing
 none_listed own initial count =
     record {
       system = λ n x e. absurd (none-some x e);
@@ -165,8 +165,8 @@ unfolding again_and_again
 again_keeps I one f zero c h = h
 again_keeps I one f (suc n) c h = f (again_and_again n one c) (again_keeps I one f n c h)
 
-contained_keeps : (I : Listing → Type 0) (one : ℕ → Listing → Listing) → ((n : ℕ) (c : Listing) → I c → I (one n c)) → (ks : List Contained) (c : Listing) → I c → I (contained_by one ks c)
-unfolding contained_by
+contained_keeps : (I : Listing → Type 0) (one : ℕ → Listing → Listing) → ((n : ℕ) (c : Listing) → I c → I (one n c)) → (ks : List Contained) (c : Listing) → I c → I (add_contained one ks c)
+unfolding add_contained
 contained_keeps I one f [] c h = h
 contained_keeps I one f (k ∷ ks) c h = contained_keeps I one f ks (again_and_again k.count (one k.system) c) (again_keeps I (one k.system) (f k.system) k.count c h)
 
@@ -176,15 +176,15 @@ module _ (I : Listing → Type 0) (ts : Compounds) (ss : List System) (step : (k
   system_keeps one f None k c e h = h
   system_keeps one f (Some s) k c e h = contained_keeps I one f s.owned.contained (with_component (next_kind c s.kind s.initial).1 (next_kind c s.kind s.initial).0 (contents_least ts s.owned.contents) k) (step k s e c h)
 
-  pub listed_keeps : (bound n : ℕ) (c : Listing) → I c → I (listed_below ts ss bound n c)
-  unfolding listed_below
+  pub listed_keeps : (bound n : ℕ) (c : Listing) → I c → I (add_below ts ss bound n c)
+  unfolding add_below
   listed_keeps zero n c h = h
-  listed_keeps (suc bound) n c h = go (n == bound) (system_keeps (listed_below ts ss bound) (λ m d. listed_keeps bound m d) (slice_get ss bound) bound c refl h) (listed_keeps bound n c h)
+  listed_keeps (suc bound) n c h = go (n == bound) (system_keeps (add_below ts ss bound) (λ m d. listed_keeps bound m d) (slice_get ss bound) bound c refl h) (listed_keeps bound n c h)
     where
-      go : (b : Bool) → I (system_by ts (listed_below ts ss bound) (slice_get ss bound) bound c) → I (listed_below ts ss bound n c) → I (if b then system_by ts (listed_below ts ss bound) (slice_get ss bound) bound c else listed_below ts ss bound n c)
+      go : (b : Bool) → I (system_by ts (add_below ts ss bound) (slice_get ss bound) bound c) → I (add_below ts ss bound n c) → I (if b then system_by ts (add_below ts ss bound) (slice_get ss bound) bound c else add_below ts ss bound n c)
       go true x y = x
       go false x y = y
 
-  pub program_keeps : (o : Owned) (initial : ℕ) → I (with_component (next_kind nothing_listed system_kind.Process initial).1 (next_kind nothing_listed system_kind.Process initial).0 (contents_least ts o.contents) (length ss)) → I (program_listed ts ss o initial)
-  unfolding program_listed
-  program_keeps o initial h = contained_keeps I (listed_below ts ss (length ss)) (λ n c. listed_keeps (length ss) n c) o.contained (with_component (next_kind nothing_listed system_kind.Process initial).1 (next_kind nothing_listed system_kind.Process initial).0 (contents_least ts o.contents) (length ss)) h
+  pub program_keeps : (o : Owned) (initial : ℕ) → I (with_component (next_kind empty_listing system_kind.Process initial).1 (next_kind empty_listing system_kind.Process initial).0 (contents_least ts o.contents) (length ss)) → I (components_of_program ts ss o initial)
+  unfolding components_of_program
+  program_keeps o initial h = contained_keeps I (add_below ts ss (length ss)) (λ n c. listed_keeps (length ss) n c) o.contained (with_component (next_kind empty_listing system_kind.Process initial).1 (next_kind empty_listing system_kind.Process initial).0 (contents_least ts o.contents) (length ss)) h

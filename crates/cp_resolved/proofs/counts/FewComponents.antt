@@ -9,8 +9,8 @@ use Rattle.cp_scope.specs.declared.fault.CheckFault.TheVariants as check_fault
 use Rattle.cp_check.specs.declared.types.Spot.TheVariants as spot
 use Rattle.cp_check.specs.Statements.{statements}
 use Rattle.cp_check.specs.Routines.{need_of}
-use Rattle.cp_check.specs.Faults.{declarations, program_context, opened, is_too_large, limit_faults, faults_of}
-use Rattle.cp_layout.specs.LaidComponents.{Listing, nothing_listed, process_at, next_kind, component_with, with_component, contents_least}
+use Rattle.cp_check.specs.Faults.{declarations, program_context, declarations_and_body, is_too_large, limit_faults, faults_of}
+use Rattle.cp_layout.specs.LaidComponents.{Listing, empty_listing, process_at, next_kind, component_with, with_component, contents_least}
 use Rattle.cp_meaning.specs.Components.{Listed, components_of}
 use Rattle.cp_resolved.proofs.agreeing.AgreeingBodies.{Uses, loud_uses}
 use Rattle.cp_resolved.proofs.agreeing.AgreeingProgram.{ProgramResult, program_agrees}
@@ -65,7 +65,7 @@ one_bounded k c image system number few h = go k
         let p = h.parts in
         record { permanents = more x; parts = omega (arith, n, p); some = h.some }
 
-first_bounded : (image : List ℤ) (system number : ℕ) → length image ≤ 8192 * 20000 → IsBounded (with_component (next_kind nothing_listed system_kind.Process number).1 (next_kind nothing_listed system_kind.Process number).0 image system)
+first_bounded : (image : List ℤ) (system number : ℕ) → length image ≤ 8192 * 20000 → IsBounded (with_component (next_kind empty_listing system_kind.Process number).1 (next_kind empty_listing system_kind.Process number).0 image system)
 first_bounded image system number few = record { permanents = omega (arith, few); parts = omega arith; some = omega arith }
 
 pub listing_bounded : (t : Tree) → IsRead t.program → IsAccepted t → IsBounded (listing_of (layer_of t))
@@ -108,7 +108,7 @@ none_first : (fs : List CheckFault) (j : Judged Use) → faults (after_faults fs
 none_first fs j e = ap faults (sym (none_after fs j e)) ∙ e
 
 pub census_few : (t : Tree) → IsRead t.program → IsAccepted t → IsFewCensus (census (declarations start t.program).scopes.inner.names (declarations start t.program).scopes.shapes)
-unfolding faults_of opened
+unfolding faults_of declarations_and_body
 census_few t read accepted =
     let d : Step = declarations start t.program in
     let j : Judged Use = statements d.scopes program_context (Ok no_use) t.program.body.statements in
@@ -205,7 +205,7 @@ processes_few t r e read accepted =
     let p : Program = t.program in
     let h : IsPlain p = plain_law t read accepted in
     let a = ap (λ (ps : List Process). length ps) (tables_listed t h r e).processes in
-    let b = steps_processes p (end t h).types (end t h).systems (end t h).owned (last t h) nothing_listed (components_of p) in
+    let b = steps_processes p (end t h).types (end t h).systems (end t h).owned (last t h) empty_listing (components_of p) in
     let c = processes_within t read accepted in
     omega (arith, a, b, c)
 

@@ -1,7 +1,7 @@
 -- The permanent variables of a system type begin with few cells, where each of them has few.
 use Rattle.std.proofs.Common.{◌≡◌, ℕ, ◌+◌, ◌*◌, ◌≤◌, List, [], ◌∷◌, ◌++◌, length, Option, Some, None, refl, sym, ap, subst, ◌∙◌, arith, length-append, append_assoc}
 use Rattle.cp_resolved.proofs.Words.{Kind, Identifier, CellType, Contained, Content, Compounds, least, Names, Layer, Owned, System, nothing_laid, true}
-use Rattle.cp_resolved.proofs.Words.{written_type, named_type, Numbering, Each}
+use Rattle.cp_resolved.proofs.Words.{written_type, type_of_name, Numbering, Each}
 use Rattle.cp_text.specs.declared.token.Kind.TheVariants as kind
 use Rattle.cp_text.specs.declared.token.Mark.TheVariants as mark
 use Rattle.cp_tree.specs.Syntax as syntax
@@ -10,7 +10,7 @@ use Rattle.cp_tree.proofs.Grows.{grows_all, grows_optional, grows_type, grows_co
 use Rattle.cp_symbols.specs.declared.kinds.CellType.TheVariants as types
 use Rattle.cp_layout.specs.declared.layer.Content.TheVariants as content
 use Rattle.cp_layout.specs.LaidComponents.{content_least, contents_least}
-use Rattle.cp_layout.specs.LaidDeclarations.{constants, type_definitions, components_of, variable, variable_with, variables_of, variable_group, variables, permanent_part, permanent_parts, Parameters, system_parameter, system_parameters_of, system_group, system_groups, heading_with, with_heading, with_new_frame, initial_statement, entered, routine, routines, system, definition, system_definition, system_definitions, program_part, program_parts, program}
+use Rattle.cp_layout.specs.LaidDeclarations.{constants, type_definitions, components_of, variable, variable_with, variables_of, variable_group, variables, permanent_part, permanent_parts, Parameters, system_parameter, system_parameters_of, system_group, system_groups, heading_with, with_heading, with_new_frame, initial_statement, enter_system, routine, routines, system, definition, system_definition, system_definitions, program_part, program_parts, program}
 use Rattle.cp_resolved.specs.Begun.{routines_begun, initial_begun, parameters_of, parts_begun, system_begun, definition_begun, definitions_begun, part_begun, program_parts_begun, all_begun}
 use Rattle.cp_resolved.proofs.agreeing.AgreeingWritten.{each_left, each_right}
 use Rattle.cp_resolved.proofs.laid.Declares.{Declares, type_declares, constants_declare, variables_of_declare, variables_declare, permanent_parts_declare, system_parameters_declare, system_groups_declare}
@@ -156,7 +156,7 @@ module _ (ts : Compounds) where
   parameter_group_filled : (l : Layer) (ps : Parameters) (g : syntax.Group) (rest : List Kind) → IsSmall (system_group l ps g).1 → Filled (length (put_group g rest)) (length rest) l (system_group l ps g).1
   parameter_group_filled l ps g rest h =
       let a = names_room 0 g.names (kind.Mark mark.Colon ∷ put_identifier g.type_name rest) in
-      let b = parameters_filled l ps (named_type l g.type_name.name) g.names h in
+      let b = parameters_filled l ps (type_of_name l g.type_name.name) g.names h in
       omega (arith, a, b)
 
   more_groups_filled : (l : Layer) (ps : Parameters) (gs : List syntax.Group) (rest : List Kind) → IsSmall (system_groups l ps gs).1 → Filled (length (put_all (put_behind mark.Semicolon put_group) gs rest)) (length rest) l (system_groups l ps gs).1
@@ -199,7 +199,7 @@ module _ (ts : Compounds) where
         let b : List Kind = put_body y.body rest in
         let rs : List Kind = put_all put_routine y.routines b in
         let inside : List Kind = put_all put_part y.parts rs in
-        let o : Layer = (entered l).1 in
+        let o : Layer = (enter_system l).1 in
         let x = system_groups o [] y.parameters in
         let p : Layer = permanent_parts x.1 y.parts in
         let k : Layer = routines p y.routines in

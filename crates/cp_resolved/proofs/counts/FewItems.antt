@@ -8,16 +8,16 @@ use Rattle.cp_tree.specs.Spelling.{is_nameless, put_routine_by, put_identifier, 
 use Rattle.cp_tree.proofs.Grows.{grows_all, grows_part, grows_routine_kind, grows_optional, grows_constant, grows_separated, grows_arguments, grows_more_expressions}
 use Rattle.cp_slots.specs.Code as code
 use Rattle.cp_slots.specs.Code.{SetExpression, ComponentPlace, Argument, Arm, Action, Item}
-use Rattle.cp_layout.specs.Values.{Value, Designated, a_routine, an_entry, a_standard, added as values_added, multiplied as values_multiplied, ordinal_of}
+use Rattle.cp_layout.specs.Values.{Value, Designated, a_routine, an_entry, a_standard, add_item as values_added, multiplied as values_multiplied, ordinal_of}
 use Rattle.cp_tree.specs.declared.statement.AssertionKind.{AssertionKind}
 use Rattle.cp_symbols.specs.declared.names.LayoutMeaning.{LayoutMeaning}
 use Rattle.cp_symbols.specs.declared.names.LayoutMeaning.TheVariants as meaning
 use Rattle.cp_symbols.specs.declared.names.PredeclaredRoutine.{PredeclaredRoutine}
 use Rattle.cp_symbols.specs.declared.names.PredeclaredRoutine.TheVariants as predeclared
-use Rattle.cp_layout.specs.Layers.{find, Layer, Pending, settled_all, settled, without_pending, added, with_cell, with_room, call_need, need_of, result_of, again, need_inside, pending_need, nothing_laid}
-use Rattle.cp_layout.specs.LaidExpressions.{begun, counted, function_as, named_as, signed, name_at, expression, sum, more_terms, term, more_factors, factor, elements, first_value, arguments_from, designator, selectors, selector, arguments}
-use Rattle.cp_layout.specs.LaidStatements.{checked_by, checked, checked_before, assertion, said_of, Target, target_of, assignment, arms_need, origin_of, low_of, high_of, is_down, assigned, performed, procedure, standard, Callee, a_standard_procedure, a_procedure, no_callee, callee_of, invoked_as, invoked, blocked, cycled, chosen, while_item, until_item, token_of, repeated, selected, for_item, initial_of, begun_component, Placed, placed_of, started_as, started, starts, statements, statement, arms, one_arm}
-use Rattle.cp_layout.specs.LaidDeclarations.{body, end_of_body, Parameters, heading, heading_with, with_heading, with_new_frame, opened, local_parts, routine, initial_statement, program}
+use Rattle.cp_layout.specs.Layers.{find, Layer, Pending, add_items, settle_items, without_pending, add_item, with_cell, with_room, call_need, need_of, result_of, again, need_inside, pending_need, nothing_laid}
+use Rattle.cp_layout.specs.LaidExpressions.{name_meaning, with_their_count, function_as, value_of_meaning, with_sign, name_at, expression, sum, more_terms, term, more_factors, factor, elements, first_value, arguments_from, designator, selectors, selector, arguments}
+use Rattle.cp_layout.specs.LaidStatements.{check_by, check_invariants, check_before, assertion, said_of, Target, target_of, assignment, arms_need, origin_of, low_of, high_of, is_down, assign, standard_action, procedure, standard, Callee, a_standard_procedure, a_procedure, no_callee, callee_of, call_of, call_statement, block_item, cycle_item, choose, while_item, until_item, token_of, repeat_items, select, for_item, initial_of, begin_component, Placed, component_place_of, start_of, start_statement, starts, statements, statement, arms, one_arm}
+use Rattle.cp_layout.specs.LaidDeclarations.{body, end_of_body, Parameters, heading, heading_with, with_heading, with_new_frame, open_routine, local_parts, routine, initial_statement, program}
 use Rattle.cp_resolved.proofs.laid.Declares.{Declares, local_parts_declare, heading_declares}
 use Rattle.cp_resolved.specs.Begun.{all_begun}
 use Rattle.cp_resolved.proofs.counts.FewReferences.{one_more}
@@ -28,27 +28,27 @@ use Rattle.cp_resolved.proofs.counts.SpentTokens.{each_any, program_spent}
 abbrev pub count : Layer → ℕ
 count l = length l.items + length l.pending
 
-pub added_one : (l : Layer) (at : ℕ) (a : Action) (need : ℕ) → count (added l at a need) ≡ count l + 1
+pub added_one : (l : Layer) (at : ℕ) (a : Action) (need : ℕ) → count (add_item l at a need) ≡ count l + 1
 added_one l at a need =
     let p : Pending = record { action = a; line = slice_index l.lines at; need = need } in
     let e = one_more l.pending p in
     omega (arith, e)
 
-all_settled : (l : Layer) (ps : List Pending) (next : Option ℕ) → (length (settled_all l ps next).1.items ≡ length l.items + length ps) × ((settled_all l ps next).1.pending ≡ l.pending)
+all_settled : (l : Layer) (ps : List Pending) (next : Option ℕ) → (length (add_items l ps next).1.items ≡ length l.items + length ps) × ((add_items l ps next).1.pending ≡ l.pending)
 all_settled l [] next = (omega arith, refl)
 all_settled l (p ∷ ps) next =
     let h = all_settled l ps next in
-    let rest : Option ℕ × Layer = settled_all l ps next in
+    let rest : Option ℕ × Layer = add_items l ps next in
     let i : Item = record { action = p.action; next = rest.0; line = p.line; routine = length rest.1.routines; need = max (need_of rest.1.items rest.0) p.need } in
     let e = h.0 in
     let f = one_more rest.1.items i in
     (omega (arith, e, f), h.1)
 
-pub settled_same : (l : Layer) (next : Option ℕ) → count (settled l next).1 ≡ count l
+pub settled_same : (l : Layer) (next : Option ℕ) → count (settle_items l next).1 ≡ count l
 settled_same l next =
     let h = all_settled (without_pending l) l.pending next in
     let e = h.0 in
-    let f : length (settled l next).1.pending ≡ 0 = ap (λ (ps : List Pending). length ps) h.1 in
+    let f : length (settle_items l next).1.pending ≡ 0 = ap (λ (ps : List Pending). length ps) h.1 in
     omega (arith, e, f)
 
 sign_grows : (o : Option Sign) (ks : List Kind) → length ks ≤ length (put_sign o ks)
@@ -61,12 +61,12 @@ function_few : (l : Layer) (at : ℕ) (c : ComponentPlace) (b : Bool) (r : ℕ) 
 function_few l at c b r None handed high low le h = omega (arith, le)
 function_few l at c b r (Some x) handed high low le h =
     let y : List Argument × Layer = handed l r in
-    let m : Layer = (counted y).1 in
+    let m : Layer = (with_their_count y).1 in
     let a = h l r in
     let e = added_one (with_room (with_cell m) r) at (code.call r c b y.0 (Some (length m.frame.image))) (call_need (with_cell m) r) in
     omega (arith, a, e)
 
-named_few : (l : Layer) (at : ℕ) (d : Designated) (first : Layer → Value × Layer) (handed : Layer → ℕ → List Argument × Layer) (high low : ℕ) → low ≤ high → ((m : Layer) → count (first m).1 + low ≤ count m + high) → ((m : Layer) (k : ℕ) → count (handed m k).1 + low ≤ count m + high) → count (named_as l at d first handed).1 + low ≤ count l + high + 1
+named_few : (l : Layer) (at : ℕ) (d : Designated) (first : Layer → Value × Layer) (handed : Layer → ℕ → List Argument × Layer) (high low : ℕ) → low ≤ high → ((m : Layer) → count (first m).1 + low ≤ count m + high) → ((m : Layer) (k : ℕ) → count (handed m k).1 + low ≤ count m + high) → count (value_of_meaning l at d first handed).1 + low ≤ count l + high + 1
 named_few l at (a_routine r) first handed high low le f h = function_few l at code.own _ r (result_of l r) handed high low le h
 named_few l at (an_entry c r) first handed high low le f h = function_few l at c _ r (result_of l r) handed high low le h
 named_few l at (a_standard s) first handed high low le f h = let a = f l in omega (arith, a)
@@ -85,7 +85,7 @@ mutual
   sum_few : (l : Layer) (s : syntax.Sum) (rest : List Kind) → count (sum l s).1 + length rest ≤ count l + length (put_sum s rest)
   sum_few l (syntax.sum at o t ts) rest =
       let x = term_few l t (put_terms ts rest) in
-      let y = terms_few (term l t).1 (signed o (term l t).0) ts rest in
+      let y = terms_few (term l t).1 (with_sign o (term l t).0) ts rest in
       let z = sign_grows o (put_term t (put_terms ts rest)) in
       omega (arith, x, y, z)
 
@@ -112,7 +112,7 @@ mutual
   factor_few : (l : Layer) (f : syntax.Factor) (rest : List Kind) → count (factor l f).1 + length rest ≤ count l + length (put_factor f rest)
   factor_few l (syntax.named at (syntax.designator i ss) es) rest =
       let x : Designated × Layer = designator l (syntax.designator i ss) in
-      let a = selectors_few l (begun l i.name) ss (put_arguments es rest) in
+      let a = selectors_few l (name_meaning l i.name) ss (put_arguments es rest) in
       let b = named_few x.1 at x.0 (λ m. first_value m es) (λ m r. arguments_from m r 0 es) (length (put_arguments es rest)) (length rest) (grows_arguments es rest) (λ m. first_few m es rest) (λ m k. arguments_few m k 0 es rest) in
       omega (arith, a, b)
   factor_few l (syntax.group at e) rest = let x = expression_few l e (kind.Mark mark.CloseParenthesis ∷ rest) in omega (arith, x)
@@ -170,12 +170,12 @@ mutual
 -- a name makes no item itself
 designator_few : (l : Layer) (d : syntax.Designator) (rest : List Kind) → count (designator l d).1 + length rest + 1 ≤ count l + length (put_designator d rest)
 unfolding designator
-designator_few l (syntax.designator i ss) rest = let x = selectors_few l (begun l i.name) ss rest in omega (arith, x)
+designator_few l (syntax.designator i ss) rest = let x = selectors_few l (name_meaning l i.name) ss rest in omega (arith, x)
 
 -- ---- statements
 
-assigned_few : (l : Layer) (at : ℕ) (d : syntax.Designator) (e : syntax.Expression) (rest : List Kind) → count (assigned l at d e) + length rest ≤ count l + length (put_statement (syntax.assign at d e) rest) + 1
-unfolding assigned
+assigned_few : (l : Layer) (at : ℕ) (d : syntax.Designator) (e : syntax.Expression) (rest : List Kind) → count (assign l at d e) + length rest ≤ count l + length (put_statement (syntax.assign at d e) rest) + 1
+unfolding assign
 assigned_few l at d e rest =
     let x = designator l d in
     let y = expression x.1 e in
@@ -188,7 +188,7 @@ handed_few : (l : Layer) (r : ℕ) (es : syntax.Expressions) (rest : List Kind) 
 unfolding arguments
 handed_few l r es rest = arguments_few l r 0 es rest
 
-checked_by_few : (l : Layer) (at : ℕ) (o : Option LayoutMeaning) → count (checked_by l at o) ≤ count l + 1
+checked_by_few : (l : Layer) (at : ℕ) (o : Option LayoutMeaning) → count (check_by l at o) ≤ count l + 1
 unfolding procedure
 checked_by_few l at (Some (meaning.Routine r)) =
     let x = arguments l r syntax.no_expressions in
@@ -197,21 +197,21 @@ checked_by_few l at (Some (meaning.Routine r)) =
     omega (arith, a, b)
 checked_by_few l at _ = omega arith
 
-checked_few : (l : Layer) (at : ℕ) → count (checked l at) ≤ count l + 1
-unfolding checked
+checked_few : (l : Layer) (at : ℕ) → count (check_invariants l at) ≤ count l + 1
+unfolding check_invariants
 checked_few l at = checked_by_few l at (find syntax.nameless l.names)
 
-before_few : (l : Layer) (at : ℕ) (p : PredeclaredRoutine) → count (checked_before l at p) ≤ count l + 1
+before_few : (l : Layer) (at : ℕ) (p : PredeclaredRoutine) → count (check_before l at p) ≤ count l + 1
 before_few l at predeclared.Delay = checked_few l at
 before_few l at predeclared.Continue = checked_few l at
 before_few l at _ = omega arith
 
-invoked_as_few : (l : Layer) (at : ℕ) (c : Callee) (es : syntax.Expressions) (rest : List Kind) → count (invoked_as l at c es) + length rest ≤ count l + length (put_arguments es rest) + 2
+invoked_as_few : (l : Layer) (at : ℕ) (c : Callee) (es : syntax.Expressions) (rest : List Kind) → count (call_of l at c es) + length rest ≤ count l + length (put_arguments es rest) + 2
 unfolding standard procedure
 invoked_as_few l at (a_standard_procedure p) es rest =
     let a = first_few l es rest in
     let c = before_few (first_value l es).1 at p in
-    let b = added_one (checked_before (first_value l es).1 at p) at (performed p (first_value l es).0) 0 in
+    let b = added_one (check_before (first_value l es).1 at p) at (standard_action p (first_value l es).0) 0 in
     omega (arith, a, b, c)
 invoked_as_few l at (a_procedure c is_entry r) es rest =
     let x = arguments l r es in
@@ -223,16 +223,16 @@ invoked_as_few l at no_callee es rest =
     let b = grows_arguments es rest in
     omega (arith, a, b)
 
-invoked_few : (l : Layer) (at : ℕ) (d : syntax.Designator) (es : syntax.Expressions) (rest : List Kind) → count (invoked l at d es) + length rest ≤ count l + length (put_designator d (put_arguments es rest)) + 1
-unfolding invoked
+invoked_few : (l : Layer) (at : ℕ) (d : syntax.Designator) (es : syntax.Expressions) (rest : List Kind) → count (call_statement l at d es) + length rest ≤ count l + length (put_designator d (put_arguments es rest)) + 1
+unfolding call_statement
 invoked_few l at d es rest =
     let x = designator l d in
     let a = designator_few l d (put_arguments es rest) in
     let b = invoked_as_few x.1 at (callee_of x.0) es rest in
     omega (arith, a, b)
 
-started_as_few : (l : Layer) (at : ℕ) (o : Option Placed) (es : syntax.Expressions) (rest : List Kind) → count (started_as l at o es) + length rest ≤ count l + length (put_arguments es rest) + 1
-unfolding begun_component
+started_as_few : (l : Layer) (at : ℕ) (o : Option Placed) (es : syntax.Expressions) (rest : List Kind) → count (start_of l at o es) + length rest ≤ count l + length (put_arguments es rest) + 1
+unfolding begin_component
 started_as_few l at None es rest =
     let a = added_one l at code.nothing 0 in
     let b = grows_arguments es rest in
@@ -244,12 +244,12 @@ started_as_few l at (Some p) es rest =
     let b = added_one (with_room x.1 r) at (code.start p.0 r x.0) (call_need x.1 r) in
     omega (arith, a, b)
 
-started_few : (l : Layer) (t : syntax.Start) (rest : List Kind) → count (started l t) + length rest ≤ count l + length (put_start t rest)
-unfolding started
+started_few : (l : Layer) (t : syntax.Start) (rest : List Kind) → count (start_statement l t) + length rest ≤ count l + length (put_start t rest)
+unfolding start_statement
 started_few l t rest =
     let x = designator l t.target in
     let a = designator_few l t.target (put_arguments t.arguments rest) in
-    let b = started_as_few x.1 (name_at t.target) (placed_of x.0) t.arguments rest in
+    let b = started_as_few x.1 (name_at t.target) (component_place_of x.0) t.arguments rest in
     omega (arith, a, b)
 
 more_starts_few : (l : Layer) (ts : List syntax.Start) (next : Option ℕ) (rest : List Kind) → count (starts l ts next).1 + length rest ≤ count l + length (put_all (put_behind mark.Comma put_start) ts rest)
@@ -259,7 +259,7 @@ more_starts_few l (t ∷ ts) next rest =
     let x = starts l ts next in
     let a = more_starts_few l ts next rest in
     let b = started_few x.1 t (put_all (put_behind mark.Comma put_start) ts rest) in
-    let c = settled_same (started x.1 t) x.0 in
+    let c = settled_same (start_statement x.1 t) x.0 in
     omega (arith, a, b, c)
 
 starts_few : (l : Layer) (ts : List syntax.Start) (next : Option ℕ) (rest : List Kind) → count (starts l ts next).1 + length rest ≤ count l + length (put_separated mark.Comma put_start ts rest)
@@ -269,15 +269,15 @@ starts_few l (t ∷ ts) next rest =
     let x = starts l ts next in
     let a = more_starts_few l ts next rest in
     let b = started_few x.1 t (put_all (put_behind mark.Comma put_start) ts rest) in
-    let c = settled_same (started x.1 t) x.0 in
+    let c = settled_same (start_statement x.1 t) x.0 in
     omega (arith, a, b, c)
 
 assertion_few : (l : Layer) (at : ℕ) (k : AssertionKind) (e : syntax.Expression) (rest : List Kind) → count (assertion l at k e) + length rest ≤ count l + length (put_expression e rest) + 1
 unfolding assertion
 assertion_few l at k e rest = let a = expression_few l e rest in let b = added_one (expression l e).1 at (code.assert_that (ordinal_of (expression l e).0) (said_of k)) 0 in omega (arith, a, b)
 
-chosen_few : (l : Layer) (at : ℕ) (e : syntax.Expression) (o q : Option ℕ) (rest : List Kind) → count (chosen l at e o q) + length rest ≤ count l + length (put_expression e rest) + 1
-unfolding chosen
+chosen_few : (l : Layer) (at : ℕ) (e : syntax.Expression) (o q : Option ℕ) (rest : List Kind) → count (choose l at e o q) + length rest ≤ count l + length (put_expression e rest) + 1
+unfolding choose
 chosen_few l at e o q rest = let a = expression_few l e rest in let b = added_one (expression l e).1 at (code.choose (ordinal_of (expression l e).0) o q) (max (need_inside (expression l e).1.items o) (need_inside (expression l e).1.items q)) in omega (arith, a, b)
 
 while_few : (l : Layer) (at : ℕ) (e : syntax.Expression) (o : Option ℕ) (rest : List Kind) → count (while_item l at e o) + length rest ≤ count l + length (put_expression e rest) + 1
@@ -288,8 +288,8 @@ until_few : (l : Layer) (at : ℕ) (e : syntax.Expression) (o : Option ℕ) (res
 unfolding until_item
 until_few l at e o rest = let a = expression_few l e rest in let b = added_one (expression l e).1 at (code.until (ordinal_of (expression l e).0) o (again (expression l e).1)) (max (need_inside (expression l e).1.items o) (pending_need (expression l e).1)) in omega (arith, a, b)
 
-selected_few : (l : Layer) (at : ℕ) (e : syntax.Expression) (as' : List Arm) (rest : List Kind) → count (selected l at e as') + length rest ≤ count l + length (put_expression e rest) + 1
-unfolding selected
+selected_few : (l : Layer) (at : ℕ) (e : syntax.Expression) (as' : List Arm) (rest : List Kind) → count (select l at e as') + length rest ≤ count l + length (put_expression e rest) + 1
+unfolding select
 selected_few l at e as' rest = let a = expression_few l e rest in let b = added_one (expression l e).1 at (code.select (ordinal_of (expression l e).0) as') (arms_need (expression l e).1 0 as') in omega (arith, a, b)
 
 for_few : (l : Layer) (at : ℕ) (x : List ℕ) (e : syntax.Expression) (d : Direction) (f : syntax.Expression) (o : Option ℕ) (rest : List Kind) → count (for_item l at x e d f o) + length rest + 1 ≤ count l + length (put_expression e (kind.Mark (direction_mark d) ∷ put_expression f rest)) + 1
@@ -297,18 +297,18 @@ unfolding for_item
 for_few l at x e d f o rest =
     let a = expression_few l e (kind.Mark (direction_mark d) ∷ put_expression f rest) in
     let b = expression_few (expression l e).1 f rest in
-    let t : Target = target_of l (begun l x) in
+    let t : Target = target_of l (name_meaning l x) in
     let y = expression (expression l e).1 f in
     let c = added_one y.1 at (code.for_do (origin_of t.place) (low_of t.value_type) (high_of t.value_type) (ordinal_of (expression l e).0) (ordinal_of y.0) (is_down d) o) (need_inside y.1.items o) in
     omega (arith, a, b, c)
 
-repeated_few : (l : Layer) (at : ℕ) (o : Option ℕ) (e : syntax.Expression) (next : Option ℕ) (rest : List Kind) → count (repeated l at o e next).1 + length rest ≤ count l + length (put_expression e rest) + 2
+repeated_few : (l : Layer) (at : ℕ) (o : Option ℕ) (e : syntax.Expression) (next : Option ℕ) (rest : List Kind) → count (repeat_items l at o e next).1 + length rest ≤ count l + length (put_expression e rest) + 2
 repeated_few l at o e next rest =
-    let y = settled (until_item l (token_of e) e o) next in
+    let y = settle_items (until_item l (token_of e) e o) next in
     let a = until_few l (token_of e) e o rest in
     let b = settled_same (until_item l (token_of e) e o) next in
     let c = added_one y.1 at (code.block o) (need_inside y.1.items o) in
-    let d = settled_same (blocked y.1 at o) y.0 in
+    let d = settled_same (block_item y.1 at o) y.0 in
     omega (arith, a, b, c, d)
 
 mutual
@@ -331,27 +331,27 @@ mutual
   statement_few : (l : Layer) (t : syntax.Statement) (next : Option ℕ) (rest : List Kind) → count (statement l t next).1 + length rest ≤ count l + length (put_statement t rest) + 1
   statement_few l (syntax.empty at) next rest =
       let a = added_one l at code.nothing 0 in
-      let b = settled_same (added l at code.nothing 0) next in
+      let b = settled_same (add_item l at code.nothing 0) next in
       omega (arith, a, b)
   statement_few l (syntax.assign at d e) next rest =
       let a = assigned_few l at d e rest in
-      let b = settled_same (assigned l at d e) next in
+      let b = settled_same (assign l at d e) next in
       omega (arith, a, b)
   statement_few l (syntax.invoke at d es) next rest =
       let a = invoked_few l at d es rest in
-      let b = settled_same (invoked l at d es) next in
+      let b = settled_same (call_statement l at d es) next in
       omega (arith, a, b)
   statement_few l (syntax.block at ss) next rest =
       let x = statements l ss None in
       let a = statements_few l ss None (kind.Mark mark.End ∷ rest) in
       let b = added_one x.1 at (code.block x.0) (need_inside x.1.items x.0) in
-      let c = settled_same (blocked x.1 at x.0) next in
+      let c = settled_same (block_item x.1 at x.0) next in
       omega (arith, a, b, c)
   statement_few l (syntax.if_then at e s) next rest =
       let x = statement l s None in
       let a = statement_few l s None rest in
       let b = chosen_few x.1 at e x.0 None (kind.Mark mark.Then ∷ put_statement s rest) in
-      let c = settled_same (chosen x.1 at e x.0 None) next in
+      let c = settled_same (choose x.1 at e x.0 None) next in
       omega (arith, a, b, c)
   statement_few l (syntax.if_else at e s t) next rest =
       let x = statement l s None in
@@ -360,14 +360,14 @@ mutual
       let a = statement_few l s None other in
       let b = statement_few x.1 t None rest in
       let c = chosen_few y.1 at e x.0 y.0 (kind.Mark mark.Then ∷ put_statement s other) in
-      let d = settled_same (chosen y.1 at e x.0 y.0) next in
+      let d = settled_same (choose y.1 at e x.0 y.0) next in
       omega (arith, a, b, c, d)
   statement_few l (syntax.case_of at e as' semicolon) next rest =
       let x = arms l as' in
       let last : List Kind = put_optional mark.Semicolon semicolon (kind.Mark mark.End ∷ rest) in
       let a = arms_few l as' last in
       let b = selected_few x.1 at e x.0 (kind.Mark mark.Of ∷ put_arms as' last) in
-      let c = settled_same (selected x.1 at e x.0) next in
+      let c = settled_same (select x.1 at e x.0) next in
       let d = grows_optional mark.Semicolon semicolon (kind.Mark mark.End ∷ rest) in
       omega (arith, a, b, c, d)
   statement_few l (syntax.while_do at e s) next rest =
@@ -392,7 +392,7 @@ mutual
       let x = statements l ss None in
       let a = statements_few l ss None (kind.Mark mark.End ∷ rest) in
       let b = added_one x.1 at (code.cycle x.0) (need_inside x.1.items x.0) in
-      let c = settled_same (cycled x.1 at x.0) next in
+      let c = settled_same (cycle_item x.1 at x.0) next in
       omega (arith, a, b, c)
   statement_few l (syntax.init at ts) next rest = let a = starts_few l ts next rest in omega (arith, a)
   statement_few l (syntax.asserted at k e s) next rest =
@@ -425,7 +425,7 @@ mutual
 -- ---- declarations
 
 ended_few : (l : Layer) (c : Bool) → count (end_of_body l c).1 ≤ count l + 1
-ended_few l true = let a = checked_few l 0 in let b = settled_same (checked l 0) None in omega (arith, a, b)
+ended_few l true = let a = checked_few l 0 in let b = settled_same (check_invariants l 0) None in omega (arith, a, b)
 ended_few l false = let b = settled_same l None in omega (arith, b)
 
 pub body_few : (l : Layer) (b : syntax.Body) (c : Bool) (rest : List Kind) → count (body l b c) + length rest ≤ count l + length (put_body b rest)
@@ -449,7 +449,7 @@ says_few l _ after rest h = absurd h
 pub said_body_few : (l : Layer) (b : syntax.Body) (c : Bool) (rest : List Kind) → c ≡ false → SaysSome b.statements → count (body l b c) + length rest ≤ count l + length (put_statements b.statements rest)
 said_body_few l b true rest is h = absurd (let bad : true ≡ false = is in cc)
 said_body_few l b false rest is h =
-    let end = settled l None in
+    let end = settle_items l None in
     let a = says_few end.1 b.statements end.0 rest h in
     let d = settled_same l None in
     omega (arith, a, d)
@@ -459,7 +459,7 @@ declared_same l m h = ap (λ (j : Layer). count j) h.same
 
 routine_by : (b : Bool) (l : Layer) (r : syntax.Routine) (rest : List Kind) → IsKnownBy b r → count (routine l r) + length rest ≤ count l + length (put_routine_by b r rest)
 routine_by true l r rest known =
-    let x : Layer = (opened l r.name.name).1 in
+    let x : Layer = (open_routine l r.name.name).1 in
     let h = heading x r.name.name r.kind in
     let k : Layer = with_heading h.1 h.0 in
     let m : Layer = local_parts k r.parts in
@@ -471,7 +471,7 @@ routine_by false l r rest known =
     let last : List Kind = kind.Mark mark.Semicolon ∷ rest in
     let b : List Kind = put_body r.body last in
     let inside : List Kind = put_all put_part r.parts b in
-    let x : Layer = (opened l r.name.name).1 in
+    let x : Layer = (open_routine l r.name.name).1 in
     let h = heading x r.name.name r.kind in
     let k : Layer = with_heading h.1 h.0 in
     let m : Layer = local_parts k r.parts in

@@ -6,7 +6,7 @@ use Rattle.cp_text.specs.declared.token.Mark.TheVariants as mark
 use Rattle.cp_tree.specs.Syntax as syntax
 use Rattle.cp_tree.specs.Spelling.{put_behind, put_all, put_parameters, put_identifier, put_constant_definition, put_type_definition, put_variable_group, put_type, put_part, put_group, put_parameter_group, put_routine_kind}
 use Rattle.cp_tree.proofs.Grows.{grows_all, grows_optional, grows_type, grows_constant_definition, grows_type_definition}
-use Rattle.cp_layout.specs.LaidTypes.{written_type, named_type}
+use Rattle.cp_layout.specs.LaidTypes.{written_type, type_of_name}
 use Rattle.cp_layout.specs.LaidDeclarations.{constants, type_definitions, local, locals_of, local_group, local_variables, local_part, local_parts, Parameters, constant_parameter, constant_parameters_of, constant_group, constant_groups, var_parameter, var_parameters_of, var_group, parameter_group, parameter_groups, heading}
 use Rattle.cp_resolved.proofs.counts.FewReferences.{one_more}
 use Rattle.cp_resolved.proofs.frames.FrameKept.{type_cells, constants_cells, definitions_cells, frame_same}
@@ -109,14 +109,14 @@ named_extended : (l m : Layer) (g : syntax.Group) (high : ℕ) (rest : List Kind
 named_extended l m g high rest le h = let a = names_room 0 g.names (kind.Mark mark.Colon ∷ put_identifier g.type_name rest) in wider (length g.names) high 0 (length rest) l m (omega (arith, a, le)) h
 
 constant_group_extended : (l : Layer) (ps : Parameters) (g : syntax.Group) (rest : List Kind) → Extended (length (put_group g rest)) (length rest) l (constant_group l ps g).1
-constant_group_extended l ps g rest = named_extended l (constant_group l ps g).1 g (length (put_group g rest)) rest (omega arith) (constants_extended l ps (named_type l g.type_name.name) g.names)
+constant_group_extended l ps g rest = named_extended l (constant_group l ps g).1 g (length (put_group g rest)) rest (omega arith) (constants_extended l ps (type_of_name l g.type_name.name) g.names)
 
 parameter_group_extended : (l : Layer) (ps : Parameters) (g : syntax.ParameterGroup) (rest : List Kind) → Extended (length (put_parameter_group g rest)) (length rest) l (parameter_group l ps g).1
 parameter_group_extended l ps g rest = named_extended l (parameter_group l ps g).1 g.group (length (put_parameter_group g rest)) rest (grows_optional mark.Var g.is_var (put_group g.group rest)) (go g.is_var)
   where
     go : (b : Bool) → Extended (length g.group.names) 0 l (if b then var_group l ps g.group else constant_group l ps g.group).1
-    go true = vars_extended l ps (named_type l g.group.type_name.name) g.group.names
-    go false = constants_extended l ps (named_type l g.group.type_name.name) g.group.names
+    go true = vars_extended l ps (type_of_name l g.group.type_name.name) g.group.names
+    go false = constants_extended l ps (type_of_name l g.group.type_name.name) g.group.names
 
 more_groups_extended : (l : Layer) (ps : Parameters) (gs : List syntax.ParameterGroup) (rest : List Kind) → Extended (length (put_all (put_behind mark.Semicolon put_parameter_group) gs rest)) (length rest) l (parameter_groups l ps gs).1
 unfolding parameter_groups
@@ -163,9 +163,9 @@ heading_extended l x (syntax.function gs i) rest =
     let q = (constant_groups l [] gs).1 in
     let r = all_constants_extended l gs (kind.Mark mark.Colon ∷ put_identifier i rest) in
     let a = r.extents in
-    let e = length-append q.frame.image (least q.types (named_type q i.name)) in
+    let e = length-append q.frame.image (least q.types (type_of_name q i.name)) in
     record {
-      image = λ s. (let b = r.image s in let few : length (least q.types (named_type q i.name)) ≤ 8192 = named_small q i.name s in omega (arith, b, few, e));
+      image = λ s. (let b = r.image s in let few : length (least q.types (type_of_name q i.name)) ≤ 8192 = named_small q i.name s in omega (arith, b, few, e));
       extents = omega (arith, a);
       room = r.room;
       references = r.references;

@@ -4,7 +4,7 @@ use Rattle.cp_resolved.proofs.Words.{none-some, same_Some, Process, RoutineView,
 use Rattle.cp_resolved.proofs.Words.{with_count, Each}
 use Rattle.cp_tree.specs.Syntax as syntax
 use Rattle.cp_resolved.proofs.counts.Rooms.{Room}
-use Rattle.cp_layout.specs.Layers.{Layer, Pending, frame_with, with_cell, with_room, settled_all, settled, without_pending, added, routine_of}
+use Rattle.cp_layout.specs.Layers.{Layer, Pending, frame_with, with_cell, with_room, add_items, settle_items, without_pending, add_item, routine_of}
 use Rattle.cp_layout.specs.LaidDeclarations.{body}
 use Rattle.cp_resolved.proofs.laid.Walked.{any_calls, any_items, any_lists, never, body_walked}
 use Rattle.cp_resolved.proofs.frames.FrameCells.{each_both as each_append}
@@ -40,7 +40,7 @@ module _ (total low k : ℕ) where
   within_count : (l : Layer) (n : ℕ) → Within total low k l → Within total low k (with_count l n)
   within_count l n h = record { routines = h.routines; frame = h.frame; extents = h.extents }
 
-  within_added : (l : Layer) (at : ℕ) (a : Action) (need : ℕ) → Within total low k l → Within total low k (added l at a need)
+  within_added : (l : Layer) (at : ℕ) (a : Action) (need : ℕ) → Within total low k l → Within total low k (add_item l at a need)
   within_added l at a need h = record { routines = h.routines; frame = h.frame; extents = h.extents }
 
   within_room : (l : Layer) (r : ℕ) → Within total low k l → Within total low k (with_room l r)
@@ -53,14 +53,14 @@ module _ (total low k : ℕ) where
           let b : v.reference_room + low ≤ total = each_entry (λ (q : RoutineView). q.reference_room + low ≤ total) l.routines r v e h.routines in
           record { routines = h.routines; frame = omega (arith, a, b); extents = h.extents }
 
-  within_call : (l : Layer) (r at : ℕ) (a : Action) (need : ℕ) → Within total low k l → Within total low k (added (with_room (with_cell l) r) at a need)
+  within_call : (l : Layer) (r at : ℕ) (a : Action) (need : ℕ) → Within total low k l → Within total low k (add_item (with_room (with_cell l) r) at a need)
   within_call l r at a need h = within_added (with_room (with_cell l) r) at a need (within_room (with_cell l) r (within_cell l h))
 
-  all_settled : (l : Layer) (ps : List Pending) (next : Option ℕ) → Within total low k l → Within total low k (settled_all l ps next).1
+  all_settled : (l : Layer) (ps : List Pending) (next : Option ℕ) → Within total low k l → Within total low k (add_items l ps next).1
   all_settled l [] next h = h
   all_settled l (p ∷ ps) next h = let f = all_settled l ps next h in record { routines = f.routines; frame = f.frame; extents = f.extents }
 
-  within_settled : (l : Layer) (next : Option ℕ) → Within total low k l → Within total low k (settled l next).1
+  within_settled : (l : Layer) (next : Option ℕ) → Within total low k l → Within total low k (settle_items l next).1
   within_settled l next h = all_settled (without_pending l) l.pending next (record { routines = h.routines; frame = h.frame; extents = h.extents })
 
   -- the routine of a body, once its own `var` parameters are counted

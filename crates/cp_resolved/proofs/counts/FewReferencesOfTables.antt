@@ -6,7 +6,7 @@ use Rattle.cp_text.specs.declared.token.Mark.TheVariants as mark
 use Rattle.cp_tree.specs.Syntax.{Part, Routine}
 use Rattle.cp_tree.specs.Spelling.{is_nameless, put_statements, put_named_routine, put_routine_by, put_all, put_identifier, put_part, put_body, put_routine_kind, put_routine}
 use Rattle.cp_tree.proofs.Grows.{grows_optional, grows_body, grows_statements, grows_named_routine}
-use Rattle.cp_layout.specs.LaidDeclarations.{Parameters, heading, heading_with, with_heading, with_new_frame, opened, local_parts, routine, initial_statement}
+use Rattle.cp_layout.specs.LaidDeclarations.{Parameters, heading, heading_with, with_heading, with_new_frame, open_routine, local_parts, routine, initial_statement}
 use Rattle.cp_resolved.specs.Begun.{all_begun}
 use Rattle.cp_resolved.specs.Held.{FewReferencesLaw}
 use Rattle.cp_resolved.proofs.counts.FewLocals.{heading_extended, parts_extended}
@@ -35,7 +35,7 @@ module _ (total : ℕ) where
   routine_by : (b : Bool) (l : Layer) (r : Routine) (rest : List Kind) → is_nameless r.kind ≡ b → IsKnownBy b r → Levels total (length (put_routine_by b r rest)) l → Levels total (length rest) (routine l r)
   routine_by true l r rest is known h =
       let high : ℕ = length (put_statements r.body.statements rest) in
-      let x : Layer = (opened l r.name.name).1 in
+      let x : Layer = (open_routine l r.name.name).1 in
       let g = heading x r.name.name r.kind in
       let k : Layer = with_heading g.1 g.0 in
       let m : Layer = local_parts k r.parts in
@@ -55,7 +55,7 @@ module _ (total : ℕ) where
       let b : List Kind = put_body r.body last in
       let inside : List Kind = put_all put_part r.parts b in
       let high : ℕ = length (put_named_routine r rest) in
-      let x : Layer = (opened l r.name.name).1 in
+      let x : Layer = (open_routine l r.name.name).1 in
       let g = heading x r.name.name r.kind in
       let k : Layer = with_heading g.1 g.0 in
       let m : Layer = local_parts k r.parts in

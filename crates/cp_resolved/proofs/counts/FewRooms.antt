@@ -6,8 +6,8 @@ use Rattle.cp_text.specs.declared.token.Mark.TheVariants as mark
 use Rattle.cp_tree.specs.Syntax as syntax
 use Rattle.cp_tree.specs.Spelling.{is_nameless, put_statements, put_named_routine, put_routine_by, put_all, put_identifier, put_part, put_body, put_routine_kind, put_routine, spell}
 use Rattle.cp_tree.proofs.Grows.{grows_optional, grows_body, grows_statements, grows_named_routine}
-use Rattle.cp_layout.specs.Layers.{Layer, frame_with, with_cell, with_room, settled, without_pending, added, routine_of, nothing_laid}
-use Rattle.cp_layout.specs.LaidDeclarations.{Parameters, body, heading, heading_with, with_heading, with_new_frame, opened, local_parts, routine, initial_statement, program}
+use Rattle.cp_layout.specs.Layers.{Layer, frame_with, with_cell, with_room, settle_items, without_pending, add_item, routine_of, nothing_laid}
+use Rattle.cp_layout.specs.LaidDeclarations.{Parameters, body, heading, heading_with, with_heading, with_new_frame, open_routine, local_parts, routine, initial_statement, program}
 use Rattle.cp_resolved.specs.Begun.{routine_begun, all_begun}
 use Rattle.cp_resolved.proofs.laid.Declares.{local_parts_declare, heading_declares}
 use Rattle.cp_resolved.proofs.counts.FewItems.{count, added_one, settled_same, body_few, said_body_few}
@@ -46,7 +46,7 @@ module _ (total low cells items : ℕ) where
   within_count : (l : Layer) (n : ℕ) → In l → In (with_count l n)
   within_count l n h = record { routines = h.routines; frame = h.frame; image = h.image }
 
-  within_added : (l : Layer) (at : ℕ) (a : Action) (need : ℕ) → In l → In (added l at a need)
+  within_added : (l : Layer) (at : ℕ) (a : Action) (need : ℕ) → In l → In (add_item l at a need)
   within_added l at a need h = let e = added_one l at a need in let i = h.image in record { routines = h.routines; frame = h.frame; image = omega (arith, e, i) }
 
   room_fits : (l : Layer) (r : ℕ) → Level total low l → l.frame.room + 8192 * low ≤ 8192 * total → (with_room l r).frame.room + 8192 * low ≤ 8192 * total
@@ -69,7 +69,7 @@ module _ (total low cells items : ℕ) where
       let i = h.image in
       record { routines = h.routines; frame = room_fits l r h.routines h.frame; image = omega (arith, e, i) }
 
-  within_call : (l : Layer) (r at : ℕ) (a : Action) (need : ℕ) → In l → In (added (with_room (with_cell l) r) at a need)
+  within_call : (l : Layer) (r at : ℕ) (a : Action) (need : ℕ) → In l → In (add_item (with_room (with_cell l) r) at a need)
   within_call l r at a need h =
       let m : Layer = with_room (with_cell l) r in
       let e = added_one m at a need in
@@ -78,16 +78,16 @@ module _ (total low cells items : ℕ) where
       let i = h.image in
       record { routines = h.routines; frame = room_fits (with_cell l) r h.routines h.frame; image = omega (arith, e, f, g, i) }
 
-  within_settled : (l : Layer) (next : Option ℕ) → In l → In (settled l next).1
+  within_settled : (l : Layer) (next : Option ℕ) → In l → In (settle_items l next).1
   within_settled l next h =
-      let e : (settled l next).1.frame ≡ l.frame = all_frame (without_pending l) l.pending next in
-      let rs : (settled l next).1.routines ≡ l.routines = ap (λ (j : Layer). j.routines) (settled_grew l next).1 in
+      let e : (settle_items l next).1.frame ≡ l.frame = all_frame (without_pending l) l.pending next in
+      let rs : (settle_items l next).1.routines ≡ l.routines = ap (λ (j : Layer). j.routines) (settled_grew l next).1 in
       let c = settled_same l next in
       let i = h.image in
       record {
         routines = subst (Each (Fits total low)) (sym rs) h.routines;
         frame = subst (λ f. f.room + 8192 * low ≤ 8192 * total) (sym e) h.frame;
-        image = subst (λ f. length f.image + items ≤ cells + count (settled l next).1) (sym e) (omega (arith, i, c));
+        image = subst (λ f. length f.image + items ≤ cells + count (settle_items l next).1) (sym e) (omega (arith, i, c));
       }
 
 -- the routine of a body, once its variables are counted
@@ -123,7 +123,7 @@ module _ (total : ℕ) where
   routine_by : (b : Bool) (l : Layer) (r : syntax.Routine) (rest : List Kind) → is_nameless r.kind ≡ b → IsKnownBy b r → SmallNames (routine_begun l r) → Levels total (length (put_routine_by b r rest)) l → Levels total (length rest) (routine l r)
   routine_by true l r rest is known s h =
       let high : ℕ = length (put_statements r.body.statements rest) in
-      let x : Layer = (opened l r.name.name).1 in
+      let x : Layer = (open_routine l r.name.name).1 in
       let g = heading x r.name.name r.kind in
       let k : Layer = with_heading g.1 g.0 in
       let m : Layer = local_parts k r.parts in
@@ -144,7 +144,7 @@ module _ (total : ℕ) where
       let b : List Kind = put_body r.body last in
       let inside : List Kind = put_all put_part r.parts b in
       let high : ℕ = length (put_named_routine r rest) in
-      let x : Layer = (opened l r.name.name).1 in
+      let x : Layer = (open_routine l r.name.name).1 in
       let g = heading x r.name.name r.kind in
       let k : Layer = with_heading g.1 g.0 in
       let m : Layer = local_parts k r.parts in

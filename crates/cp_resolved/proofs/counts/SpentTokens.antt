@@ -5,7 +5,7 @@ use Rattle.cp_text.specs.declared.token.Mark.TheVariants as mark
 use Rattle.cp_tree.specs.Syntax as syntax
 use Rattle.cp_tree.specs.Spelling.{put_optional, put_all, put_constant_definition, put_variable_group, put_part, put_group, put_type, put_body, put_routine, put_system, put_definition, put_system_definition, put_program_part, spell}
 use Rattle.cp_tree.proofs.Grows.{grows_all, grows_optional, grows_type, grows_constant_definition, grows_variable_group, grows_part, grows_group, grows_parameters}
-use Rattle.cp_layout.specs.LaidDeclarations.{constants, variables, Parameters, permanent_parts, routine, routines, initial_statement, system_groups, entered, system, definition, system_definition, system_definitions, program_part, program_parts, program}
+use Rattle.cp_layout.specs.LaidDeclarations.{constants, variables, Parameters, permanent_parts, routine, routines, initial_statement, system_groups, enter_system, system, definition, system_definition, system_definitions, program_part, program_parts, program}
 use Rattle.cp_resolved.specs.Begun.{routine_begun, routines_begun, initial_begun, parameters_of, system_begun, definition_begun, definitions_begun, part_begun, program_parts_begun, all_begun}
 use Rattle.cp_resolved.proofs.agreeing.AgreeingWritten.{each_left, each_right}
 use Rattle.cp_resolved.proofs.declarations.Nameless.{IsKnown, EachIn, EachInPart, EachRoutine}
@@ -34,7 +34,7 @@ module _ (G : ℕ → Layer → Type 0) (S : Layer → Type 0) (lower : (high lo
       let rs : List Kind = put_all put_routine y.routines b in
       let inside : List Kind = put_all put_part y.parts rs in
       let high : ℕ = length (put_system y rest) in
-      let o : Layer = (entered l).1 in
+      let o : Layer = (enter_system l).1 in
       let x = system_groups o [] y.parameters in
       let p : Layer = permanent_parts x.1 y.parts in
       let k : Layer = routines p y.routines in

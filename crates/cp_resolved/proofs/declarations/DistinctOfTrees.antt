@@ -7,7 +7,7 @@ use Rattle.cp_resolved.proofs.Words.{IsFreeParameter, no_left, no_right, no_firs
 use Rattle.cp_tree.specs.Syntax.{Group, ParameterGroup, RoutineKind, procedure, function, invariants, Routine, System, Definition, type_definition, system_definition, SystemDefinition, Part, ProgramPart, program_types, Program}
 use Rattle.cp_check.specs.declared.types.Spot.TheVariants as spot
 use Rattle.cp_check.specs.Headings as headings
-use Rattle.cp_check.specs.Headings.{Headed, after_faults, written, ruled, heading, announced, announced_of}
+use Rattle.cp_check.specs.Headings.{Headed, after_faults, parameters_and_result, check_heading, heading, announce, announce_judged}
 use Rattle.cp_check.specs.Routines as routines
 use Rattle.cp_check.specs.Systems as systems
 use Rattle.cp_lawful.proofs.Kept.{Keeps, same, after, names_reserved, all_added}
@@ -83,8 +83,8 @@ procedure_declares s (g ∷ gs) h =
     let d = headings.group_step g.is_var s g.group in
     then_declares s d.scopes (headings.parameter_steps d.scopes gs).scopes (names_of g.group.names) _ (group_declares s g.group.names _ (no_left (reserve_names s g.group.names).faults _ (no_left d.faults _ h))) (procedure_declares d.scopes gs (no_right d.faults _ h))
 
-kind_declares : (s : Scopes) (k : RoutineKind) → faults (written s k).result ≡ [] → Declares s (written s k).scopes (kind_names k)
-unfolding written
+kind_declares : (s : Scopes) (k : RoutineKind) → faults (parameters_and_result s k).result ≡ [] → Declares s (parameters_and_result s k).scopes (kind_names k)
+unfolding parameters_and_result
 kind_declares s (procedure gs) h = procedure_declares s gs (none_before (headings.parameter_steps s gs).faults _ h)
 kind_declares s (function gs i) h = function_declares s gs (none_before (headings.group_steps s gs).faults _ h)
 kind_declares s invariants h = procedure_declares s [] (none_before (headings.parameter_steps s []).faults _ h)
@@ -101,20 +101,20 @@ system_declares k s (g ∷ gs) h =
 parts_apart : (p : Spot) (s : Scopes) (ds : List Part) (xs : List Name) → (part_steps p s ds).faults ≡ [] → AreDistinct xs → AllKnown xs s → AreApart xs ds
 parts_apart p s ds xs h distinct known = record { parameters = distinct; others = each_other s xs (all_names part_names ds) (λ x k. parts_other x p s ds h k) known }
 
-announced_known : (r : Routine) (j : Judged (Option ValueType)) (s : Scopes) (xs : List Name) → AllKnown xs s → AllKnown xs (announced_of r j s)
-unfolding announced add_around keep
+announced_known : (r : Routine) (j : Judged (Option ValueType)) (s : Scopes) (xs : List Name) → AllKnown xs s → AllKnown xs (announce_judged r j s)
+unfolding announce add_around keep
 announced_known r (Ok v) s xs h = h
 announced_known r (Err fs) s xs h = h
 
 routine_distinct : (k : Option SystemKind) (s : Scopes) (r : Routine) → (routine_step k s r).faults ≡ [] → IsDistinctRoutine r
-unfolding routine_step routines.opened heading
+unfolding routine_step routines.enter_routine heading
 routine_distinct k s r h =
     let b = reserve_name s r.name in
-    let w : Headed = written (enter false b.scopes) r.kind in
+    let w : Headed = parameters_and_result (enter false b.scopes) r.kind in
     let hd : Headed = heading k r b in
-    let a : Scopes = announced_of r hd.result hd.scopes in
+    let a : Scopes = announce_judged r hd.result hd.scopes in
     let j : Judged (Option ValueType) = after_faults b.faults w.result in
-    let none : faults w.result ≡ [] = none_after b.faults w.result (no_first j (ruled k r) (no_left (faults hd.result) _ h)) in
+    let none : faults w.result ≡ [] = none_after b.faults w.result (no_first j (check_heading k r) (no_left (faults hd.result) _ h)) in
     let declares : Declares (enter false b.scopes) w.scopes (kind_names r.kind) = kind_declares (enter false b.scopes) r.kind none in
     parts_apart spot.Other a r.parts (kind_names r.kind) (none_before (part_steps spot.Other a r.parts).faults _ (no_right (faults hd.result) _ h)) declares.distinct (announced_known r hd.result w.scopes (kind_names r.kind) declares.known)
 
@@ -134,7 +134,7 @@ system_distinct s y h =
     let declares : Declares s a.scopes (parameter_names y) = system_declares y.kind s y.parameters (no_left a.faults _ h) in
     (parts_apart (spot.Permanent (Some y.kind)) a.scopes y.parts (parameter_names y) (no_left b.faults _ rest) declares.distinct declares.known, routines_distinct (Some y.kind) b.scopes y.routines (no_right b.faults _ rest))
 
-definition_distinct : (s : Scopes) (v : Definition) → faults (systems.defined s v).type ≡ [] → IsDistinctDefinition v
+definition_distinct : (s : Scopes) (v : Definition) → faults (systems.type_of_definition s v).type ≡ [] → IsDistinctDefinition v
 definition_distinct s (type_definition t) h = tt
 definition_distinct s (system_definition y) h = system_distinct (enter true s) y (inside_sound s y h)
 

@@ -15,7 +15,7 @@ use Rattle.cp_resolved.proofs.declarations.OnceRoutines.{routines_once}
 
 -- ---- routines
 
-definition_once : (s : Scopes) (v : Definition) → faults (systems.defined s v).type ≡ [] → IsOnceDefinition v
+definition_once : (s : Scopes) (v : Definition) → faults (systems.type_of_definition s v).type ≡ [] → IsOnceDefinition v
 unfolding systems.inside
 definition_once s (type_definition t) h = tt
 definition_once s (system_definition y) h =

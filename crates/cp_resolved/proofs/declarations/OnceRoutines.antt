@@ -5,7 +5,7 @@ use Rattle.cp_resolved.proofs.Words.{routine_step, routine_steps, Name, same_nam
 use Rattle.cp_scope.specs.declared.types.Meaning.TheVariants as meaning
 use Rattle.cp_scope.specs.Scopes.{Names, Scope, Scopes, find, with_name, without_meaning, sealed, settle, enter, Around, last_of, leave, add_around, keep}
 use Rattle.cp_check.specs.declared.types.Spot.TheVariants as spot
-use Rattle.cp_check.specs.Headings.{Headed, after_faults, written, ruled, heading, announced, announced_of}
+use Rattle.cp_check.specs.Headings.{Headed, after_faults, parameters_and_result, check_heading, heading, announce, announce_judged}
 use Rattle.cp_check.specs.Routines as routines
 use Rattle.cp_lawful.proofs.Classes.{reserved_names, reserved_new, last_found}
 use Rattle.cp_lawful.proofs.Kept.{find_before, last_is, written_kept, parts_kept}
@@ -55,29 +55,29 @@ known_without x n (d ∷ ds) h = one (bytes_eq n d.0) (known_without x n ds)
 pub routine_new : (k : Option SystemKind) (s : Scopes) (r : Routine) → (routine_step k s r).faults ≡ [] → is_some (find r.name.name s.inner.names) ≡ false
 unfolding routine_step heading
 routine_new k s r h =
-    let w : Headed = written (enter false (reserve_name s r.name).scopes) r.kind in
+    let w : Headed = parameters_and_result (enter false (reserve_name s r.name).scopes) r.kind in
     let j : Judged (Option ValueType) = after_faults (reserve_name s r.name).faults w.result in
-    reserved_new s r.name (none_before (reserve_name s r.name).faults w.result (no_first j (ruled k r) (no_left (faults (heading k r (reserve_name s r.name)).result) _ h)))
+    reserved_new s r.name (none_before (reserve_name s r.name).faults w.result (no_first j (check_heading k r) (no_left (faults (heading k r (reserve_name s r.name)).result) _ h)))
 
--- the scope around a routine, once the routine is announced there
-announced_inner : (r : Routine) (j : Judged (Option ValueType)) (s : Scopes) (cs : List Scope) (t : Scope) → s.outer ≡ cs ++ t ∷ [] → (m : Option Meaning) × ((last_of (announced_of r j s).outer).inner ≡ with_name t r.name.name m)
-unfolding announced add_around keep
+-- the scope around a routine, once the routine is announce there
+announced_inner : (r : Routine) (j : Judged (Option ValueType)) (s : Scopes) (cs : List Scope) (t : Scope) → s.outer ≡ cs ++ t ∷ [] → (m : Option Meaning) × ((last_of (announce_judged r j s).outer).inner ≡ with_name t r.name.name m)
+unfolding announce add_around keep
 announced_inner r (Ok v) s cs t e =
     (Some (meaning.Routine r.name.at), ap (λ (a : Around). a.inner) (last_is (last_of s.outer).outer _) ∙ ap (λ (a : Around). with_name a.inner r.name.name (Some (meaning.Routine r.name.at))) (ap last_of e ∙ last_is cs t))
 announced_inner r (Err fs) s cs t e = (None, ap (λ (a : Around). a.inner) (last_is (last_of s.outer).outer _) ∙ ap (λ (a : Around). with_name a.inner r.name.name None) (ap last_of e ∙ last_is cs t))
 
-closed_known : (r : Routine) (j : Judged (Option ValueType)) (u : Judged Use) (s : Scopes) (x : Name) → IsKnown x (last_of s.outer).inner.names → IsKnown x (routines.closed_of r j u s).inner.names
-unfolding routines.closed settle keep leave
+closed_known : (r : Routine) (j : Judged (Option ValueType)) (u : Judged Use) (s : Scopes) (x : Name) → IsKnown x (last_of s.outer).inner.names → IsKnown x (routines.close_routine_of r j u s).inner.names
+unfolding routines.close_routine settle keep leave
 closed_known r (Ok v) (Err fs) s x h = known_without x r.name.name (last_of s.outer).inner.names h
 closed_known r _ _ s x h = h
 
 -- and it is known after it, with those before
 pub routine_known : (k : Option SystemKind) (s : Scopes) (r : Routine) (x : Name) → (IsKnown x s.inner.names) ⊎ (x ≡ r.name.name) → IsKnown x (routine_step k s r).scopes.inner.names
-unfolding routine_step routines.opened heading enter
+unfolding routine_step routines.enter_routine heading enter
 routine_known k s r x h =
     let b : Scopes = (reserve_name s r.name).scopes in
     let hd : Headed = heading k r (reserve_name s r.name) in
-    let a : Scopes = announced_of r hd.result hd.scopes in
+    let a : Scopes = announce_judged r hd.result hd.scopes in
     let named = announced_inner r hd.result hd.scopes b.outer (sealed false b.inner) (written_kept (enter false b) r.kind).outer in
     let around : (last_of (part_steps spot.Other a r.parts).scopes.outer).inner ≡ with_name (sealed false b.inner) r.name.name named.0 = ap (λ (cs : List Scope). (last_of cs).inner) (parts_kept spot.Other a r.parts).outer ∙ named.1 in
     closed_known r hd.result _ (part_steps spot.Other a r.parts).scopes x (ap (λ (c : Scope). is_some (find x c.names)) around ∙ known_named (sealed false b.inner) x r.name.name named.0 (go h))

@@ -9,8 +9,8 @@ use Rattle.cp_scope.specs.declared.types.Base.{Base}
 use Rattle.cp_scope.specs.declared.types.Meaning.TheVariants as meaning
 use Rattle.cp_scope.specs.Scopes.{Scope, new_scope, Scopes, find, is_among, is_declared, is_declared_in, with_pending, add, reserve, Names}
 use Rattle.cp_check.specs.declared.types.Spot.TheVariants as spot
-use Rattle.cp_check.specs.Records.{Fields, sound, reserve_fields}
-use Rattle.cp_check.specs.Types.{Step, nothing, member, members, base_of, simple_typed, arrayed, to_array, set_of, simple_at, shaped, recorded, to_record, typed, groups_typed, group_typed}
+use Rattle.cp_check.specs.Records.{Fields, check_fields, reserve_fields}
+use Rattle.cp_check.specs.Types.{Step, nothing, member, members, base_of, simple_type, shape_of_array, to_array, set_of, simple_at, shape_within_limits, sound_shape, to_record, typed, groups_typed, group_typed}
 use Rattle.cp_check.specs.Declarations.{reserve_name, reserve_names, add_names, to_kind, to_variable, constant_step, constant_steps, type_step, type_steps, variable_step, variable_steps, part_step, part_steps}
 use Rattle.cp_lawful.proofs.Classes.{reserved_names, reserved_new}
 use Rattle.cp_lawful.proofs.Kept.{Keeps, names_added, added, name_reserved, names_reserved, constants_kept, type_kept, types_kept, variable_kept, part_kept}
@@ -138,14 +138,14 @@ module _ (x : Name) where
       let one = member_other s b k i (no_left (member s b k i).faults _ h) known in
       (one.0, members_other (member s b k i).scopes b (k + 1) is (no_right (member s b k i).faults _ h) one.1)
 
-  simple_other : (s : Scopes) (p : Spot) (t : Simple) → faults (simple_typed s p t).type ≡ [] → IsHere s → IsOther x (simple_names t)
-  unfolding simple_typed
+  simple_other : (s : Scopes) (p : Spot) (t : Simple) → faults (simple_type s p t).type ≡ [] → IsHere s → IsOther x (simple_names t)
+  unfolding simple_type
   simple_other s p (enumeration at is) h known = members_other s (base_of at is) 0 is (no_faults (members s (base_of at is) 0 is).faults _ h) known
   simple_other s p _ h known = tt
 
-  simple_stays : (s : Scopes) (p : Spot) (t : Simple) → IsHere s → IsHere (simple_typed s p t).scopes
+  simple_stays : (s : Scopes) (p : Spot) (t : Simple) → IsHere s → IsHere (simple_type s p t).scopes
   unfolding typed
-  simple_stays s p t h = stays_known s (simple_typed s p t).scopes (type_kept s p (simple 0 t)) h
+  simple_stays s p t h = stays_known s (simple_type s p t).scopes (type_kept s p (simple 0 t)) h
 
   mutual
     unfolding typed
@@ -153,15 +153,15 @@ module _ (x : Name) where
     type_other : (s : Scopes) (p : Spot) (t : TypeTerm) → faults (typed s p t).type ≡ [] → IsHere s → IsOther x (type_names t)
     type_other s p (simple at t) h known = simple_other s p t h known
     type_other s p (array_of at i e) h known =
-        let a = simple_typed s spot.Other i in
+        let a = simple_type s spot.Other i in
         let b = typed a.scopes spot.Element e in
         let j : Judged (ValueType × ValueType) = both a.type b.type in
-        let none = none_of_both a.type b.type (no_first j (arrayed b.scopes p at) (no_first (j >>= arrayed b.scopes p at) (to_array at) h)) in
+        let none = none_of_both a.type b.type (no_first j (shape_of_array b.scopes p at) (no_first (j >>= shape_of_array b.scopes p at) (to_array at) h)) in
         others (simple_names i) (type_names e) (simple_other s spot.Other i none.0 known) (type_other a.scopes spot.Element e none.1 (simple_stays s spot.Other i known))
-    type_other s p (set_type at t) h known = simple_other s spot.Base t (no_first (simple_typed s spot.Base t).type (set_of at (simple_at t)) h) known
+    type_other s p (set_type at t) h known = simple_other s spot.Base t (no_first (simple_type s spot.Base t).type (set_of at (simple_at t)) h) known
     type_other s p (record_of at gs b) h known =
         let f : Fields = groups_typed new_scope s gs in
-        groups_other new_scope s gs (no_field_faults f.faults f.fields (no_first (sound f) (shaped f.scopes at) (no_first (recorded at f) (to_record at) h))) known
+        groups_other new_scope s gs (no_field_faults f.faults f.fields (no_first (check_fields f) (shape_within_limits f.scopes at) (no_first (sound_shape at f) (to_record at) h))) known
 
     groups_other : (f : Scope) (s : Scopes) (gs : FieldGroups) → (groups_typed f s gs).faults ≡ [] → IsHere s → IsOther x (groups_names gs)
     groups_other f s no_fields h known = tt

@@ -156,7 +156,7 @@ system_declares s y around h =
     let all : AreHeld permanent_variable b.scopes d.scope (pre ++ d.variables) = parts_held permanent_variable pre p a.scopes c y.parts (no_left b.faults _ rest) (subst (AreHeld permanent_variable a.scopes j.scope) (sym (append-nil pre)) first) in
     held_declared permanent_variable b.scopes d.scope (with_routines d.scope y.routines) (pre ++ d.variables) (routines_stay (Some y.kind) b.scopes d.scope y.routines (no_right b.faults _ rest)) all
 
-definition_declares : (s : Scopes) (d : Declared) (n : syntax.SystemDefinition) (v : syntax.Definition) → faults (systems.defined s v).type ≡ [] → Each HasOwn d.systems → Each HasOwn (definition_in d n v).systems
+definition_declares : (s : Scopes) (d : Declared) (n : syntax.SystemDefinition) (v : syntax.Definition) → faults (systems.type_of_definition s v).type ≡ [] → Each HasOwn d.systems → Each HasOwn (definition_in d n v).systems
 definition_declares s d n (syntax.type_definition t) h all = all
 definition_declares s d n (syntax.system_definition y) h all = each_both HasOwn d.systems (system_in (seen_inside d.scope) y ∷ []) all (system_declares (enter true s) y (seen_inside d.scope) (inside_sound s y h), tt)
 

@@ -10,8 +10,8 @@ use Rattle.cp_scope.specs.declared.types.Parameter.{Parameter}
 use Rattle.cp_scope.specs.Scopes.{Names, Scope, new_scope, Scopes, Shape, or_else, find, is_declared, parameter_in, parameters_in, with_some, with_name, add, reserve, settle, keep}
 use Rattle.cp_check.specs.declared.types.Spot.TheVariants as spot
 use Rattle.cp_check.specs.Constants.{constant}
-use Rattle.cp_check.specs.Types.{Step, nothing, member, members, simple_typed, keep_array, keep_record, typed, groups_typed, group_typed}
-use Rattle.cp_check.specs.Declarations.{as_declared, reserve_name, reserve_names, add_names, add_all, add_one, to_constant, to_kind, to_variable, constant_step, constant_steps, type_step, type_steps, variable_step, variable_steps, part_step, part_steps}
+use Rattle.cp_check.specs.Types.{Step, nothing, member, members, simple_type, keep_array, keep_record, typed, groups_typed, group_typed}
+use Rattle.cp_check.specs.Declarations.{meaning_or_none, reserve_name, reserve_names, add_names, add_all, add_one, to_constant, to_kind, to_variable, constant_step, constant_steps, type_step, type_steps, variable_step, variable_steps, part_step, part_steps}
 use Rattle.cp_lawful.proofs.Kept.{pending_names}
 use Rattle.cp_resolved.proofs.agreeing.AgreeingParameters.{read_both}
 
@@ -155,15 +155,15 @@ one_added_read s n o e = (let r : Reads s (add s n.name o) = added_read s n.name
 
 -- ---- what declarations declare
 
-no_constant : (j : Judged ConstantNumber) → IsDeclared (as_declared (j >>= to_constant))
+no_constant : (j : Judged ConstantNumber) → IsDeclared (meaning_or_none (j >>= to_constant))
 no_constant (Ok n) = tt
 no_constant (Err fs) = tt
 
-no_kind : (j : Judged ValueType) → IsDeclared (as_declared (j >>= to_kind))
+no_kind : (j : Judged ValueType) → IsDeclared (meaning_or_none (j >>= to_kind))
 no_kind (Ok v) = tt
 no_kind (Err fs) = tt
 
-no_variable : (j : Judged ValueType) → IsDeclared (as_declared (j >>= to_variable))
+no_variable : (j : Judged ValueType) → IsDeclared (meaning_or_none (j >>= to_variable))
 no_variable (Ok v) = tt
 no_variable (Err fs) = tt
 
@@ -189,8 +189,8 @@ unfolding members
 members_read s b k [] = same s.inner s.inner refl
 members_read s b k (i ∷ is) = after s.inner (member s b k i).scopes.inner _ (members_read (member s b k i).scopes b (k + 1) is) (member_read s b k i)
 
-simple_read : (s : Scopes) (p : Spot) (t : Simple) → Reads s (simple_typed s p t).scopes
-unfolding simple_typed
+simple_read : (s : Scopes) (p : Spot) (t : Simple) → Reads s (simple_type s p t).scopes
+unfolding simple_type
 simple_read s p (enumeration at is) = members_read s _ 0 is
 simple_read s p _ = same s.inner s.inner refl
 
@@ -210,7 +210,7 @@ mutual
   type_read : (s : Scopes) (p : Spot) (t : TypeTerm) → Reads s (typed s p t).scopes
   type_read s p (simple at t) = simple_read s p t
   type_read s p (array_of at i e) =
-      let u : Scopes = (simple_typed s spot.Other i).scopes in
+      let u : Scopes = (simple_type s spot.Other i).scopes in
       let t : Scopes = (typed u spot.Element e).scopes in
       after s.inner t.inner _ (array_read t at _) (after s.inner u.inner t.inner (type_read u spot.Element e) (simple_read s spot.Other i))
   type_read s p (set_type at b) = simple_read s spot.Base b

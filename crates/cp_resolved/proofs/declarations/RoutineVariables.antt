@@ -1,13 +1,13 @@
 -- The parameters and variables of each routine of a tree that breaks no rule have different names, and each is visible where its statements stand (C2);
 -- and where the tree was read, none of them has queues or components.
 use Rattle.std.proofs.Common.{◌≡◌, ℕ, zero, suc, Bool, true, false, List, [], ◌∷◌, ◌++◌, length, Option, Some, None, Ok, slice_get, sym, ap, subst, ◌∙◌, append-nil}
-use Rattle.cp_resolved.proofs.Words.{SystemKind, ValueType, no_use, ◌>>=◌, faults, Scopes, enter, start, Step, as_declared, reserve_name, reserve_names, part_steps}
+use Rattle.cp_resolved.proofs.Words.{SystemKind, ValueType, no_use, ◌>>=◌, faults, Scopes, enter, start, Step, meaning_or_none, reserve_name, reserve_names, part_steps}
 use Rattle.cp_resolved.proofs.Words.{faults_of, declarations, IsAccepted, local_variable, seen_inside, parameter_variables, nothing_declared, AreDeclared}
 use Rattle.cp_resolved.proofs.Words.{routine_variables, IsRead, initial_meaning, Each, IsFreeVariable, IsFreeParameter}
 use Rattle.cp_tree.specs.Syntax.{Group, ParameterGroup, RoutineKind, procedure, function, invariants, Routine, Definition, type_definition, system_definition, SystemDefinition, ProgramPart, program_types, Program, Tree}
 use Rattle.cp_check.specs.declared.types.Spot.TheVariants as spot
 use Rattle.cp_check.specs.Headings as headings
-use Rattle.cp_check.specs.Headings.{after_faults, Headed, written, heading, announced_of}
+use Rattle.cp_check.specs.Headings.{after_faults, Headed, parameters_and_result, heading, announce_judged}
 use Rattle.cp_check.specs.Routines as routines
 use Rattle.cp_check.specs.Routines.{routine_context, routine_step, routine_steps}
 use Rattle.cp_check.specs.Statements.{statements}
@@ -37,7 +37,7 @@ group_seen_in : (is_var : Bool) (s : Scopes) (h : Heading) (g : Group) → (head
 unfolding headings.group_step
 group_seen_in is_var s h g none i =
     let j = headings.parameter_type (reserve_names s g.names).scopes g >>= headings.to_parameter is_var in
-    parameters_held local_variable is_var s h g (as_declared j) (none_left (reserve_names s g.names).faults (faults j) none) i
+    parameters_held local_variable is_var s h g (meaning_or_none j) (none_left (reserve_names s g.names).faults (faults j) none) i
 
 groups_seen : (s : Scopes) (h : Heading) (gs : List Group) → (headings.group_steps s gs).faults ≡ [] → AreSeen s h → AreSeen (headings.group_steps s gs).scopes (with_groups local_variable h gs)
 unfolding headings.group_steps
@@ -54,8 +54,8 @@ parameters_seen s h (g ∷ gs) none i =
     parameters_seen t (with_group local_variable g.is_var h g.group) gs (none_right (headings.parameter_step s g).faults (headings.parameter_steps t gs).faults none)
     (group_seen_in g.is_var s h g.group (none_left (headings.parameter_step s g).faults (headings.parameter_steps t gs).faults none) i)
 
-written_seen : (s : Scopes) (m : scopes.Scope) (k : RoutineKind) → faults (written s k).result ≡ [] → AreSeen (written s k).scopes (heading_of m k)
-unfolding headings.written
+written_seen : (s : Scopes) (m : scopes.Scope) (k : RoutineKind) → faults (parameters_and_result s k).result ≡ [] → AreSeen (parameters_and_result s k).scopes (heading_of m k)
+unfolding headings.parameters_and_result
 written_seen s m (procedure gs) none = parameters_seen s (record { parameters = []; scope = m }) gs (none_before {A = Option ValueType} (headings.parameter_steps s gs).faults (Ok None) none) (tt, tt)
 written_seen s m (function gs i) none =
     let d : Step = headings.group_steps s gs in
@@ -68,19 +68,19 @@ abbrev HasDeclared : RoutineMeaning → Type 0
 HasDeclared m = AreDeclared local_variable m.scope (routine_variables m)
 
 routine_declared : (owner : Option SystemKind) (s : Scopes) (m : scopes.Scope) (r : Routine) → (routine_step owner s r).faults ≡ [] → HasDeclared (routine_in (with_routine m r) r)
-unfolding routine_step heading routines.opened
+unfolding routine_step heading routines.enter_routine
 routine_declared owner s m r none =
     let d : Step = reserve_name s r.name in
-    let w : Headed = written (enter false d.scopes) r.kind in
+    let w : Headed = parameters_and_result (enter false d.scopes) r.kind in
     let hd : Headed = heading owner r d in
-    let a : Scopes = announced_of r hd.result w.scopes in
+    let a : Scopes = announce_judged r hd.result w.scopes in
     let b : Step = part_steps spot.Other a r.parts in
     let h : Heading = heading_of (with_routine m r) r.kind in
     let qs : List Variable = parameter_variables h.parameters in
-    let first : faults hd.result ≡ [] = none_left (faults hd.result) (faults (routines.opened owner r a).uses) none in
-    let second : faults (after_faults d.faults w.result) ≡ [] = none_first (after_faults d.faults w.result) (headings.ruled owner r) first in
+    let first : faults hd.result ≡ [] = none_left (faults hd.result) (faults (routines.enter_routine owner r a).uses) none in
+    let second : faults (after_faults d.faults w.result) ≡ [] = none_first (after_faults d.faults w.result) (headings.check_heading owner r) first in
     let third : faults w.result ≡ [] = ap faults (sym (none_after d.faults w.result second)) ∙ second in
-    let fourth : b.faults ≡ [] = none_before b.faults (statements b.scopes (routine_context owner r) (Ok no_use) r.body.statements) (none_right (faults hd.result) (faults (routines.opened owner r a).uses) none) in
+    let fourth : b.faults ≡ [] = none_before b.faults (statements b.scopes (routine_context owner r) (Ok no_use) r.body.statements) (none_right (faults hd.result) (faults (routines.enter_routine owner r a).uses) none) in
     let before : AreHeld local_variable a h.scope qs =
     subst (λ (ds : Names). AreDifferent qs × Each (λ (v : Variable). (scopes.find v.name h.scope ≡ Some (local_variable v.ty)) × IsKnown v.name ds) qs) (sym (announced_names r hd.result w.scopes)) (written_seen (enter false d.scopes) (with_routine m r) r.kind third) in
     let block : Block = parts_in local_variable (record { variables = []; scope = h.scope }) r.parts in
@@ -99,7 +99,7 @@ routines_declared owner n s m (r ∷ rs) none =
     let t : Scopes = (routine_step owner s r).scopes in
     (routine_declared owner s m r (none_left (routine_step owner s r).faults (routine_steps owner t rs).faults none), routines_declared owner n t (with_routine m r) rs (none_right (routine_step owner s r).faults (routine_steps owner t rs).faults none))
 
-definition_declared : (s : Scopes) (d : Declared) (v : Definition) → faults (systems.defined s v).type ≡ [] → Each OfOpening (definition_openings d v)
+definition_declared : (s : Scopes) (d : Declared) (v : Definition) → faults (systems.type_of_definition s v).type ≡ [] → Each OfOpening (definition_openings d v)
 unfolding systems.inside
 definition_declared s d (type_definition t) none = tt
 definition_declared s d (system_definition y) none =

@@ -9,7 +9,7 @@ use Rattle.cp_scope.specs.declared.types.Base as checked_base
 use Rattle.cp_scope.specs.declared.types.Meaning.TheVariants as checked_meaning
 use Rattle.cp_scope.specs.Scopes as checked
 use Rattle.cp_check.specs.declared.types.Spot.TheVariants as spot
-use Rattle.cp_check.specs.Records.{Fields, sound_of, reserve_fields}
+use Rattle.cp_check.specs.Records.{Fields, check_fields_of, reserve_fields}
 use Rattle.cp_check.specs.Systems as systems
 use Rattle.cp_check.specs.Types as typing
 use Rattle.cp_lawful.proofs.Kept.{Keeps, added, name_reserved, type_kept, constants_kept, types_kept, definition_kept}
@@ -77,12 +77,12 @@ pub no_faults : (fs : List CheckFault) (v : ValueType) → faults (typing.unless
 no_faults [] v h = refl
 no_faults (f ∷ fs) v h = h
 
-pub no_field_faults : (fs : List CheckFault) (f : checked.Scope) → faults (sound_of fs f) ≡ [] → fs ≡ []
+pub no_field_faults : (fs : List CheckFault) (f : checked.Scope) → faults (check_fields_of fs f) ≡ [] → fs ≡ []
 no_field_faults [] f h = refl
 no_field_faults (e ∷ es) f h = h
 
-simple_stays : (s : Scopes) (c : Scope) (p : Spot) (t : syntax.Simple) → faults (typing.simple_typed s p t).type ≡ [] → Stays s c (simple_in c t).1
-unfolding typing.simple_typed
+simple_stays : (s : Scopes) (c : Scope) (p : Spot) (t : syntax.Simple) → faults (typing.simple_type s p t).type ≡ [] → Stays s c (simple_in c t).1
+unfolding typing.simple_type
 simple_stays s c p (syntax.enumeration at is) h = members_stay s (typing.base_of at is) 0 is c (enumerated at (names_of is)) 0 (no_faults _ _ h)
 simple_stays s c p _ h = stays_same s c
 
@@ -92,15 +92,15 @@ mutual
   pub type_stays : (s : Scopes) (c : Scope) (p : Spot) (t : syntax.TypeTerm) → faults (typed s p t).type ≡ [] → Stays s c (type_in c t).1
   type_stays s c p (syntax.simple at t) h = simple_stays s c p t h
   type_stays s c p (syntax.array_of at i e) h =
-      let u : Typed = typing.simple_typed s spot.Other i in
+      let u : Typed = typing.simple_type s spot.Other i in
       let v : Typed = typed u.scopes spot.Element e in
-      let none = none_of_both u.type v.type (no_first (both u.type v.type) (typing.arrayed v.scopes p at) (no_first (both u.type v.type >>= typing.arrayed v.scopes p at) (typing.to_array at) h)) in
+      let none = none_of_both u.type v.type (no_first (both u.type v.type) (typing.shape_of_array v.scopes p at) (no_first (both u.type v.type >>= typing.shape_of_array v.scopes p at) (typing.to_array at) h)) in
       let d : Scope = (simple_in c i).1 in
       stays_then s u.scopes c d (type_in d e).1 (type_kept s spot.Other (syntax.simple at i)) (simple_stays s c spot.Other i none.0) (type_stays u.scopes d spot.Element e none.1)
-  type_stays s c p (syntax.set_type at b) h = simple_stays s c spot.Base b (no_first (typing.simple_typed s spot.Base b).type (typing.set_of at (typing.simple_at b)) h)
+  type_stays s c p (syntax.set_type at b) h = simple_stays s c spot.Base b (no_first (typing.simple_type s spot.Base b).type (typing.set_of at (typing.simple_at b)) h)
   type_stays s c p (syntax.record_of at gs b) h =
       let f : Fields = typing.groups_typed new_scope s gs in
-      let none : f.faults ≡ [] = no_field_faults f.faults f.fields (no_first (sound_of f.faults f.fields) (typing.shaped f.scopes at) (no_first (typing.recorded at f) (typing.to_record at) h)) in
+      let none : f.faults ≡ [] = no_field_faults f.faults f.fields (no_first (check_fields_of f.faults f.fields) (typing.shape_within_limits f.scopes at) (no_first (typing.sound_shape at f) (typing.to_record at) h)) in
       fields_stay new_scope s c gs none
 
   fields_stay : (f : checked.Scope) (s : Scopes) (c : Scope) (gs : syntax.FieldGroups) → (typing.groups_typed f s gs).faults ≡ [] → Stays s c (fields_in c gs).1
@@ -139,8 +139,8 @@ routines_stay k s c (r ∷ rs) h =
 
 -- ---- types and system types of the program
 
-defined_stays : (s a : Scopes) (d : Declared) (n : syntax.SystemDefinition) (v : syntax.Definition) → Keeps s a → is_some (checked.find n.name.name s.inner.names) ≡ false → faults (systems.defined a v).type ≡ [] → Stays s d.scope (definition_in d n v).scope
-unfolding systems.defined
+defined_stays : (s a : Scopes) (d : Declared) (n : syntax.SystemDefinition) (v : syntax.Definition) → Keeps s a → is_some (checked.find n.name.name s.inner.names) ≡ false → faults (systems.type_of_definition a v).type ≡ [] → Stays s d.scope (definition_in d n v).scope
+unfolding systems.type_of_definition
 defined_stays s a d n (syntax.type_definition t) k new h = stays_added s n.name.name (type_meaning (type_in d.scope t).0) d.scope (type_in d.scope t).1 new (written_stays s a d.scope spot.Definition t k h)
 defined_stays s a d n (syntax.system_definition y) k new h = stays_added s n.name.name _ d.scope d.scope new (stays_same s d.scope)
 
@@ -148,7 +148,7 @@ definition_stays : (s : Scopes) (d : Declared) (n : syntax.SystemDefinition) →
 unfolding systems.definition_step
 definition_stays s d n h =
     let a : Scopes = (reserve_name s n.name).scopes in
-    let t : Typed = systems.defined a n.value in
+    let t : Typed = systems.type_of_definition a n.value in
     defined_stays s a d n n.value (name_reserved s n.name) (reserved_new s n.name (no_left (reserve_name s n.name).faults _ h)) (no_first t.type to_kind (no_right (reserve_name s n.name).faults _ h))
 
 pub definitions_stay : (s : Scopes) (d : Declared) (ns : List syntax.SystemDefinition) → (systems.definition_steps s ns).faults ≡ [] → Stays s d.scope (definitions_in d ns).scope

@@ -57,17 +57,17 @@ module _ (tokens : Tokens) (s : Scopes) (h : Here) (w : Context) (agrees : Scope
       (subst (VariableForm W v) (sym (is.value at (name_with i ss) o f)) (held_variable (find i.name h.scope) (last_field ss) v o k (free_place v a)))
 
   -- a parameter that is handed over as a value is not assigned to
-  value_held : (at : ℕ) (i : Identifier) (ss : Selectors) (d : check_designated.DesignatedName) (n : Named) (c : Option Designated) (f : Option Formed) (o : Operand) → NamedIs tokens s h i.name (find i.name h.scope) (last_field ss) n c → calls.value_named s w at d [] n ≡ Ok o → is_assignable o.place ≡ true →
+  value_held : (at : ℕ) (i : Identifier) (ss : Selectors) (d : check_designated.DesignatedName) (n : Named) (c : Option Designated) (f : Option Formed) (o : Operand) → NamedIs tokens s h i.name (find i.name h.scope) (last_field ss) n c → calls.value_by_name s w at d [] n ≡ Ok o → is_assignable o.place ≡ true →
       VariableForm W o.value_type (named_form h at (name_with i ss) (is_call_meant (find i.name h.scope) (last_field ss)) (find i.name h.scope) c f)
   value_held at i ss d (name.Variable v) c f o k is a =
-      let same : calls.placed at v (calls.place_of s v) d.uses ≡ o = ok_same (calls.placed at v (calls.place_of s v) d.uses) o is in
+      let same : calls.operand_at at v (calls.place_of s v) d.uses ≡ o = ok_same (calls.operand_at at v (calls.place_of s v) d.uses) o is in
       subst (λ (z : Operand). VariableForm W z.value_type (named_form h at (name_with i ss) (is_call_meant (find i.name h.scope) (last_field ss)) (find i.name h.scope) c f)) same
       (variable_held at i ss v c f k (ap (λ (z : Operand). is_assignable z.place) same ∙ a))
-  value_held at i ss d (name.Parameter v) c f o k is a = absurd (let bad : false ≡ true = ap (λ (z : Operand). is_assignable z.place) (ok_same (calls.placed at v place.Fixed d.uses) o is) ∙ a in cc)
-  value_held at i ss d (name.Constant b) c f o k is a = absurd (none_made (calls.value_named s w at d [] (name.Constant b)) o (alone_made (value at (values_of b) d.uses) [] refl) is (assigned_stored o.place a))
-  value_held at i ss d (name.Predeclared p) c f o k is a = absurd (none_made (calls.value_named s w at d [] (name.Predeclared p)) o (applied_made at p [] (calls.total_use d.uses [])) is (assigned_stored o.place a))
-  value_held at i ss d (name.Routine n) c f o k is a = absurd (none_made (calls.value_named s w at d [] (name.Routine n)) o (call_made s w at d.name_at true n [] d.uses) is (assigned_stored o.place a))
-  value_held at i ss d (name.Entry n) c f o k is a = absurd (none_made (calls.value_named s w at d [] (name.Entry n)) o (call_made s w at d.name_at false n [] d.uses) is (assigned_stored o.place a))
+  value_held at i ss d (name.Parameter v) c f o k is a = absurd (let bad : false ≡ true = ap (λ (z : Operand). is_assignable z.place) (ok_same (calls.operand_at at v place.Fixed d.uses) o is) ∙ a in cc)
+  value_held at i ss d (name.Constant b) c f o k is a = absurd (none_made (calls.value_by_name s w at d [] (name.Constant b)) o (alone_made (value at (values_of b) d.uses) [] refl) is (assigned_stored o.place a))
+  value_held at i ss d (name.Predeclared p) c f o k is a = absurd (none_made (calls.value_by_name s w at d [] (name.Predeclared p)) o (applied_made at p [] (calls.total_use d.uses [])) is (assigned_stored o.place a))
+  value_held at i ss d (name.Routine n) c f o k is a = absurd (none_made (calls.value_by_name s w at d [] (name.Routine n)) o (call_made s w at d.name_at true n [] d.uses) is (assigned_stored o.place a))
+  value_held at i ss d (name.Entry n) c f o k is a = absurd (none_made (calls.value_by_name s w at d [] (name.Entry n)) o (call_made s w at d.name_at false n [] d.uses) is (assigned_stored o.place a))
   value_held at i ss d _ c f o k is a = absurd (cc)
 
   -- a factor alone is the whole expression

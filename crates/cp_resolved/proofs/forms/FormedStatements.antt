@@ -132,7 +132,7 @@ module _ (tokens : Tokens) (s : Scopes) (h : Here) (w : Context) (agrees : Scope
       let q = first_of g (expression s w false g) (arguments s w [] 2 es) r.others refl r.after in
       absurd (let bad : q.operand ∷ q.others ≡ [] = sym q.all ∙ same.1 in cc)
 
-  pub performed_formed : (at : ℕ) (q : scopes.Standard) (es : Expressions) (os : List Operand) (u : Use) → AreSmallExpressions es → arguments s w [] 0 es ≡ Ok os → faults (statements.performed s w at (predeclared_of q) os u) ≡ [] → IsPerformed h q es
+  pub performed_formed : (at : ℕ) (q : scopes.Standard) (es : Expressions) (os : List Operand) (u : Use) → AreSmallExpressions es → arguments s w [] 0 es ≡ Ok os → faults (statements.check_standard_call s w at (predeclared_of q) os u) ≡ [] → IsPerformed h q es
   performed_formed at scopes.display_procedure es os u small i none =
       let o = shown_one at os (rules_none (statements.display_faults at os) u none) in
       one_argument (HasOrdinal h) (IsPerformed h scopes.display_procedure) o.0 es os i o.1.0 small (λ e x. ordinal_formed e o.0.value_type x o.1.1) (λ e p. p)

@@ -86,7 +86,7 @@ begun_first h x y q r e = absurd (cc)
 
 -- ---- what is assigned to
 
-pub aimed_is : (at : ℕ) (t x : Target) → statements.aimed at t ≡ Ok x → t ≡ x
+pub aimed_is : (at : ℕ) (t x : Target) → statements.check_target at t ≡ Ok x → t ≡ x
 aimed_is at (target.Assignable v) x e = ok_same (target.Assignable v) x e
 aimed_is at (target.Fixed o) x e = ok_same (target.Fixed o) x e
 aimed_is at target.Kind x e = absurd (cc)
@@ -101,7 +101,7 @@ pub either_refused : (A : Type 0) (b : Bool) (f g : CheckFault) (r : A) → (if 
 either_refused A true f g r e = cc
 either_refused A false f g r e = cc
 
-pub assigns : (at : ℕ) (t : Target) (o : Operand) (u r : Use) → statements.assigned at t o u ≡ Ok r → Assigns t o u r
+pub assigns : (at : ℕ) (t : Target) (o : Operand) (u r : Use) → statements.check_assignment at t o u ≡ Ok r → Assigns t o u r
 assigns at (target.Assignable v) o u r e = (let x = if_of (agree v o.value_type) u r _ [] e in record { value_type = v; is = refl; fits = x.0; uses = x.1 })
 assigns at (target.Fixed (Some v)) o u r e = absurd (either_refused Use (agree v o.value_type) _ _ r e)
 assigns at x o u r e = absurd (cc)
@@ -168,11 +168,11 @@ module _ (tokens : Tokens) (s : Scopes) (h : Here) (w : Context) (agrees : Scope
         named = routine_target (find i.name h.scope) (name_with i no_selectors) i.name n k tt (subst HasResult (sym o.1) tt);
       }
 
-  pub begun_routine : (i : Identifier) (c : check_designated.DesignatedName) (n : ℕ) → names.begun s i ≡ Ok c → c.named ≡ name.Routine n → look i.name s ≡ Some (Some (meaning.Routine n))
-  unfolding names.begun names.visible
+  pub begun_routine : (i : Identifier) (c : check_designated.DesignatedName) (n : ℕ) → names.meaning_of_name s i ≡ Ok c → c.named ≡ name.Routine n → look i.name s ≡ Some (Some (meaning.Routine n))
+  unfolding names.meaning_of_name names.visible
   begun_routine i c n is e = go (look i.name s) refl is
     where
-      routine : (m : Meaning) → names.named_of m ≡ name.Routine n → m ≡ meaning.Routine n
+      routine : (m : Meaning) → names.without_selectors m ≡ name.Routine n → m ≡ meaning.Routine n
       routine (meaning.Routine k) g = ap meaning.Routine (let one : k ≡ n = cc in one)
       routine (meaning.Constant b z) g = absurd (cc)
       routine (meaning.Kind v) g = absurd (cc)
@@ -181,7 +181,7 @@ module _ (tokens : Tokens) (s : Scopes) (h : Here) (w : Context) (agrees : Scope
       routine (meaning.Reference v) g = absurd (cc)
       routine (meaning.Predeclared q) g = absurd (cc)
 
-      go : (o : Option (Option Meaning)) → look i.name s ≡ o → (names.found i.at o >>= names.unselected i.at) ≡ Ok c → look i.name s ≡ Some (Some (meaning.Routine n))
+      go : (o : Option (Option Meaning)) → look i.name s ≡ o → (names.check_visible i.at o >>= names.designation_of i.at) ≡ Ok c → look i.name s ≡ Some (Some (meaning.Routine n))
       go (Some (Some m)) j k = j ∙ ap (λ (z : Meaning). Some (Some z)) (routine m (ap (λ (d : check_designated.DesignatedName). d.named) (ok_same _ c k) ∙ e))
       go x j k = absurd (cc)
 
@@ -234,7 +234,7 @@ module _ (tokens : Tokens) (s : Scopes) (h : Here) (w : Context) (agrees : Scope
       go false x = cc
 
   -- a name alone
-  pub begun_target : (own : (n : ℕ) → w.routine ≡ Some n → OwnRoutine n) (i : Identifier) (c : check_designated.DesignatedName) (n : Named) (v : ValueType) → c.named ≡ n → names.begun s i ≡ Ok c → NamedIs tokens s h i.name (find i.name h.scope) None n (begun_form h i.name (find i.name h.scope)) → target_of s w n ≡ target.Assignable v → TargetFormed i no_selectors v (begun_form h i.name (find i.name h.scope))
+  pub begun_target : (own : (n : ℕ) → w.routine ≡ Some n → OwnRoutine n) (i : Identifier) (c : check_designated.DesignatedName) (n : Named) (v : ValueType) → c.named ≡ n → names.meaning_of_name s i ≡ Ok c → NamedIs tokens s h i.name (find i.name h.scope) None n (begun_form h i.name (find i.name h.scope)) → target_of s w n ≡ target.Assignable v → TargetFormed i no_selectors v (begun_form h i.name (find i.name h.scope))
   begun_target own i c (name.Variable u) v same is k e = variable_aimed i no_selectors None u v (begun_form h i.name (find i.name h.scope)) k e
   begun_target own i c (name.Routine n) v same is k e = (let o : IsOwnHere n v = own_here n v e in own_target i n v (own n o.routine) (begun_routine i c n is same) k o.result)
   begun_target own i c (name.Entry n) v same is k e = absurd (no_entry n v e)
@@ -248,7 +248,7 @@ module _ (tokens : Tokens) (s : Scopes) (h : Here) (w : Context) (agrees : Scope
   bare_target : (own : (n : ℕ) → w.routine ≡ Some n → OwnRoutine n) (i : Identifier) (ss : Selectors) (c : check_designated.DesignatedName) (n : ℕ) (v : ValueType) → ss ≡ no_selectors → c.named ≡ name.Routine n → designator s w (name_with i ss) ≡ Ok c → RoutineIs W (heading_at n s) i.name h.scope (find i.name h.scope) → target_of s w (name.Routine n) ≡ target.Assignable v → TargetFormed i ss v (designator_form h (name_with i ss))
   unfolding expression
   bare_target own i no_selectors c n v none same is k e =
-      let t : Then (names.begun s i) (names.known i.at) c = then_of (names.begun s i) (names.known i.at) c is in
+      let t : Then (names.meaning_of_name s i) (names.check_selectors i.at) c = then_of (names.meaning_of_name s i) (names.check_selectors i.at) c is in
       let one : t.value ≡ c = known_is s w i.at t.value c t.rest in
       let o : IsOwnHere n v = own_here n v e in
       subst (TargetFormed i no_selectors v) (only (begun_form h i.name (find i.name h.scope)))

@@ -7,7 +7,7 @@ pub all_heard : (s : Scopes) → ((y : Name) → look y s ≡ Some None → ⊥)
 unfolding names.visible
 all_heard s h at x = go (look x s) (h x)
   where
-    go : (o : Option (Option Meaning)) → (o ≡ Some None → ⊥) → Loud (names.found at o)
+    go : (o : Option (Option Meaning)) → (o ≡ Some None → ⊥) → Loud (names.check_visible at o)
     go None k = tt
     go (Some None) k = k refl
     go (Some (Some c)) k = tt

@@ -211,8 +211,8 @@ module _ (tokens : Tokens) (s : Scopes) (h : Here) (w : Context) (agrees : Scope
     pub fit : Fitted (heading_at n s).parameters os
     pub variables : all_variable_faults (heading_at n s).parameters os ≡ []
 
-  pub called_passed : (at name_at : ℕ) (b : Bool) (n : ℕ) (os : List Operand) (u r : Use) → calls.called s w at name_at b n os u ≡ Ok r → Passed n os
-  unfolding calls.called
+  pub called_passed : (at name_at : ℕ) (b : Bool) (n : ℕ) (os : List Operand) (u r : Use) → calls.check_routine_call s w at name_at b n os u ≡ Ok r → Passed n os
+  unfolding calls.check_routine_call
   called_passed at name_at b n os u r is =
       let none : calls.call_faults s w at name_at b n os ≡ [] = passed (calls.call_faults s w at name_at b n os) (both_uses (calls.total_use u os) (calls.call_use b (body_at n s))) r is in
       let a = fit_faults at (heading_at n s).parameters os in
@@ -229,7 +229,7 @@ module _ (tokens : Tokens) (s : Scopes) (h : Here) (w : Context) (agrees : Scope
       record { fit = f; variables = assigned (heading_at n s).parameters os f.many (none_right q last after_delay) }
 
   -- of a routine that the designator names
-  pub call_given : (at name_at : ℕ) (b : Bool) (n : ℕ) (os : List Operand) (u r : Use) (d : Designator) (es : Expressions) (o : Option RoutineMeaning) → routine_called h.program h.scope d ≡ o → HeadingIs W (heading_at n s) o → AreSmallExpressions es → (length (heading_at n s).parameters ≡ length os → AreArguments (heading_at n s).parameters es os) → calls.called s w at name_at b n os u ≡ Ok r → CallFormed h d es
+  pub call_given : (at name_at : ℕ) (b : Bool) (n : ℕ) (os : List Operand) (u r : Use) (d : Designator) (es : Expressions) (o : Option RoutineMeaning) → routine_called h.program h.scope d ≡ o → HeadingIs W (heading_at n s) o → AreSmallExpressions es → (length (heading_at n s).parameters ≡ length os → AreArguments (heading_at n s).parameters es os) → calls.check_routine_call s w at name_at b n os u ≡ Ok r → CallFormed h d es
   call_given at name_at b n os u r d es (Some m) same i small x is =
       let p : Passed n os = called_passed at name_at b n os u r is in
       record { routine = m; called = same; arguments = all_given (heading_at n s).parameters m.parameters es os i.1 small (x p.fit.many) p.fit.fit p.variables }

@@ -11,7 +11,7 @@ use Rattle.cp_scope.specs.declared.types.Predeclared.TheVariants as predeclared
 use Rattle.cp_check.specs.declared.operand.OperandUse.TheVariants as place
 use Rattle.cp_check.specs.Operations as operations
 use Rattle.cp_check.specs.Calls as calls
-use Rattle.cp_check.specs.Expressions.{expression, more_terms, term_value, more_factors, factor, constructed, set_like, are_elements}
+use Rattle.cp_check.specs.Expressions.{expression, more_terms, term_value, more_factors, factor, set_value, set_like, are_elements}
 use Rattle.cp_check.specs.Expressions as expressions
 
 -- ---- values that are made
@@ -57,34 +57,34 @@ truth_made at l r = go (is_of base.Boolean l.value_type && is_of base.Boolean r.
     go true = refl
     go false = set_made at l r
 
-added_made : (at : ℕ) (a : Addition) (o : Option Operand) (r : Operand) → MadeOption (operations.added at a o r)
+added_made : (at : ℕ) (a : Addition) (o : Option Operand) (r : Operand) → MadeOption (operations.sum_of at a o r)
 added_made at a None r = tt
 added_made at addition.Plus (Some l) r = number_made at l r
 added_made at addition.Minus (Some l) r = either_made (operations.number at l r) (operations.set at l r) (number_made at l r) (set_made at l r)
 added_made at addition.Or (Some l) r = truth_made at l r
 
-multiplied_made : (at : ℕ) (m : Multiplication) (o : Option Operand) (r : Operand) → MadeOption (operations.multiplied at m o r)
+multiplied_made : (at : ℕ) (m : Multiplication) (o : Option Operand) (r : Operand) → MadeOption (operations.product_of at m o r)
 multiplied_made at m None r = tt
 multiplied_made at multiplication.And (Some l) r = truth_made at l r
 multiplied_made at multiplication.Times (Some l) r = number_made at l r
 multiplied_made at multiplication.Div (Some l) r = number_made at l r
 multiplied_made at multiplication.Mod (Some l) r = number_made at l r
 
-pub agreed_made : (at : ℕ) (j : Judged (Option Operand)) → IsMadePart j → IsMade (j >>= operations.agreed at)
+pub agreed_made : (at : ℕ) (j : Judged (Option Operand)) → IsMadePart j → IsMade (j >>= operations.check_agreement at)
 agreed_made at (Ok (Some o)) h = h
 agreed_made at _ h = tt
 
-pub sum_made : (at : ℕ) (a : Addition) (j : Judged (Option Operand)) (k : Judged Operand) → IsMadePart (both j k >>= expressions.added at a)
+pub sum_made : (at : ℕ) (a : Addition) (j : Judged (Option Operand)) (k : Judged Operand) → IsMadePart (both j k >>= expressions.sum_so_far at a)
 sum_made at a (Ok o) (Ok r) = added_made at a o r
 sum_made at a (Err fs) (Ok r) = tt
 sum_made at a _ _ = tt
 
-pub product_made : (at : ℕ) (m : Multiplication) (j : Judged (Option Operand)) (k : Judged Operand) → IsMadePart (both j k >>= expressions.multiplied at m)
+pub product_made : (at : ℕ) (m : Multiplication) (j : Judged (Option Operand)) (k : Judged Operand) → IsMadePart (both j k >>= expressions.product_so_far at m)
 product_made at m (Ok o) (Ok r) = multiplied_made at m o r
 product_made at m (Err fs) (Ok r) = tt
 product_made at m _ _ = tt
 
-pub signed_made : (at : ℕ) (g : Sign) (j : Judged Operand) → IsMadePart (j >>= expressions.signed at (Some g))
+pub signed_made : (at : ℕ) (g : Sign) (j : Judged Operand) → IsMadePart (j >>= expressions.first_term at (Some g))
 signed_made at g (Ok o) = go (is_of base.Integer o.value_type)
   where
     go : (b : Bool) → MadeOption (if b then Some (value at (values_of base.Integer) o.uses) else None)
@@ -92,7 +92,7 @@ signed_made at g (Ok o) = go (is_of base.Integer o.value_type)
     go false = tt
 signed_made at g (Err fs) = tt
 
-pub related_made : (at : ℕ) (r : Relation) (j k : Judged Operand) → IsMade (both j k >>= operations.related at r)
+pub related_made : (at : ℕ) (r : Relation) (j k : Judged Operand) → IsMade (both j k >>= operations.relation_value at r)
 related_made at r (Ok a) (Ok b) = go (operations.relates r a.value_type b.value_type)
   where
     go : (c : Bool) → IsMade (if c then Ok (value at (values_of base.Boolean) (both_uses a.uses b.uses)) else broken at C5)
@@ -101,7 +101,7 @@ related_made at r (Ok a) (Ok b) = go (operations.relates r a.value_type b.value_
 related_made at r (Err fs) (Err gs) = tt
 related_made at r _ _ = tt
 
-pub negated_made : (at : ℕ) (j : Judged Operand) → IsMade (j >>= operations.negated at)
+pub negated_made : (at : ℕ) (j : Judged Operand) → IsMade (j >>= operations.negation_of at)
 negated_made at (Ok o) = go (is_of base.Boolean o.value_type)
   where
     go : (c : Bool) → IsMade (if c then Ok (value at (values_of base.Boolean) o.uses) else broken at C5)
@@ -121,7 +121,7 @@ like_made at os (types.Ordinal r) = go (are_elements r.base os) _
     go false o = tt
 like_made at os _ = tt
 
-pub constructed_made : (at : ℕ) (j : Judged (List Operand)) → IsMade (j >>= constructed at)
+pub constructed_made : (at : ℕ) (j : Judged (List Operand)) → IsMade (j >>= set_value at)
 constructed_made at (Ok []) = refl
 constructed_made at (Ok (o ∷ os)) = like_made at (o ∷ os) o.value_type
 constructed_made at (Err fs) = tt
@@ -130,15 +130,15 @@ if_made : (c : Bool) (at : ℕ) (v : ValueType) (u : Use) → IsMade (if c then 
 if_made true at v u = refl
 if_made false at v u = tt
 
-stepped_made : (at : ℕ) (v : ValueType) (u : Use) → IsMade (operations.stepped at v u)
+stepped_made : (at : ℕ) (v : ValueType) (u : Use) → IsMade (operations.neighbour_value at v u)
 stepped_made at (types.Ordinal r) u = refl
 stepped_made at _ u = tt
 
-numbered_made : (at : ℕ) (v : ValueType) (u : Use) → IsMade (operations.numbered at v u)
+numbered_made : (at : ℕ) (v : ValueType) (u : Use) → IsMade (operations.ordinal_number at v u)
 numbered_made at (types.Ordinal r) u = refl
 numbered_made at _ u = tt
 
-applied_one_made : (at : ℕ) (p : Predeclared) (o : Operand) (u : Use) → IsMade (operations.applied_to at p o u)
+applied_one_made : (at : ℕ) (p : Predeclared) (o : Operand) (u : Use) → IsMade (operations.standard_value_of at p o u)
 applied_one_made at predeclared.Succ o u = stepped_made at o.value_type u
 applied_one_made at predeclared.Pred o u = stepped_made at o.value_type u
 applied_one_made at predeclared.Ord o u = numbered_made at o.value_type u
@@ -147,14 +147,14 @@ applied_one_made at predeclared.Abs o u = if_made (is_of base.Integer o.value_ty
 applied_one_made at predeclared.Empty o u = if_made (is_queue_in o.value_type o.place) at (values_of base.Boolean) u
 applied_one_made at _ o u = tt
 
-applied_all_made : (at : ℕ) (p : Predeclared) (os : List Operand) (u : Use) → IsMade (operations.applied_all at p os u)
+applied_all_made : (at : ℕ) (p : Predeclared) (os : List Operand) (u : Use) → IsMade (operations.standard_value_of_all at p os u)
 applied_all_made at p (o ∷ []) u = applied_one_made at p o u
 applied_all_made at p _ u = tt
 
-pub applied_made : (at : ℕ) (p : Predeclared) (os : List Operand) (u : Use) → IsMade (operations.applied at p os u)
+pub applied_made : (at : ℕ) (p : Predeclared) (os : List Operand) (u : Use) → IsMade (operations.standard_value at p os u)
 applied_made at p os u = go (operations.is_function p)
   where
-    go : (b : Bool) → IsMade (if b then operations.applied_all at p os u else broken at C5)
+    go : (b : Bool) → IsMade (if b then operations.standard_value_of_all at p os u else broken at C5)
     go true = applied_all_made at p os u
     go false = tt
 
@@ -169,7 +169,7 @@ result_made at v (Err fs) = tt
 module _ (s : Scopes) (w : Context) where
   function_made : (at name_at : ℕ) (b : Bool) (n : ℕ) (os : List Operand) (u : Use) (v : Option ValueType) → IsMade (calls.function_of s w at name_at b n os u v)
   function_made at name_at b n os u None = tt
-  function_made at name_at b n os u (Some v) = result_made at v (calls.called s w at name_at b n os u)
+  function_made at name_at b n os u (Some v) = result_made at v (calls.check_routine_call s w at name_at b n os u)
 
   pub call_made : (at name_at : ℕ) (b : Bool) (n : ℕ) (os : List Operand) (u : Use) → IsMade (calls.function_value s w at name_at b n os u)
   unfolding calls.function_value
@@ -178,9 +178,9 @@ module _ (s : Scopes) (w : Context) where
   pub terms_made : (at : ℕ) (ts : Terms) (j : Judged (Option Operand)) → IsMadePart j → IsMadePart (more_terms s w at j ts)
   unfolding expression
   terms_made at no_terms j h = h
-  terms_made at (terms_more a t ts) j h = terms_made at ts (both j (term_value s w false t) >>= expressions.added at a) (sum_made at a j (term_value s w false t))
+  terms_made at (terms_more a t ts) j h = terms_made at ts (both j (term_value s w false t) >>= expressions.sum_so_far at a) (sum_made at a j (term_value s w false t))
 
   pub factors_made : (at : ℕ) (fs : Factors) (j : Judged (Option Operand)) → IsMadePart j → IsMadePart (more_factors s w at j fs)
   unfolding expression
   factors_made at no_factors j h = h
-  factors_made at (factors_more m f fs) j h = factors_made at fs (both j (factor s w false f) >>= expressions.multiplied at m) (product_made at m j (factor s w false f))
+  factors_made at (factors_more m f fs) j h = factors_made at fs (both j (factor s w false f) >>= expressions.product_so_far at m) (product_made at m j (factor s w false f))

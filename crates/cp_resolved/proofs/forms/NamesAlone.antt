@@ -10,7 +10,7 @@ use Rattle.cp_check.specs.declared.operand.DesignatedName as check_designated
 use Rattle.cp_check.specs.Operations as operations
 use Rattle.cp_check.specs.Calls as calls
 use Rattle.cp_check.specs.declared.operand.Named.TheVariants as name
-use Rattle.cp_check.specs.Expressions.{expression, sum_value, more_terms, term_value, more_factors, factor, designator, arguments, constructed, is_unsigned, has_no_terms, has_no_factors, has_none}
+use Rattle.cp_check.specs.Expressions.{expression, sum_value, more_terms, term_value, more_factors, factor, designator, arguments, set_value, is_unsigned, has_no_terms, has_no_factors, has_none}
 use Rattle.cp_check.specs.Expressions as expressions
 use Rattle.cp_resolved.specs.Used.{AreNone}
 use Rattle.cp_resolved.proofs.forms.MadeValues.{IsMade, agreed_made, sum_made, product_made, signed_made, related_made, negated_made, group_made, constructed_made, applied_made, call_made, terms_made, factors_made}
@@ -26,7 +26,7 @@ none_given s w (more_expressions e es) is = absurd (let t = then_of (both (expre
 
 -- ---- names and terms that stand alone
 
-pub agreed_some : (at : ℕ) (j : Judged (Option Operand)) (p : Operand) → (j >>= operations.agreed at) ≡ Ok p → j ≡ Ok (Some p)
+pub agreed_some : (at : ℕ) (j : Judged (Option Operand)) (p : Operand) → (j >>= operations.check_agreement at) ≡ Ok p → j ≡ Ok (Some p)
 agreed_some at (Ok (Some o)) p e = ap (λ (z : Operand). Ok (Some z)) (ok_same o p e)
 agreed_some at x p e = absurd (cc)
 
@@ -72,9 +72,9 @@ module _ (s : Scopes) (w : Context) where
     pub is : designator s w d ≡ Ok value
     pub operands : List Operand
     pub arguments : arguments s w [] 0 es ≡ Ok operands
-    pub rest : calls.value_named s w at value operands value.named ≡ Ok p
+    pub rest : calls.value_by_name s w at value operands value.named ≡ Ok p
 
-  pub name_parts : (b : Bool) (d : Designator) (es : Expressions) (at : ℕ) (p : Operand) → (b ≡ true → (es ≡ no_expressions) × (is_function p.place ≡ false)) → expressions.named_value s w b at (designator s w d) (arguments s w [] 0 es) ≡ Ok p → NameParts d es at p
+  pub name_parts : (b : Bool) (d : Designator) (es : Expressions) (at : ℕ) (p : Operand) → (b ≡ true → (es ≡ no_expressions) × (is_function p.place ≡ false)) → expressions.value_of_name s w b at (designator s w d) (arguments s w [] 0 es) ≡ Ok p → NameParts d es at p
   unfolding calls.value_of expression
   name_parts false d es at p only is =
       let t : Then (both (designator s w d) (arguments s w [] 0 es)) (calls.value_of s w at) p = then_of (both (designator s w d) (arguments s w [] 0 es)) (calls.value_of s w at) p is in
@@ -88,15 +88,15 @@ module _ (s : Scopes) (w : Context) where
       none : arguments s w [] 0 no_expressions ≡ Ok []
       none = refl
 
-      go : (c : check_designated.DesignatedName) (b : Bool) → is_function p.place ≡ false → (if b then Ok (calls.placed at types.Queue place.Function c.uses) else calls.value_of s w at (c, [])) ≡ Ok p → calls.value_named s w at c [] c.named ≡ Ok p
-      go c true k z = absurd (let one : calls.placed at types.Queue place.Function c.uses ≡ p = ok_same (calls.placed at types.Queue place.Function c.uses) p z in let bad : true ≡ false = ap (λ (x : Operand). is_function x.place) one ∙ k in cc)
+      go : (c : check_designated.DesignatedName) (b : Bool) → is_function p.place ≡ false → (if b then Ok (calls.operand_at at types.Queue place.Function c.uses) else calls.value_of s w at (c, [])) ≡ Ok p → calls.value_by_name s w at c [] c.named ≡ Ok p
+      go c true k z = absurd (let one : calls.operand_at at types.Queue place.Function c.uses ≡ p = ok_same (calls.operand_at at types.Queue place.Function c.uses) p z in let bad : true ≡ false = ap (λ (x : Operand). is_function x.place) one ∙ k in cc)
       go c false k z = z
 
   -- a term alone is the whole sum
-  pub sum_only : (at : ℕ) (v : Bool) (o : Option Sign) (ts : Terms) (q : Judged Operand) (a p : Operand) → q ≡ Ok a → (v ≡ true → is_function p.place ≡ false) → more_terms s w at (q >>= expressions.signed at o) ts ≡ Ok (Some p) → (v && (is_unsigned o && has_no_terms ts)) ≡ true → is_function a.place ≡ false
+  pub sum_only : (at : ℕ) (v : Bool) (o : Option Sign) (ts : Terms) (q : Judged Operand) (a p : Operand) → q ≡ Ok a → (v ≡ true → is_function p.place ≡ false) → more_terms s w at (q >>= expressions.first_term at o) ts ≡ Ok (Some p) → (v && (is_unsigned o && has_no_terms ts)) ≡ true → is_function a.place ≡ false
   unfolding expression
   sum_only at v None no_terms q a p x only is i =
-      let one : a ≡ p = some_same a p (sym (ap (λ (z : Judged Operand). z >>= expressions.signed at None) x) ∙ is) in
+      let one : a ≡ p = some_same a p (sym (ap (λ (z : Judged Operand). z >>= expressions.first_term at None) x) ∙ is) in
       ap (λ (z : Operand). is_function z.place) one ∙ only (first_of v true i)
   sum_only at v _ _ q a p x only is i = absurd (no_more v false refl i)
 
@@ -110,7 +110,7 @@ module _ (s : Scopes) (w : Context) where
   -- ---- what stands somewhere
 
   -- a name with arguments is made
-  called_made : (at : ℕ) (d : check_designated.DesignatedName) (p : Operand) (ps : List Operand) (n : Named) → IsMade (calls.value_named s w at d (p ∷ ps) n)
+  called_made : (at : ℕ) (d : check_designated.DesignatedName) (p : Operand) (ps : List Operand) (n : Named) → IsMade (calls.value_by_name s w at d (p ∷ ps) n)
   called_made at d p ps (name.Predeclared q) = applied_made at q (p ∷ ps) (calls.total_use d.uses (p ∷ ps))
   called_made at d p ps (name.Routine n) = call_made s w at d.name_at true n (p ∷ ps) d.uses
   called_made at d p ps (name.Entry n) = call_made s w at d.name_at false n (p ∷ ps) d.uses
@@ -123,10 +123,10 @@ module _ (s : Scopes) (w : Context) where
     value : check_designated.DesignatedName
     is : f ≡ factor_named token (name_with identifier chosen) no_expressions
     judged : designator s w (name_with identifier chosen) ≡ Ok value
-    rest : calls.value_named s w token value [] value.named ≡ Ok o
+    rest : calls.value_by_name s w token value [] value.named ≡ Ok o
 
-  name_alone : (at : ℕ) (i : Identifier) (ss : Selectors) (es : Expressions) (d : check_designated.DesignatedName) (os : List Operand) (o : Operand) → designator s w (name_with i ss) ≡ Ok d → arguments s w [] 0 es ≡ Ok os → calls.value_named s w at d os d.named ≡ Ok o → is_stored o.place ≡ true → FactorAlone (factor_named at (name_with i ss) es) o
-  name_alone at i ss es d (p ∷ ps) o j a r k = absurd (none_made (calls.value_named s w at d (p ∷ ps) d.named) o (called_made at d p ps d.named) r k)
+  name_alone : (at : ℕ) (i : Identifier) (ss : Selectors) (es : Expressions) (d : check_designated.DesignatedName) (os : List Operand) (o : Operand) → designator s w (name_with i ss) ≡ Ok d → arguments s w [] 0 es ≡ Ok os → calls.value_by_name s w at d os d.named ≡ Ok o → is_stored o.place ≡ true → FactorAlone (factor_named at (name_with i ss) es) o
+  name_alone at i ss es d (p ∷ ps) o j a r k = absurd (none_made (calls.value_by_name s w at d (p ∷ ps) d.named) o (called_made at d p ps d.named) r k)
   name_alone at i ss no_expressions d [] o j a r k = record { token = at; identifier = i; chosen = ss; value = d; is = refl; judged = j; rest = r }
   name_alone at i ss (more_expressions e es) d [] o j a r k = absurd (none_given s w (more_expressions e es) a)
 
@@ -136,8 +136,8 @@ module _ (s : Scopes) (w : Context) where
       let x : NameParts (name_with i ss) es at o = name_parts (v && has_none es) (name_with i ss) es at o (name_only v es o (λ e. stored_no_function o.place k)) is in
       name_alone at i ss es x.value x.operands o x.is x.arguments x.rest k
   factor_alone v (group at e) o is k = absurd (none_made (expression s w false e >>= expressions.to_group at) o (group_made at (expression s w false e)) is k)
-  factor_alone v (negated at f) o is k = absurd (none_made (factor s w false f >>= operations.negated at) o (negated_made at (factor s w false f)) is k)
-  factor_alone v (set_of at es) o is k = absurd (none_made (arguments s w [] 0 es >>= constructed at) o (constructed_made at (arguments s w [] 0 es)) is k)
+  factor_alone v (negated at f) o is k = absurd (none_made (factor s w false f >>= operations.negation_of at) o (negated_made at (factor s w false f)) is k)
+  factor_alone v (set_of at es) o is k = absurd (none_made (arguments s w [] 0 es >>= set_value at) o (constructed_made at (arguments s w [] 0 es)) is k)
   factor_alone v f o is k = absurd (none_made (factor s w v f) o refl is k)
 
   abbrev TermAlone : Term → Operand → Type 0
@@ -151,8 +151,8 @@ module _ (s : Scopes) (w : Context) where
       (at, f, refl, factor_alone (v && true) f o (x.is ∙ ap (λ (z : Operand). Ok z) (some_same x.value o x.rest)) k)
   term_alone v (term at f (factors_more m g fs)) o is k =
       let p : Judged (Option Operand) = factor s w (v && false) f >>= expressions.some_operand in
-      let j : Judged (Option Operand) = both p (factor s w false g) >>= expressions.multiplied at m in
-      absurd (none_made (more_factors s w at j fs >>= operations.agreed at) o (agreed_made at (more_factors s w at j fs) (factors_made s w at fs j (product_made at m p (factor s w false g)))) is k)
+      let j : Judged (Option Operand) = both p (factor s w false g) >>= expressions.product_so_far at m in
+      absurd (none_made (more_factors s w at j fs >>= operations.check_agreement at) o (agreed_made at (more_factors s w at j fs) (factors_made s w at fs j (product_made at m p (factor s w false g)))) is k)
 
   abbrev SumAlone : Sum → Operand → Type 0
   SumAlone a o = (b : ℕ) × (t : Term) × (a ≡ sum b None t no_terms) × TermAlone t o
@@ -161,16 +161,16 @@ module _ (s : Scopes) (w : Context) where
   unfolding expression
   sum_alone v (sum at None t no_terms) o is k =
       let q : Judged Operand = term_value s w (v && (true && true)) t in
-      let x : Then q (expressions.signed at None) (Some o) = then_of q (expressions.signed at None) (Some o) (agreed_some at (q >>= expressions.signed at None) o is) in
+      let x : Then q (expressions.first_term at None) (Some o) = then_of q (expressions.first_term at None) (Some o) (agreed_some at (q >>= expressions.first_term at None) o is) in
       (at, t, refl, term_alone (v && (true && true)) t o (x.is ∙ ap (λ (z : Operand). Ok z) (some_same x.value o x.rest)) k)
   sum_alone v (sum at (Some g) t ts) o is k =
       let q : Judged Operand = term_value s w (v && (false && has_no_terms ts)) t in
-      let j : Judged (Option Operand) = q >>= expressions.signed at (Some g) in
-      absurd (none_made (more_terms s w at j ts >>= operations.agreed at) o (agreed_made at (more_terms s w at j ts) (terms_made s w at ts j (signed_made at g q))) is k)
+      let j : Judged (Option Operand) = q >>= expressions.first_term at (Some g) in
+      absurd (none_made (more_terms s w at j ts >>= operations.check_agreement at) o (agreed_made at (more_terms s w at j ts) (terms_made s w at ts j (signed_made at g q))) is k)
   sum_alone v (sum at None t (terms_more a u ts)) o is k =
-      let p : Judged (Option Operand) = term_value s w (v && (true && false)) t >>= expressions.signed at None in
-      let j : Judged (Option Operand) = both p (term_value s w false u) >>= expressions.added at a in
-      absurd (none_made (more_terms s w at j ts >>= operations.agreed at) o (agreed_made at (more_terms s w at j ts) (terms_made s w at ts j (sum_made at a p (term_value s w false u)))) is k)
+      let p : Judged (Option Operand) = term_value s w (v && (true && false)) t >>= expressions.first_term at None in
+      let j : Judged (Option Operand) = both p (term_value s w false u) >>= expressions.sum_so_far at a in
+      absurd (none_made (more_terms s w at j ts >>= operations.check_agreement at) o (agreed_made at (more_terms s w at j ts) (terms_made s w at ts j (sum_made at a p (term_value s w false u)))) is k)
 
   -- an expression that is a name alone
   abbrev pub name_only_of : (a b c token : ℕ) (d : Designator) → Expression
@@ -186,7 +186,7 @@ module _ (s : Scopes) (w : Context) where
     pub value : check_designated.DesignatedName
     pub is : e ≡ name_only_of first second third token (name_with identifier chosen)
     pub judged : designator s w (name_with identifier chosen) ≡ Ok value
-    pub rest : calls.value_named s w token value [] value.named ≡ Ok o
+    pub rest : calls.value_by_name s w token value [] value.named ≡ Ok o
 
   pub expression_alone : (v : Bool) (e : Expression) (o : Operand) → expression s w v e ≡ Ok o → is_stored o.place ≡ true → NameAlone e o
   unfolding expression
@@ -205,4 +205,4 @@ module _ (s : Scopes) (w : Context) where
         judged = f.judged;
         rest = f.rest;
       }
-  expression_alone v (related at a r b) o is k = absurd (none_made (both (sum_value s w false a) (sum_value s w false b) >>= operations.related at r) o (related_made at r (sum_value s w false a) (sum_value s w false b)) is k)
+  expression_alone v (related at a r b) o is k = absurd (none_made (both (sum_value s w false a) (sum_value s w false b) >>= operations.relation_value at r) o (related_made at r (sum_value s w false a) (sum_value s w false b)) is k)

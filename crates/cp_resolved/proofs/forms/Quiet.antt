@@ -74,8 +74,8 @@ module _ (s : Scopes) (w : Context) where
       (none_of_both delay _ (no_left delay _ t)
       (none_of_both (calls.quiet_faults at w b) last (quiet_none at b (no_left (calls.quiet_faults at (quiet w) b) last u)) (no_right (calls.quiet_faults at (quiet w) b) last u))))))
 
-  called_follows : (at name_at : ℕ) (b : Bool) (n : ℕ) (os : List Operand) (u : Use) → Follows (calls.called s (quiet w) at name_at b n os u) (calls.called s w at name_at b n os u)
-  unfolding calls.called
+  called_follows : (at name_at : ℕ) (b : Bool) (n : ℕ) (os : List Operand) (u : Use) → Follows (calls.check_routine_call s (quiet w) at name_at b n os u) (calls.check_routine_call s w at name_at b n os u)
+  unfolding calls.check_routine_call
   called_follows at name_at b n os u = unless_follows (calls.call_faults s (quiet w) at name_at b n os) (calls.call_faults s w at name_at b n os) _ (faults_follow at name_at b n os)
 
   function_follows : (at name_at : ℕ) (b : Bool) (n : ℕ) (os : List Operand) (u : Use) (o : Option ValueType) → Follows (calls.function_of s (quiet w) at name_at b n os u o) (calls.function_of s w at name_at b n os u o)
@@ -86,7 +86,7 @@ module _ (s : Scopes) (w : Context) where
   unfolding calls.function_value
   function_value_follows at name_at b n os u = function_follows at name_at b n os u (heading_at n s).result
 
-  value_named_follows : (at : ℕ) (d : DesignatedName) (os : List Operand) (n : Named) → Follows (calls.value_named s (quiet w) at d os n) (calls.value_named s w at d os n)
+  value_named_follows : (at : ℕ) (d : DesignatedName) (os : List Operand) (n : Named) → Follows (calls.value_by_name s (quiet w) at d os n) (calls.value_by_name s w at d os n)
   value_named_follows at d os (name.Routine n) = function_value_follows at d.name_at true n os d.uses
   value_named_follows at d os (name.Entry n) = function_value_follows at d.name_at false n os d.uses
   value_named_follows at d os _ = λ a e. e
@@ -104,7 +104,7 @@ module _ (s : Scopes) (w : Context) where
   variable_follows : (at : ℕ) (d : DesignatedName) → Follows (calls.variable_of s (quiet w) at d) (calls.variable_of s w at d)
   variable_follows at d = either_follows (calls.is_other_function s (quiet w) d.named) (calls.is_other_function s w d.named) _ _ _ (other_same d.named) (value_follows at (d, []))
 
-  named_value_follows : (v : Bool) (at : ℕ) (d e : Judged DesignatedName) (os ps : Judged (List Operand)) → Follows d e → Follows os ps → Follows (expressions.named_value s (quiet w) v at d os) (expressions.named_value s w v at e ps)
+  named_value_follows : (v : Bool) (at : ℕ) (d e : Judged DesignatedName) (os ps : Judged (List Operand)) → Follows d e → Follows os ps → Follows (expressions.value_of_name s (quiet w) v at d os) (expressions.value_of_name s w v at e ps)
   named_value_follows true at d e os ps h g = then_follows d e (calls.variable_of s (quiet w) at) (calls.variable_of s w at) h (variable_follows at)
   named_value_follows false at d e os ps h g = then_follows (both d os) (both e ps) (calls.value_of s (quiet w) at) (calls.value_of s w at) (both_follow d e os ps h g) (value_follows at)
 
@@ -113,38 +113,38 @@ module _ (s : Scopes) (w : Context) where
 
     pub expression_follows : (v : Bool) (e : Expression) → Follows (expressions.expression s (quiet w) v e) (expressions.expression s w v e)
     expression_follows v (alone at a) = sum_follows v a
-    expression_follows v (related at a r b) = alike_follows _ _ (operations.related at r) (both_follow _ _ _ _ (sum_follows false a) (sum_follows false b))
+    expression_follows v (related at a r b) = alike_follows _ _ (operations.relation_value at r) (both_follow _ _ _ _ (sum_follows false a) (sum_follows false b))
 
     sum_follows : (v : Bool) (a : Sum) → Follows (expressions.sum_value s (quiet w) v a) (expressions.sum_value s w v a)
-    sum_follows v (sum at sign t ts) = alike_follows _ _ (operations.agreed at) (terms_follow at ts _ _ (alike_follows _ _ (expressions.signed at sign) (term_follows _ t)))
+    sum_follows v (sum at sign t ts) = alike_follows _ _ (operations.check_agreement at) (terms_follow at ts _ _ (alike_follows _ _ (expressions.first_term at sign) (term_follows _ t)))
 
     terms_follow : (at : ℕ) (ts : Terms) (j k : Judged (Option Operand)) → Follows j k → Follows (expressions.more_terms s (quiet w) at j ts) (expressions.more_terms s w at k ts)
     terms_follow at no_terms j k h = h
-    terms_follow at (terms_more a t ts) j k h = terms_follow at ts _ _ (alike_follows _ _ (expressions.added at a) (both_follow j k _ _ h (term_follows false t)))
+    terms_follow at (terms_more a t ts) j k h = terms_follow at ts _ _ (alike_follows _ _ (expressions.sum_so_far at a) (both_follow j k _ _ h (term_follows false t)))
 
     term_follows : (v : Bool) (t : Term) → Follows (expressions.term_value s (quiet w) v t) (expressions.term_value s w v t)
-    term_follows v (term at f fs) = alike_follows _ _ (operations.agreed at) (factors_follow at fs _ _ (alike_follows _ _ expressions.some_operand (factor_follows _ f)))
+    term_follows v (term at f fs) = alike_follows _ _ (operations.check_agreement at) (factors_follow at fs _ _ (alike_follows _ _ expressions.some_operand (factor_follows _ f)))
 
     factors_follow : (at : ℕ) (fs : Factors) (j k : Judged (Option Operand)) → Follows j k → Follows (expressions.more_factors s (quiet w) at j fs) (expressions.more_factors s w at k fs)
     factors_follow at no_factors j k h = h
-    factors_follow at (factors_more m f fs) j k h = factors_follow at fs _ _ (alike_follows _ _ (expressions.multiplied at m) (both_follow j k _ _ h (factor_follows false f)))
+    factors_follow at (factors_more m f fs) j k h = factors_follow at fs _ _ (alike_follows _ _ (expressions.product_so_far at m) (both_follow j k _ _ h (factor_follows false f)))
 
     factor_follows : (v : Bool) (f : Factor) → Follows (expressions.factor s (quiet w) v f) (expressions.factor s w v f)
     factor_follows v (named at d es) = named_value_follows _ at _ _ _ _ (designator_follows d) (arguments_follow [] 0 es)
     factor_follows v (group at e) = alike_follows _ _ (expressions.to_group at) (expression_follows false e)
-    factor_follows v (negated at f) = alike_follows _ _ (operations.negated at) (factor_follows false f)
-    factor_follows v (set_of at es) = alike_follows _ _ (expressions.constructed at) (arguments_follow [] 0 es)
+    factor_follows v (negated at f) = alike_follows _ _ (operations.negation_of at) (factor_follows false f)
+    factor_follows v (set_of at es) = alike_follows _ _ (expressions.set_value at) (arguments_follow [] 0 es)
     factor_follows v _ = λ a e. e
 
     designator_follows : (d : Designator) → Follows (expressions.designator s (quiet w) d) (expressions.designator s w d)
-    designator_follows (name_with n ss) = alike_follows _ _ (names.known n.at) (selectors_follow ss _ _ (same (names.begun s n)))
+    designator_follows (name_with n ss) = alike_follows _ _ (names.check_selectors n.at) (selectors_follow ss _ _ (same (names.meaning_of_name s n)))
 
     selectors_follow : (ss : Selectors) (j k : Judged DesignatedName) → Follows j k → Follows (expressions.selectors s (quiet w) j ss) (expressions.selectors s w k ss)
     selectors_follow no_selectors j k h = h
     selectors_follow (more_selectors x ss) j k h = selectors_follow ss _ _ (selector_follows x j k h)
 
     selector_follows : (x : Selector) (j k : Judged DesignatedName) → Follows j k → Follows (expressions.selector s (quiet w) j x) (expressions.selector s w k x)
-    selector_follows (field i) j k h = alike_follows j k (names.selected s i) h
+    selector_follows (field i) j k h = alike_follows j k (names.member_of s i) h
     selector_follows (index e) j k h = alike_follows _ _ (expressions.at_index s) (both_follow j k _ _ h (expression_follows false e))
 
     arguments_follow : (ps : List Parameter) (k : ℕ) (es : Expressions) → Follows (expressions.arguments s (quiet w) ps k es) (expressions.arguments s w ps k es)

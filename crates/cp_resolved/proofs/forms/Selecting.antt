@@ -1,6 +1,6 @@
 -- Fields and elements of what a name stands for, and its value, are those of its form.
 use Rattle.std.proofs.Common.{◌≡◌, ◌+◌, ◌*◌, ◌≤◌, ℕ, zero, suc, Bool, true, false, if◌then◌else◌, List, Option, Some, None, refl, sym, ap, subst, ◌∙◌, arith}
-use Rattle.cp_resolved.proofs.Words.{bytes_eq, PlaceOrigin, CellType, Ty, FieldTypes, length_of_range, cells_of, cells_in, Chosen, field_chosen, further_chosen, loaded}
+use Rattle.cp_resolved.proofs.Words.{bytes_eq, PlaceOrigin, CellType, Ty, FieldTypes, length_of_range, cells_of, cells_in, Chosen, field_chosen, further_chosen, value_loaded_from}
 use Rattle.cp_symbols.specs.declared.kinds.CellType.TheVariants as types
 use Rattle.cp_symbols.specs.Kinds as symbol_kinds
 use Rattle.cp_layout.specs.Kinds as kinds
@@ -18,13 +18,13 @@ use Rattle.cp_resolved.proofs.frames.Cells.{cells_same, Found, field_same, cappe
 
 module _ (k : Numbering) (ts : Compounds) where
   -- the value of a variable
-  pub loaded_same : (p : code.Place) (t : Ty) (w : CellType) → TypeIs k ts t w → ValueIs k ts (record { ty = t; form = loaded_form p t }) (loaded p w)
-  loaded_same p (named.ordinal r) w h = (r, refl, ap (loaded p) h)
-  loaded_same p named.queue_type w h = (types.Queue, ap (loaded p) h, refl)
-  loaded_same p (named.set_over r) w h = ap (loaded p) h
-  loaded_same p (named.array_over r t) w h = (types.Array h.number, ap (loaded p) h.is, subst (TypeIs k ts (named.array_over r t)) h.is h)
-  loaded_same p (named.record_with us) w h = (types.Record h.number, ap (loaded p) h.is, subst (TypeIs k ts (named.record_with us)) h.is h)
-  loaded_same p (named.component_of n) w h = (types.System n, ap (loaded p) h, refl)
+  pub loaded_same : (p : code.Place) (t : Ty) (w : CellType) → TypeIs k ts t w → ValueIs k ts (record { ty = t; form = loaded_form p t }) (value_loaded_from p w)
+  loaded_same p (named.ordinal r) w h = (r, refl, ap (value_loaded_from p) h)
+  loaded_same p named.queue_type w h = (types.Queue, ap (value_loaded_from p) h, refl)
+  loaded_same p (named.set_over r) w h = ap (value_loaded_from p) h
+  loaded_same p (named.array_over r t) w h = (types.Array h.number, ap (value_loaded_from p) h.is, subst (TypeIs k ts (named.array_over r t)) h.is h)
+  loaded_same p (named.record_with us) w h = (types.Record h.number, ap (value_loaded_from p) h.is, subst (TypeIs k ts (named.record_with us)) h.is h)
+  loaded_same p (named.component_of n) w h = (types.System n, ap (value_loaded_from p) h, refl)
 
   -- ---- fields
 

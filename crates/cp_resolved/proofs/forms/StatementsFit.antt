@@ -69,7 +69,7 @@ module _ (tokens : Tokens) (s : Scopes) (h : Here) (w : Context) (agrees : Scope
       let u = expression_used tokens s h w agrees waits false e m o (λ i. absurd (cc)) low is in
       record { typed = subst (λ (j : Judged Operand). HasForm (written tokens s h) j (expression_form h e)) is (expression_typed tokens s h w agrees e m); used = u.0; calls = u.1 }
 
-  test_of : (at : ℕ) (e : Expression) (o : Operand) (u r : Use) → Judgement e o → statements.tested at o u ≡ Ok r → TestFormed h e
+  test_of : (at : ℕ) (e : Expression) (o : Operand) (u r : Use) → Judgement e o → statements.check_test at o u ≡ Ok r → TestFormed h e
   test_of at e o u r j is =
       let b = boolean_found (written tokens s h) o.value_type (expression_form h e) j.typed (if_of (is_of base.Boolean o.value_type) u r _ [] is).0 in
       record { cell = b.code; test = record { ty = named.ordinal b.range; cell = b.is; truth = b.belongs }; used = j.used }
@@ -100,7 +100,7 @@ module _ (tokens : Tokens) (s : Scopes) (h : Here) (w : Context) (agrees : Scope
       let b = both_of j (expression s w false e) t.value t.is in
       let k : Then (designator s w d) (statements.with_target s w i.at) t.value.0 = then_of (designator s w d) (statements.with_target s w i.at) t.value.0 b.first in
       let c : check_designated.DesignatedName = k.value in
-      let a : Then (statements.aimed i.at (target_of s w c.named)) (λ x. Ok (x, c.uses)) t.value.0 = then_of (statements.aimed i.at (target_of s w c.named)) (λ x. Ok (x, c.uses)) t.value.0 k.rest in
+      let a : Then (statements.check_target i.at (target_of s w c.named)) (λ x. Ok (x, c.uses)) t.value.0 = then_of (statements.check_target i.at (target_of s w c.named)) (λ x. Ok (x, c.uses)) t.value.0 k.rest in
       let aim : target_of s w c.named ≡ t.value.0.0 = aimed_is i.at (target_of s w c.named) a.value a.is ∙ ap (λ (x : Target × Use). x.0) (ok_same (a.value, c.uses) t.value.0 a.rest) in
       let uses : c.uses ≡ t.value.0.1 = ap (λ (x : Target × Use). x.1) (ok_same (a.value, c.uses) t.value.0 a.rest) in
       let y : Assigns t.value.0.0 t.value.1 (both_uses t.value.0.1 t.value.1.uses) r = assigns at t.value.0.0 t.value.1 (both_uses t.value.0.1 t.value.1.uses) r t.rest in
@@ -137,7 +137,7 @@ module _ (tokens : Tokens) (s : Scopes) (h : Here) (w : Context) (agrees : Scope
     pub used : AreUsed h es
     pub calls : CallsFine (expressions_calls h.scope es)
 
-  procedure_formed : (at name_at : ℕ) (b : Bool) (n : ℕ) (os : List Operand) (u r : Use) (d : Designator) (es : Expressions) → AreSmallExpressions es → HeadingIs (written tokens s h) (heading_at n s) (routine_called h.program h.scope d) → arguments s w (statements.procedure_parameters s n (statements.number_of es)) 0 es ≡ Ok os → AreBelow waits os → statements.procedure_called s w at name_at b n os u ≡ Ok r → ProcedureCalled d es
+  procedure_formed : (at name_at : ℕ) (b : Bool) (n : ℕ) (os : List Operand) (u r : Use) (d : Designator) (es : Expressions) → AreSmallExpressions es → HeadingIs (written tokens s h) (heading_at n s) (routine_called h.program h.scope d) → arguments s w (statements.procedure_parameters s n (statements.number_of es)) 0 es ≡ Ok os → AreBelow waits os → statements.check_procedure_call s w at name_at b n os u ≡ Ok r → ProcedureCalled d es
   procedure_formed at name_at b n os u r d es m i a low is =
       let called = procedure_is s w waits h.scope at name_at b n os u r is in
       let p : Passed tokens s h w agrees n os = called_passed tokens s h w agrees at name_at b n os u r called in
@@ -154,10 +154,10 @@ module _ (tokens : Tokens) (s : Scopes) (h : Here) (w : Context) (agrees : Scope
   one_used scopes.continue_procedure (more_expressions e no_expressions) p u = (tt, record { place = p.place; formed = p.formed; used = u.0 })
   one_used _ _ p u = absurd p
 
-  standard_invoked : (at : ℕ) (d : Designator) (es : Expressions) (p : Predeclared) (os : List Operand) (u r : Use) (m : Option scopes.Meaning) → StandardIs p m → ((IsVariableMeaning m → ⊥) → IsBare d) → AreSmallExpressions es → arguments s w [] 0 es ≡ Ok os → AreBelow waits os → statements.performed s w at p os u ≡ Ok r → InvokeResult d es m
+  standard_invoked : (at : ℕ) (d : Designator) (es : Expressions) (p : Predeclared) (os : List Operand) (u r : Use) (m : Option scopes.Meaning) → StandardIs p m → ((IsVariableMeaning m → ⊥) → IsBare d) → AreSmallExpressions es → arguments s w [] 0 es ≡ Ok os → AreBelow waits os → statements.check_standard_call s w at p os u ≡ Ok r → InvokeResult d es m
   standard_invoked at d es p os u r (Some (scopes.standard_meaning q)) k bare small a low is =
       let x = arguments_used tokens s h w agrees waits 0 es small os low a in
-      let f : IsPerformed h q es = performed_formed tokens s h w agrees heard at q es os u small a (ap faults (subst (λ (z : Predeclared). statements.performed s w at z os u ≡ Ok r) (sym k) is)) in
+      let f : IsPerformed h q es = performed_formed tokens s h w agrees heard at q es os u small a (ap faults (subst (λ (z : Predeclared). statements.check_standard_call s w at z os u ≡ Ok r) (sym k) is)) in
       let one = one_used q es f x.0 in
       ((bare (λ z. z), one.0, one.1), x.1)
   standard_invoked at d es p os u r _ k bare small a low is = absurd k
@@ -172,7 +172,7 @@ module _ (tokens : Tokens) (s : Scopes) (h : Here) (w : Context) (agrees : Scope
       (record { entry = e.found.entry; chosen = u; part = a_component e.found.part e.system; formed = e.found.formed; used = c.used; call = c.call }, c.calls)
   entry_invoked i ss es r x call bare u e c = absurd (cc)
 
-  named_invoked : (at : ℕ) (i : Identifier) (ss : Selectors) (es : Expressions) (c : check_designated.DesignatedName) (n : Named) (os : List Operand) (r : Use) (o : Option Designated) → c.named ≡ n → NamedIs tokens s h i.name (find i.name h.scope) (last_field ss) n o → AreSmallSelectors ss → AreSmallExpressions es → SelectorsUsed h ss → designator s w (name_with i ss) ≡ Ok c → arguments s w (statements.parameters_of s n (statements.number_of es)) 0 es ≡ Ok os → AreBelow waits os → statements.invoked_named s w at c os n ≡ Ok r → InvokeResult (name_with i ss) es (find i.name h.scope)
+  named_invoked : (at : ℕ) (i : Identifier) (ss : Selectors) (es : Expressions) (c : check_designated.DesignatedName) (n : Named) (os : List Operand) (r : Use) (o : Option Designated) → c.named ≡ n → NamedIs tokens s h i.name (find i.name h.scope) (last_field ss) n o → AreSmallSelectors ss → AreSmallExpressions es → SelectorsUsed h ss → designator s w (name_with i ss) ≡ Ok c → arguments s w (statements.parameters_of s n (statements.number_of es)) 0 es ≡ Ok os → AreBelow waits os → statements.check_call_of s w at c os n ≡ Ok r → InvokeResult (name_with i ss) es (find i.name h.scope)
   named_invoked at i ss es c (name.Predeclared p) os r o same k small less u d a low is =
       standard_invoked at (name_with i ss) es p os (calls.total_use c.uses os) r (find i.name h.scope) k (λ other. other_bare tokens s h w agrees i ss c other d) less a low is
   named_invoked at i ss es c (name.Routine n) os r o same k small less u d a low is =
@@ -184,15 +184,15 @@ module _ (tokens : Tokens) (s : Scopes) (h : Here) (w : Context) (agrees : Scope
   named_invoked at i ss es c x os r o same k small less u d a low is = absurd (cc)
 
   invoke_formed : (at : ℕ) (i : Identifier) (ss : Selectors) (es : Expressions) → AreSmallSelectors ss → AreSmallExpressions es → (r : Use) → Below waits r → statements.call s w at (name_with i ss) es ≡ Ok r → InvokeFormed h (find i.name h.scope) (name_with i ss) es × CallsFine (selectors_calls h.scope ss ++ expressions_calls h.scope es) × InvokeSaid s w waits h.scope (name_with i ss)
-  unfolding statements.call statements.invoked
+  unfolding statements.call statements.check_call
   invoke_formed at i ss es small less r low is =
       let d : Designator = name_with i ss in
-      let ps = statements.parameters_named s (statements.number_of es) (designator s w d) in
-      let t : Then (both (designator s w d) (arguments s w ps 0 es)) (statements.invoked s w at) r = then_of (both (designator s w d) (arguments s w ps 0 es)) (statements.invoked s w at) r is in
+      let ps = statements.parameters_of_judged s (statements.number_of es) (designator s w d) in
+      let t : Then (both (designator s w d) (arguments s w ps 0 es)) (statements.check_call s w at) r = then_of (both (designator s w d) (arguments s w ps 0 es)) (statements.check_call s w at) r is in
       let b = both_of (designator s w d) (arguments s w ps 0 es) t.value t.is in
       let k : NamedOk s w waits h.scope t.value.0 t.value.0.named t.value.1 = named_ok s w waits h.scope at t.value.0 t.value.1 t.value.0.named r low t.rest in
       let p : Pointed i ss t.value.0 = pointed i ss t.value.0 small k.first b.first in
-      let a : arguments s w (statements.parameters_of s t.value.0.named (statements.number_of es)) 0 es ≡ Ok t.value.1 = sym (ap (λ (j : Judged check_designated.DesignatedName). arguments s w (statements.parameters_named s (statements.number_of es) j) 0 es) b.first) ∙ b.second in
+      let a : arguments s w (statements.parameters_of s t.value.0.named (statements.number_of es)) 0 es ≡ Ok t.value.1 = sym (ap (λ (j : Judged check_designated.DesignatedName). arguments s w (statements.parameters_of_judged s (statements.number_of es) j) 0 es) b.first) ∙ b.second in
       let x = named_invoked at i ss es t.value.0 t.value.0.named t.value.1 r (designator_form h d) refl p.holds small less p.chosen b.first a k.others t.rest in
       (x.0, calls_both (selectors_calls h.scope ss) (expressions_calls h.scope es) p.calls x.1, record { small = small; value = t.value.0; is = b.first; kind = k.kind; invoked = k.invoked })
 
@@ -252,19 +252,19 @@ module _ (tokens : Tokens) (s : Scopes) (h : Here) (w : Context) (agrees : Scope
   component_started at i ss es x k n None os u r same e small a low is = absurd e
   component_started at i ss es x k n y os u r same e small a low is = absurd (let bad : types.Component k n ≡ types.Array e.0.token = e.0.is in cc)
 
-  variable_started : (at : ℕ) (i : Identifier) (ss : Selectors) (es : Expressions) (d : check_designated.DesignatedName) (v : ValueType) (o : Option Designated) (os : List Operand) (r : Use) → Holds (written tokens s h) (find i.name h.scope) (last_field ss) v o → AreSmallExpressions es → arguments s w [] 0 es ≡ Ok os → AreBelow waits os → statements.started_named s at d os (name.Variable v) ≡ Ok r → Started i ss es o
+  variable_started : (at : ℕ) (i : Identifier) (ss : Selectors) (es : Expressions) (d : check_designated.DesignatedName) (v : ValueType) (o : Option Designated) (os : List Operand) (r : Use) → Holds (written tokens s h) (find i.name h.scope) (last_field ss) v o → AreSmallExpressions es → arguments s w [] 0 es ≡ Ok os → AreBelow waits os → statements.check_start_of s at d os (name.Variable v) ≡ Ok r → Started i ss es o
   variable_started at i ss es d (types.Component k n) o os r e small a low is = component_started at i ss es (last_field ss) k n o os _ r refl e small a low is
   variable_started at i ss es d x o os r e small a low is = absurd (cc)
 
-  named_started : (at : ℕ) (i : Identifier) (ss : Selectors) (es : Expressions) (d : check_designated.DesignatedName) (n : Named) (o : Option Designated) (os : List Operand) (r : Use) → NamedIs tokens s h i.name (find i.name h.scope) (last_field ss) n o → AreSmallExpressions es → arguments s w [] 0 es ≡ Ok os → AreBelow waits os → statements.started_named s at d os n ≡ Ok r → Started i ss es o
+  named_started : (at : ℕ) (i : Identifier) (ss : Selectors) (es : Expressions) (d : check_designated.DesignatedName) (n : Named) (o : Option Designated) (os : List Operand) (r : Use) → NamedIs tokens s h i.name (find i.name h.scope) (last_field ss) n o → AreSmallExpressions es → arguments s w [] 0 es ≡ Ok os → AreBelow waits os → statements.check_start_of s at d os n ≡ Ok r → Started i ss es o
   named_started at i ss es d (name.Variable v) o os r e small a low is = variable_started at i ss es d v o os r e small a low is
   named_started at i ss es d x o os r e small a low is = absurd (cc)
 
   start_formed_of : (i : Identifier) (ss : Selectors) (es : Expressions) → AreSmallSelectors ss → AreSmallExpressions es → (r : Use) → Below waits r → statements.start s w (record { target = name_with i ss; arguments = es }) ≡ Ok r → StartFormed h (record { target = name_with i ss; arguments = es }) × CallsFine (selectors_calls h.scope ss ++ expressions_calls h.scope es)
-  unfolding statements.start statements.started
+  unfolding statements.start statements.check_start
   start_formed_of i ss es small less r low is =
       let d : Designator = name_with i ss in
-      let t : Then (both (designator s w d) (arguments s w [] 0 es)) (statements.started s i.at) r = then_of (both (designator s w d) (arguments s w [] 0 es)) (statements.started s i.at) r is in
+      let t : Then (both (designator s w d) (arguments s w [] 0 es)) (statements.check_start s i.at) r = then_of (both (designator s w d) (arguments s w [] 0 es)) (statements.check_start s i.at) r is in
       let b = both_of (designator s w d) (arguments s w [] 0 es) t.value t.is in
       let k = started_below s w waits h.scope i.at t.value.0 t.value.1 t.value.0.named r low t.rest in
       let p : Pointed i ss t.value.0 = pointed i ss t.value.0 small k.0 b.first in
@@ -293,7 +293,7 @@ module _ (tokens : Tokens) (s : Scopes) (h : Here) (w : Context) (agrees : Scope
     pub last : agree value_type b.value_type ≡ true
     pub uses : u ≡ r
 
-  counts : (at n : ℕ) (t : Target) (a b : Operand) (u r : Use) → statements.counted at n t a b u ≡ Ok r → Counts t a b u r
+  counts : (at n : ℕ) (t : Target) (a b : Operand) (u r : Use) → statements.check_for at n t a b u ≡ Ok r → Counts t a b u r
   counts at n (target.Assignable v) a b u r e =
       let x = if_of (statements.counts v a b) u r _ [] e in
       let all : (is_ordinal v && agree v a.value_type && agree v b.value_type) ≡ true = x.0 in
@@ -329,14 +329,14 @@ module _ (tokens : Tokens) (s : Scopes) (h : Here) (w : Context) (agrees : Scope
       let q = agree_ordinal r.0 u (subst (λ z. agree z u ≡ true) r.1 a) in
       ap is_ordinal q.1
 
-  for_formed : (at : ℕ) (i : Identifier) (a b : Expression) (k : Judged Use) → IsSmallExpression a → IsSmallExpression b → (r : Use) → Below waits r → (both (both (both (names.begun s i) (expression s w false a)) (expression s w false b)) k >>= statements.count_over s w at i.at) ≡ Ok r → Reached (Below waits) k (ForFormed h i a b × CallsFine (expression_calls h.scope a ++ expression_calls h.scope b))
+  for_formed : (at : ℕ) (i : Identifier) (a b : Expression) (k : Judged Use) → IsSmallExpression a → IsSmallExpression b → (r : Use) → Below waits r → (both (both (both (names.meaning_of_name s i) (expression s w false a)) (expression s w false b)) k >>= statements.count_over s w at i.at) ≡ Ok r → Reached (Below waits) k (ForFormed h i a b × CallsFine (expression_calls h.scope a ++ expression_calls h.scope b))
   for_formed at i a b k m n r low is =
       let ja = expression s w false a in
       let jb = expression s w false b in
-      let t : Then (both (both (both (names.begun s i) ja) jb) k) (statements.count_over s w at i.at) r = then_of (both (both (both (names.begun s i) ja) jb) k) (statements.count_over s w at i.at) r is in
-      let p = both_of (both (both (names.begun s i) ja) jb) k t.value t.is in
-      let q = both_of (both (names.begun s i) ja) jb t.value.0 p.first in
-      let o = both_of (names.begun s i) ja t.value.0.0 q.first in
+      let t : Then (both (both (both (names.meaning_of_name s i) ja) jb) k) (statements.count_over s w at i.at) r = then_of (both (both (both (names.meaning_of_name s i) ja) jb) k) (statements.count_over s w at i.at) r is in
+      let p = both_of (both (both (names.meaning_of_name s i) ja) jb) k t.value t.is in
+      let q = both_of (both (names.meaning_of_name s i) ja) jb t.value.0 p.first in
+      let o = both_of (names.meaning_of_name s i) ja t.value.0.0 q.first in
       let u : Use = both_uses t.value.0.0.1.uses t.value.0.1.uses in
       let c : Counts (target_of s w t.value.0.0.0.named) t.value.0.0.1 t.value.0.1 (both_uses u t.value.1) r = counts at i.at (target_of s w t.value.0.0.0.named) t.value.0.0.1 t.value.0.1 (both_uses u t.value.1) r t.rest in
       let lower : Below waits (both_uses u t.value.1) = subst (Below waits) (sym c.uses) low in
@@ -358,7 +358,7 @@ module _ (tokens : Tokens) (s : Scopes) (h : Here) (w : Context) (agrees : Scope
 
   -- ---- statements
 
-  tested_below : (at : ℕ) (o : Operand) (u r : Use) → Below waits r → statements.tested at o u ≡ Ok r → Below waits u
+  tested_below : (at : ℕ) (o : Operand) (u r : Use) → Below waits r → statements.check_test at o u ≡ Ok r → Below waits u
   tested_below at o u r low is = subst (Below waits) (sym (if_of (is_of base.Boolean o.value_type) u r _ [] is).1) low
 
   tested_then : (at : ℕ) (e : Expression) (k : Judged Use) → IsSmallExpression e → (r : Use) → Below waits r → (both (expression s w false e) k >>= statements.test_then at) ≡ Ok r → Reached (Below waits) k (TestFormed h e × CallsFine (expression_calls h.scope e))
@@ -387,7 +387,7 @@ module _ (tokens : Tokens) (s : Scopes) (h : Here) (w : Context) (agrees : Scope
   asserted_test : (e : Expression) → IsSmallExpression e → (r : Use) → Below waits r → statements.assertion s w e ≡ Ok r → TestFormed h e × CallsFine (expression_calls h.scope e)
   unfolding statements.assertion
   asserted_test e m r low is =
-      let test : Operand → Judged Use = λ o. statements.tested (expression_at e) o o.uses in
+      let test : Operand → Judged Use = λ o. statements.check_test (expression_at e) o o.uses in
       let k : Then (expression s (quiet w) false e) test r = then_of (expression s (quiet w) false e) test r is in
       let x : Judgement e k.value = judged e m k.value (tested_below (expression_at e) k.value k.value.uses r low k.rest) (expression_follows s w false e k.value k.is) in
       (test_of (expression_at e) e k.value k.value.uses r x k.rest, x.calls)
@@ -455,7 +455,7 @@ module _ (tokens : Tokens) (s : Scopes) (h : Here) (w : Context) (agrees : Scope
         ((x.0, y.0), calls_both (calls_laid h.scope t) (expression_calls h.scope e) y.1 x.1, (x.1.1, y.2))
     statement_formed (case_of at e as' b) m r low is =
         let j : Judged (List Label × Use) = statements.arms s w (Ok ([], no_use)) as' in
-        let k : Then (both (expression s w false e) j) (cases.chosen at) r = then_of (both (expression s w false e) j) (cases.chosen at) r is in
+        let k : Then (both (expression s w false e) j) (cases.check_case at) r = then_of (both (expression s w false e) j) (cases.check_case at) r is in
         let p = both_of (expression s w false e) j k.value k.is in
         let ruled = unless_ok (cases.case_faults at k.value.0 k.value.1.0) (both_uses k.value.0.uses k.value.1.1) r k.rest in
         let lower : Below waits (both_uses k.value.0.uses k.value.1.1) = subst (Below waits) (sym ruled.1) low in
@@ -479,8 +479,8 @@ module _ (tokens : Tokens) (s : Scopes) (h : Here) (w : Context) (agrees : Scope
     arms_formed : (as' : Arms) → AreSmallArms as' → (j : Judged (List Label × Use)) (r : List Label × Use) → Below waits r.1 → statements.arms s w j as' ≡ Ok r → Reached (λ (z : List Label × Use). Below waits z.1) j (ArmsFine as')
     arms_formed no_arms m j r low is = record { value = r; is = is; below = low; rest = (tt, (tt, tt), tt) }
     arms_formed (more_arms a as') m j r low is =
-        let x = arms_formed as' m.1 (both j (statements.labelled s w a) >>= cases.joined) r low is in
-        let k : Then (both j (statements.labelled s w a)) cases.joined x.value = then_of (both j (statements.labelled s w a)) cases.joined x.value x.is in
+        let x = arms_formed as' m.1 (both j (statements.labelled s w a) >>= cases.join_arms) r low is in
+        let k : Then (both j (statements.labelled s w a)) cases.join_arms x.value = then_of (both j (statements.labelled s w a)) cases.join_arms x.value x.is in
         let b = both_of j (statements.labelled s w a) k.value k.is in
         let lower : Below waits (both_uses k.value.0.1 k.value.1.1) = subst (λ (z : List Label × Use). Below waits z.1) (sym (ok_same (k.value.0.0 ++ k.value.1.0, both_uses k.value.0.1 k.value.1.1) x.value k.rest)) x.below in
         let y = arm_formed a m.0 k.value.1 (second_below waits k.value.0.1 k.value.1.1 lower) b.second in

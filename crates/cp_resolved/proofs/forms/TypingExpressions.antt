@@ -9,7 +9,7 @@ use Rattle.cp_check.specs.Calls.{total_use}
 use Rattle.cp_scope.specs.declared.types.ValueType.TheVariants as types
 use Rattle.cp_check.specs.declared.operand.DesignatedName as check_designated
 use Rattle.cp_check.specs.Names as names
-use Rattle.cp_check.specs.Expressions.{expression, sum_value, more_terms, term_value, more_factors, factor, designator, selectors, arguments, constructed, set_like, are_elements}
+use Rattle.cp_check.specs.Expressions.{expression, sum_value, more_terms, term_value, more_factors, factor, designator, selectors, arguments, set_value, set_like, are_elements}
 use Rattle.cp_check.specs.Expressions as expressions
 use Rattle.cp_slots.specs.Code as code
 use Rattle.cp_meaning.specs.Types as named
@@ -88,18 +88,18 @@ module _ (tokens : Tokens) (s : Scopes) (h : Here) (w : Context) (agrees : Scope
       choose false e = tt
   like_form at os _ go k = tt
 
-  constructed_form : (at : ℕ) (j : Judged (List Operand)) (go : code.SetExpression → Option code.SetExpression) → AllMembers j go → HasForm W (j >>= constructed at) (then_form (go code.empty_set) set_form)
+  constructed_form : (at : ℕ) (j : Judged (List Operand)) (go : code.SetExpression → Option code.SetExpression) → AllMembers j go → HasForm W (j >>= set_value at) (then_form (go code.empty_set) set_form)
   constructed_form at (Ok []) go k = (let d = k base.Integer refl code.empty_set in subst (λ (p : Option code.SetExpression). Expressed W (types.Set None) (then_form p set_form)) (sym d.1) (a_set W None d.0))
   constructed_form at (Ok (o ∷ os)) go k = like_form at (o ∷ os) o.value_type go k
   constructed_form at (Err fs) go k = tt
 
   designator_found : (i : Identifier) (ss : Selectors) →
-      HasDesignated tokens s h i.name (find i.name h.scope) (last_or None ss) (selectors s w (names.begun s i) ss) (then_form (begun_form h i.name (find i.name h.scope)) (selected_form h ss)) →
+      HasDesignated tokens s h i.name (find i.name h.scope) (last_or None ss) (selectors s w (names.meaning_of_name s i) ss) (then_form (begun_form h i.name (find i.name h.scope)) (selected_form h ss)) →
       HasDesignated tokens s h i.name (find i.name h.scope) (last_field ss) (designator s w (name_with i ss)) (designator_form h (name_with i ss))
   unfolding expression
   designator_found i ss f =
       subst (λ (x : Option Name). HasDesignated tokens s h i.name (find i.name h.scope) x (designator s w (name_with i ss)) (designator_form h (name_with i ss))) (last_same ss)
-      (known_selected tokens s h agrees i.name (find i.name h.scope) i.at (last_or None ss) (selectors s w (names.begun s i) ss) _ f)
+      (known_selected tokens s h agrees i.name (find i.name h.scope) i.at (last_or None ss) (selectors s w (names.meaning_of_name s i) ss) _ f)
 
   -- ---- expressions
 
@@ -135,7 +135,7 @@ module _ (tokens : Tokens) (s : Scopes) (h : Here) (w : Context) (agrees : Scope
     factor_typed (character at c) m = constant_typed tokens s h w base.Char named.characters (pos c) (pos c) refl (small_character c m)
     factor_typed (factor_named at (name_with i ss) es) m =
         name_typed tokens s h w at i ss (designator s w (name_with i ss)) (arguments s w [] 0 es) (designator_form h (name_with i ss)) (first_form h es)
-        (designator_found i ss (selectors_typed i.name (find i.name h.scope) ss m.0 None (names.begun s i) (begun_form h i.name (find i.name h.scope)) (begun_typed tokens s h agrees i)))
+        (designator_found i ss (selectors_typed i.name (find i.name h.scope) ss m.0 None (names.meaning_of_name s i) (begun_form h i.name (find i.name h.scope)) (begun_typed tokens s h agrees i)))
         (arguments_typed 0 es m.1)
     factor_typed (group at e) m = group_form W at (expression s w false e) (expression_form h e) (expression_typed e m)
     factor_typed (negated at f) m = negated_form W at (factor s w false f) (factor_form h f) (factor_typed f m)
@@ -161,7 +161,7 @@ module _ (tokens : Tokens) (s : Scopes) (h : Here) (w : Context) (agrees : Scope
 
   -- what a designator stands for
   pub designator_typed : (i : Identifier) (ss : Selectors) → AreSmallSelectors ss → HasDesignated tokens s h i.name (find i.name h.scope) (last_field ss) (designator s w (name_with i ss)) (designator_form h (name_with i ss))
-  designator_typed i ss m = designator_found i ss (selectors_typed i.name (find i.name h.scope) ss m None (names.begun s i) (begun_form h i.name (find i.name h.scope)) (begun_typed tokens s h agrees i))
+  designator_typed i ss m = designator_found i ss (selectors_typed i.name (find i.name h.scope) ss m None (names.meaning_of_name s i) (begun_form h i.name (find i.name h.scope)) (begun_typed tokens s h agrees i))
 
   -- a name with selectors that is judged without a fault
   pub designator_named : (i : Identifier) (ss : Selectors) (c : check_designated.DesignatedName) → AreSmallSelectors ss → designator s w (name_with i ss) ≡ Ok c → NamedIs tokens s h i.name (find i.name h.scope) (last_field ss) c.named (designator_form h (name_with i ss))

@@ -119,7 +119,7 @@ module _ (tokens : Tokens) (s : Scopes) (h : Here) where
   variable_holds x v (Some (scopes.permanent_variable t)) i = permanent_holds x v t i.0 i.1
   variable_holds x v _ i = absurd i
 
-  meaning_holds : (x : Name) (m : Meaning) (o : Option scopes.Meaning) → MeaningIs written s x h.scope m o → NamedIs x o None (names.named_of m) (begun_form h x o)
+  meaning_holds : (x : Name) (m : Meaning) (o : Option scopes.Meaning) → MeaningIs written s x h.scope m o → NamedIs x o None (names.without_selectors m) (begun_form h x o)
   meaning_holds x (meaning.Constant b z) o i = (z, i)
   meaning_holds x (meaning.Kind v) o i = tt
   meaning_holds x (meaning.Variable v) o i = variable_holds x v o i
@@ -127,12 +127,12 @@ module _ (tokens : Tokens) (s : Scopes) (h : Here) where
   meaning_holds x (meaning.Reference v) o i = variable_holds x v o i
   meaning_holds x _ o i = i
 
-  found_holds : (at : ℕ) (x : Name) (o : Option (Option Meaning)) → ((m : Meaning) → o ≡ Some (Some m) → MeaningIs written s x h.scope m (find x h.scope)) → HasDesignated x (find x h.scope) None (names.found at o >>= names.unselected at) (begun_form h x (find x h.scope))
+  found_holds : (at : ℕ) (x : Name) (o : Option (Option Meaning)) → ((m : Meaning) → o ≡ Some (Some m) → MeaningIs written s x h.scope m (find x h.scope)) → HasDesignated x (find x h.scope) None (names.check_visible at o >>= names.designation_of at) (begun_form h x (find x h.scope))
   found_holds at x (Some (Some m)) k = meaning_holds x m (find x h.scope) (k m refl)
   found_holds at x _ k = tt
 
-  pub begun_typed : (agree : ScopesAgree tokens s h) (i : Identifier) → HasDesignated i.name (find i.name h.scope) None (names.begun s i) (begun_form h i.name (find i.name h.scope))
-  unfolding names.begun names.visible
+  pub begun_typed : (agree : ScopesAgree tokens s h) (i : Identifier) → HasDesignated i.name (find i.name h.scope) None (names.meaning_of_name s i) (begun_form h i.name (find i.name h.scope))
+  unfolding names.meaning_of_name names.visible
   begun_typed agree i = found_holds i.at i.name (look i.name s) (λ m e. agree.names i.name m e)
 
   -- ---- fields, and routines of components
@@ -232,30 +232,30 @@ module _ (tokens : Tokens) (s : Scopes) (h : Here) where
   -- ---- a selector
 
   module _ (agrees : ScopesAgree tokens s h) (x0 : Name) (m : Option scopes.Meaning) where
-    with_field_typed : (at a : ℕ) (u : Use) (n : Named) (y : Name) (O : Option Designated) (q : Option (Option Meaning)) → ((v : ValueType) → q ≡ Some (Some (meaning.Variable v)) → NamedIs x0 m (Some y) (names.part_of n v) O) → HasDesignated x0 m (Some y) (names.with_field at (names.designated a u n) q) O
+    with_field_typed : (at a : ℕ) (u : Use) (n : Named) (y : Name) (O : Option Designated) (q : Option (Option Meaning)) → ((v : ValueType) → q ≡ Some (Some (meaning.Variable v)) → NamedIs x0 m (Some y) (names.part_of n v) O) → HasDesignated x0 m (Some y) (names.with_field at (names.designation a u n) q) O
     with_field_typed at a u n y O (Some (Some (meaning.Variable v))) k = k v refl
     with_field_typed at a u n y O _ k = tt
 
-    with_entry_typed : (at a : ℕ) (u : Use) (n : Named) (y : Name) (O : Option Designated) (q : Option (Option Meaning)) → ((r : ℕ) → q ≡ Some (Some (meaning.Routine r)) → IsCalled r x0 m (Some y)) → HasDesignated x0 m (Some y) (names.with_entry at (names.designated a u n) q) O
+    with_entry_typed : (at a : ℕ) (u : Use) (n : Named) (y : Name) (O : Option Designated) (q : Option (Option Meaning)) → ((r : ℕ) → q ≡ Some (Some (meaning.Routine r)) → IsCalled r x0 m (Some y)) → HasDesignated x0 m (Some y) (names.with_entry at (names.designation a u n) q) O
     with_entry_typed at a u n y O (Some (Some (meaning.Routine r))) k = k r refl
     with_entry_typed at a u n y O _ k = tt
 
     -- n is a variable or a parameter of the type
     selected_value : (x : Option Name) (i : Identifier) (a : ℕ) (u : Use) (n : Named) (o : Option Designated) (v : ValueType) → Holds written m x v o →
         ((y : ValueType) → Holds written m (Some i.name) y (then_form o (λ c. with_field_form c i.name)) → NamedIs x0 m (Some i.name) (names.part_of n y) (then_form o (λ c. with_field_form c i.name))) →
-        HasDesignated x0 m (Some i.name) (names.selected_of s i (names.designated a u n) (Some v)) (then_form o (λ c. with_field_form c i.name))
+        HasDesignated x0 m (Some i.name) (names.member_by_type s i (names.designation a u n) (Some v)) (then_form o (λ c. with_field_form c i.name))
     selected_value x i a u n o (types.Record token) d k =
         with_field_typed i.at a u n i.name (then_form o (λ c. with_field_form c i.name)) (field_at token i.name s) (λ v e. k v (field_held token v m x i.name o d e))
     selected_value x i a u n o (types.Component j token) d k =
         with_entry_typed i.at a u n i.name (then_form o (λ c. with_field_form c i.name)) (member_at token i.name s) (λ r e. entry_held agrees j token r m x x0 i.name o d e)
     selected_value x i a u n o _ d k = tt
 
-    field_step : (x : Option Name) (i : Identifier) (a : ℕ) (u : Use) (n : Named) (o : Option Designated) → NamedIs x0 m x n o → HasDesignated x0 m (Some i.name) (names.selected s i (names.designated a u n)) (then_form o (λ c. with_field_form c i.name))
+    field_step : (x : Option Name) (i : Identifier) (a : ℕ) (u : Use) (n : Named) (o : Option Designated) → NamedIs x0 m x n o → HasDesignated x0 m (Some i.name) (names.member_of s i (names.designation a u n)) (then_form o (λ c. with_field_form c i.name))
     field_step x i a u (name.Variable v) o d = selected_value x i a u (name.Variable v) o v d (λ y k. k)
     field_step x i a u (name.Parameter v) o d = selected_value x i a u (name.Parameter v) o v d (λ y k. k)
     field_step x i a u _ o d = tt
 
-    pub field_selected : (x : Option Name) (i : Identifier) (j : Judged check_designated.DesignatedName) (o : Option Designated) → HasDesignated x0 m x j o → HasDesignated x0 m (Some i.name) (j >>= names.selected s i) (then_form o (λ c. with_field_form c i.name))
+    pub field_selected : (x : Option Name) (i : Identifier) (j : Judged check_designated.DesignatedName) (o : Option Designated) → HasDesignated x0 m x j o → HasDesignated x0 m (Some i.name) (j >>= names.member_of s i) (then_form o (λ c. with_field_form c i.name))
     field_selected x i (Ok d) o e = field_step x i d.name_at d.uses d.named o e
     field_selected x i (Err fs) o e = tt
 
@@ -269,7 +269,7 @@ module _ (tokens : Tokens) (s : Scopes) (h : Here) where
       abbrev Chosen' : Option Designated
       Chosen' = then_form o (λ c. then_form f (with_index_form h c))
 
-      element_typed : (q : Option ArrayShape) → ((y : ArrayShape) → q ≡ Some y → agree (types.Ordinal y.index) v.value_type ≡ true → NamedIs x0 m None (names.part_of n y.element) Chosen') → NamedIs x0 m None (names.element_of (names.designated a u n) v q) Chosen'
+      element_typed : (q : Option ArrayShape) → ((y : ArrayShape) → q ≡ Some y → agree (types.Ordinal y.index) v.value_type ≡ true → NamedIs x0 m None (names.part_of n y.element) Chosen') → NamedIs x0 m None (names.element_of (names.designation a u n) v q) Chosen'
       element_typed None k = tt
       element_typed (Some y) k = go (agree (types.Ordinal y.index) v.value_type) (λ e. k y refl e)
         where
@@ -277,14 +277,14 @@ module _ (tokens : Tokens) (s : Scopes) (h : Here) where
           go true k = k refl
           go false k = tt
 
-      indexed_value : (x : Option Name) (y : ValueType) → Holds written m x y o → ((z : ValueType) → Holds written m None z Chosen' → NamedIs x0 m None (names.part_of n z) Chosen') → NamedIs x0 m None (names.indexed_of s (names.designated a u n) v (Some y)) Chosen'
+      indexed_value : (x : Option Name) (y : ValueType) → Holds written m x y o → ((z : ValueType) → Holds written m None z Chosen' → NamedIs x0 m None (names.part_of n z) Chosen') → NamedIs x0 m None (names.element_name_of s (names.designation a u n) v (Some y)) Chosen'
       indexed_value x (types.Array token) i k =
           element_typed (array_at token s) (λ z e g.
           let at = index_ordinal z.index v.value_type f g d in
           k z.element (subst (λ (q : Option Formed). Holds written m None z.element (then_form o (λ c. then_form q (with_index_form h c)))) (sym at.2) (element_held token z m x o at.0 at.1 i e)))
       indexed_value x _ i k = tt
 
-    index_step : (x : Option Name) (a : ℕ) (u : Use) (n : Named) (o : Option Designated) (v : Operand) (f : Option Formed) → NamedIs x0 m x n o → Expressed written v.value_type f → NamedIs x0 m None (names.indexed_of s (names.designated a u n) v (names.type_of n)) (then_form o (λ c. then_form f (with_index_form h c)))
+    index_step : (x : Option Name) (a : ℕ) (u : Use) (n : Named) (o : Option Designated) (v : Operand) (f : Option Formed) → NamedIs x0 m x n o → Expressed written v.value_type f → NamedIs x0 m None (names.element_name_of s (names.designation a u n) v (names.type_of n)) (then_form o (λ c. then_form f (with_index_form h c)))
     index_step x a u (name.Variable y) o v f i d = indexed_value a u (name.Variable y) o v f d x y i (λ z k. k)
     index_step x a u (name.Parameter y) o v f i d = indexed_value a u (name.Parameter y) o v f d x y i (λ z k. k)
     index_step x a u _ o v f i d = tt
@@ -294,11 +294,11 @@ module _ (tokens : Tokens) (s : Scopes) (h : Here) where
     index_selected x (Err fs) (Ok v) o f i e = tt
     index_selected x _ _ o f i e = tt
 
-    known_step : (at a : ℕ) (u : Use) (n : Named) (x : Option Name) (o : Option Designated) → NamedIs x0 m x n o → HasDesignated x0 m x (names.known at (names.designated a u n)) o
+    known_step : (at a : ℕ) (u : Use) (n : Named) (x : Option Name) (o : Option Designated) → NamedIs x0 m x n o → HasDesignated x0 m x (names.check_selectors at (names.designation a u n)) o
     known_step at a u name.Nothing x o d = tt
     known_step at a u _ x o d = d
 
-    pub known_selected : (at : ℕ) (x : Option Name) (j : Judged check_designated.DesignatedName) (o : Option Designated) → HasDesignated x0 m x j o → HasDesignated x0 m x (j >>= names.known at) o
+    pub known_selected : (at : ℕ) (x : Option Name) (j : Judged check_designated.DesignatedName) (o : Option Designated) → HasDesignated x0 m x j o → HasDesignated x0 m x (j >>= names.check_selectors at) o
     known_selected at x (Ok d) o e = known_step at d.name_at d.uses d.named x o e
     known_selected at x (Err fs) o e = tt
 

@@ -117,7 +117,7 @@ module _ (w : Written) where
       ((t : Bool) → Expressed w (values_of base.Integer) (added_ordinals a true t c d)) → Expressed w (values_of base.Integer) (added_ordinals a (is_integer_base p.base && is_integer_base q.base) t c d)
   number_added a p q c d h i t k = both_true (λ n. Expressed w (values_of base.Integer) (added_ordinals a n t c d)) (is_integer_base p.base) (is_integer_base q.base) h i (k t)
 
-  pub added_part : (at : ℕ) (a : Addition) (l r : Operand) (f g : Option Formed) → Expressed w l.value_type f → Expressed w r.value_type g → PartForm w (operations.added at a (Some l) r) (then_form f (λ x. then_form g (λ y. sum_of a x y)))
+  pub added_part : (at : ℕ) (a : Addition) (l r : Operand) (f g : Option Formed) → Expressed w l.value_type f → Expressed w r.value_type g → PartForm w (operations.sum_of at a (Some l) r) (then_form f (λ x. then_form g (λ y. sum_of a x y)))
   added_part at addition.Plus l r f g h i =
       numbers (sum_of addition.Plus) at l r f g h i (λ p q c d m n. number_added addition.Plus p q c d m n (is_boolean_base p.base && is_boolean_base q.base) (λ t. an_integer w _))
   added_part at addition.Minus l r f g h i =
@@ -133,7 +133,7 @@ module _ (w : Written) where
       ((t : Bool) → Expressed w (values_of base.Integer) (multiplied_ordinals o true t c d)) → Expressed w (values_of base.Integer) (multiplied_ordinals o (is_integer_base p.base && is_integer_base q.base) t c d)
   number_multiplied o p q c d h i t k = both_true (λ n. Expressed w (values_of base.Integer) (multiplied_ordinals o n t c d)) (is_integer_base p.base) (is_integer_base q.base) h i (k t)
 
-  pub multiplied_part : (at : ℕ) (o : Multiplication) (l r : Operand) (f g : Option Formed) → Expressed w l.value_type f → Expressed w r.value_type g → PartForm w (operations.multiplied at o (Some l) r) (then_form f (λ x. then_form g (λ y. product_of o x y)))
+  pub multiplied_part : (at : ℕ) (o : Multiplication) (l r : Operand) (f g : Option Formed) → Expressed w l.value_type f → Expressed w r.value_type g → PartForm w (operations.product_of at o (Some l) r) (then_form f (λ x. then_form g (λ y. product_of o x y)))
   multiplied_part at multiplication.Times l r f g h i =
       numbers (product_of multiplication.Times) at l r f g h i (λ p q c d m n. number_multiplied multiplication.Times p q c d m n (is_boolean_base p.base && is_boolean_base q.base) (λ t. an_integer w _))
   multiplied_part at multiplication.Div l r f g h i =
@@ -147,7 +147,7 @@ module _ (w : Written) where
 
   -- ---- signs, `not` and relations
 
-  pub signed_part : (at : ℕ) (s : Option Sign) (o : Operand) (f : Option Formed) → Expressed w o.value_type f → PartForm w (operations.signed at s o) (then_form f (signed_form s))
+  pub signed_part : (at : ℕ) (s : Option Sign) (o : Operand) (f : Option Formed) → Expressed w o.value_type f → PartForm w (operations.with_sign at s o) (then_form f (signed_form s))
   signed_part at None o f h = same f h
     where
       same : (f : Option Formed) → Expressed w o.value_type f → Expressed w o.value_type (then_form f (signed_form None))
@@ -163,7 +163,7 @@ module _ (w : Written) where
       with_sign sign.Plus q c = an_integer w _
       with_sign sign.Minus q c = an_integer w _
 
-  pub negated_part : (at : ℕ) (o : Operand) (f : Option Formed) → Expressed w o.value_type f → HasForm w (operations.negated at o) (then_form f not_form)
+  pub negated_part : (at : ℕ) (o : Operand) (f : Option Formed) → Expressed w o.value_type f → HasForm w (operations.negation_of at o) (then_form f not_form)
   negated_part at o f h =
       ok_if (is_of base.Boolean o.value_type) (value at (values_of base.Boolean) o.uses) at _ (then_form f not_form) (λ e.
       let a = boolean_found o.value_type f h e in
@@ -222,13 +222,13 @@ module _ (w : Written) where
   compared_types r (types.Record n) u f g h i e = absurd (unrelated r (types.Record n) u e refl refl refl)
   compared_types r (types.Component k n) u f g h i e = absurd (unrelated r (types.Component k n) u e refl refl refl)
 
-  pub related_part : (at : ℕ) (r : Relation) (l k : Operand) (f g : Option Formed) → Expressed w l.value_type f → Expressed w k.value_type g → HasForm w (operations.related at r (l, k)) (then_form f (λ x. then_form g (λ y. compared_of r x y)))
+  pub related_part : (at : ℕ) (r : Relation) (l k : Operand) (f g : Option Formed) → Expressed w l.value_type f → Expressed w k.value_type g → HasForm w (operations.relation_value at r (l, k)) (then_form f (λ x. then_form g (λ y. compared_of r x y)))
   related_part at r l k f g h i =
       ok_if (operations.relates r l.value_type k.value_type) (value at (values_of base.Boolean) (both_uses l.uses k.uses)) at _ (then_form f (λ x. then_form g (λ y. compared_of r x y))) (λ e. compared_types r l.value_type k.value_type f g h i e)
 
   -- ---- the same of what may have a fault
 
-  pub agreed_form : (at : ℕ) (j : Judged (Option Operand)) (f : Option Formed) → HasPartForm w j f → HasForm w (j >>= operations.agreed at) f
+  pub agreed_form : (at : ℕ) (j : Judged (Option Operand)) (f : Option Formed) → HasPartForm w j f → HasForm w (j >>= operations.check_agreement at) f
   agreed_form at (Ok (Some o)) f h = h
   agreed_form at _ f h = tt
 
@@ -236,11 +236,11 @@ module _ (w : Written) where
   first_form (Ok o) f h = h
   first_form (Err fs) f h = tt
 
-  pub sign_form : (at : ℕ) (s : Option Sign) (j : Judged Operand) (f : Option Formed) → HasForm w j f → HasPartForm w (j >>= expressions.signed at s) (then_form f (signed_form s))
+  pub sign_form : (at : ℕ) (s : Option Sign) (j : Judged Operand) (f : Option Formed) → HasForm w j f → HasPartForm w (j >>= expressions.first_term at s) (then_form f (signed_form s))
   sign_form at s (Ok o) f h = signed_part at s o f h
   sign_form at s (Err fs) f h = tt
 
-  pub negated_form : (at : ℕ) (j : Judged Operand) (f : Option Formed) → HasForm w j f → HasForm w (j >>= operations.negated at) (then_form f not_form)
+  pub negated_form : (at : ℕ) (j : Judged Operand) (f : Option Formed) → HasForm w j f → HasForm w (j >>= operations.negation_of at) (then_form f not_form)
   negated_form at (Ok o) f h = negated_part at o f h
   negated_form at (Err fs) f h = tt
 
@@ -248,19 +248,19 @@ module _ (w : Written) where
   group_form at (Ok o) f h = h
   group_form at (Err fs) f h = tt
 
-  pub added_form : (at : ℕ) (a : Addition) (j : Judged (Option Operand)) (k : Judged Operand) (f g : Option Formed) → HasPartForm w j f → HasForm w k g → HasPartForm w (both j k >>= expressions.added at a) (then_form f (λ x. then_form g (λ y. added_forms a x y x.form y.form)))
+  pub added_form : (at : ℕ) (a : Addition) (j : Judged (Option Operand)) (k : Judged Operand) (f g : Option Formed) → HasPartForm w j f → HasForm w k g → HasPartForm w (both j k >>= expressions.sum_so_far at a) (then_form f (λ x. then_form g (λ y. added_forms a x y x.form y.form)))
   added_form at a (Ok (Some l)) (Ok r) f g h i = added_part at a l r f g h i
   added_form at a (Ok o) (Err fs) f g h i = tt
   added_form at a (Err fs) (Ok r) f g h i = tt
   added_form at a _ _ f g h i = tt
 
-  pub multiplied_form : (at : ℕ) (m : Multiplication) (j : Judged (Option Operand)) (k : Judged Operand) (f g : Option Formed) → HasPartForm w j f → HasForm w k g → HasPartForm w (both j k >>= expressions.multiplied at m) (then_form f (λ x. then_form g (λ y. multiplied_forms m x y x.form y.form)))
+  pub multiplied_form : (at : ℕ) (m : Multiplication) (j : Judged (Option Operand)) (k : Judged Operand) (f g : Option Formed) → HasPartForm w j f → HasForm w k g → HasPartForm w (both j k >>= expressions.product_so_far at m) (then_form f (λ x. then_form g (λ y. multiplied_forms m x y x.form y.form)))
   multiplied_form at m (Ok (Some l)) (Ok r) f g h i = multiplied_part at m l r f g h i
   multiplied_form at m (Ok o) (Err fs) f g h i = tt
   multiplied_form at m (Err fs) (Ok r) f g h i = tt
   multiplied_form at m _ _ f g h i = tt
 
-  pub related_form : (at : ℕ) (r : Relation) (j k : Judged Operand) (f g : Option Formed) → HasForm w j f → HasForm w k g → HasForm w (both j k >>= operations.related at r) (then_form f (λ x. then_form g (λ y. compared_forms r x.form y.form)))
+  pub related_form : (at : ℕ) (r : Relation) (j k : Judged Operand) (f g : Option Formed) → HasForm w j f → HasForm w k g → HasForm w (both j k >>= operations.relation_value at r) (then_form f (λ x. then_form g (λ y. compared_forms r x.form y.form)))
   related_form at r (Ok l) (Ok k) f g h i = related_part at r l k f g h i
   related_form at r (Err fs) (Ok k) f g h i = tt
   related_form at r _ _ f g h i = tt

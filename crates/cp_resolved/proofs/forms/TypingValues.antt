@@ -101,7 +101,7 @@ module _ (tokens : Tokens) (s : Scopes) (h : Here) (w : Context) where
 
   function_typed : (at name_at : ℕ) (b : Bool) (n : ℕ) (os : List Operand) (u : Use) (v : Option ValueType) (r : Option RoutineMeaning) → ResultIs tokens v r → HasForm (written tokens s h) (calls.function_of s w at name_at b n os u v) (call_form h at (result_called r))
   function_typed at name_at b n os u None r i = tt
-  function_typed at name_at b n os u (Some v) (Some r) i = result_typed at v (calls.called s w at name_at b n os u) r.result i
+  function_typed at name_at b n os u (Some v) (Some r) i = result_typed at v (calls.check_routine_call s w at name_at b n os u) r.result i
   function_typed at name_at b n os u (Some v) None i = absurd i
 
   pub call_typed : (at name_at : ℕ) (b : Bool) (n : ℕ) (os : List Operand) (u : Use) (r : Option RoutineMeaning) → HeadingIs (written tokens s h) (heading_at n s) r → HasForm (written tokens s h) (calls.function_value s w at name_at b n os u) (call_form h at (result_called r))
@@ -114,19 +114,19 @@ module _ (tokens : Tokens) (s : Scopes) (h : Here) (w : Context) where
   abbrev W : Written
   W = written tokens s h
 
-  stepped_next : (at : ℕ) (v : ValueType) (u : Use) (f : Option Formed) → Expressed W v f → HasForm W (operations.stepped at v u) (then_form f (applied_form scopes.succ_function))
+  stepped_next : (at : ℕ) (v : ValueType) (u : Use) (f : Option Formed) → Expressed W v f → HasForm W (operations.neighbour_value at v u) (then_form f (applied_form scopes.succ_function))
   stepped_next at (types.Ordinal r) u f e =
       let g : OrdinalForm tokens r f = ordinal_found W r f e in
       then_one (Expressed W (values_of r.base)) (applied_form scopes.succ_function) f (formed (named.ordinal g.range) (as_ordinal g.code)) g.is (base_value g.range.base r.base _ g.belongs.base)
   stepped_next at _ u f e = tt
 
-  stepped_back : (at : ℕ) (v : ValueType) (u : Use) (f : Option Formed) → Expressed W v f → HasForm W (operations.stepped at v u) (then_form f (applied_form scopes.pred_function))
+  stepped_back : (at : ℕ) (v : ValueType) (u : Use) (f : Option Formed) → Expressed W v f → HasForm W (operations.neighbour_value at v u) (then_form f (applied_form scopes.pred_function))
   stepped_back at (types.Ordinal r) u f e =
       let g : OrdinalForm tokens r f = ordinal_found W r f e in
       then_one (Expressed W (values_of r.base)) (applied_form scopes.pred_function) f (formed (named.ordinal g.range) (as_ordinal g.code)) g.is (base_value g.range.base r.base _ g.belongs.base)
   stepped_back at _ u f e = tt
 
-  numbered_typed : (at : ℕ) (v : ValueType) (u : Use) (f : Option Formed) → Expressed W v f → HasForm W (operations.numbered at v u) (then_form f (applied_form scopes.ord_function))
+  numbered_typed : (at : ℕ) (v : ValueType) (u : Use) (f : Option Formed) → Expressed W v f → HasForm W (operations.ordinal_number at v u) (then_form f (applied_form scopes.ord_function))
   numbered_typed at (types.Ordinal r) u f e =
       let g : OrdinalForm tokens r f = ordinal_found W r f e in
       then_one (Expressed W (values_of base.Integer)) (applied_form scopes.ord_function) f (formed (named.ordinal g.range) (as_ordinal g.code)) g.is
@@ -147,7 +147,7 @@ module _ (tokens : Tokens) (s : Scopes) (h : Here) (w : Context) where
       then_one (Expressed W (values_of base.Boolean)) (applied_form scopes.empty_function) f (formed named.queue_type (as_place g.place)) g.is (a_truth W _)
   emptied x p f e i = absurd (cc)
 
-  applied_typed : (at : ℕ) (q : Standard) (o : Operand) (u : Use) (f : Option Formed) → Expressed W o.value_type f → HasForm W (operations.applied_to at (predeclared_of q) o u) (then_form f (applied_form q))
+  applied_typed : (at : ℕ) (q : Standard) (o : Operand) (u : Use) (f : Option Formed) → Expressed W o.value_type f → HasForm W (operations.standard_value_of at (predeclared_of q) o u) (then_form f (applied_form q))
   applied_typed at scopes.succ_function o u f e = stepped_next at o.value_type u f e
   applied_typed at scopes.pred_function o u f e = stepped_back at o.value_type u f e
   applied_typed at scopes.ord_function o u f e = numbered_typed at o.value_type u f e
@@ -164,21 +164,21 @@ module _ (tokens : Tokens) (s : Scopes) (h : Here) (w : Context) where
   ArgumentIs [] f = Unit {0}
   ArgumentIs (o ∷ os) f = Expressed W o.value_type f
 
-  applied_all_typed : (at : ℕ) (q : Standard) (os : List Operand) (u : Use) (f : Option Formed) → ArgumentIs os f → HasForm W (operations.applied_all at (predeclared_of q) os u) (then_form f (applied_form q))
+  applied_all_typed : (at : ℕ) (q : Standard) (os : List Operand) (u : Use) (f : Option Formed) → ArgumentIs os f → HasForm W (operations.standard_value_of_all at (predeclared_of q) os u) (then_form f (applied_form q))
   applied_all_typed at q (o ∷ []) u f e = applied_typed at q o u f e
   applied_all_typed at q _ u f e = tt
 
-  standard_applied : (at : ℕ) (q : Standard) (os : List Operand) (u : Use) (f : Option Formed) → ArgumentIs os f → HasForm W (operations.applied at (predeclared_of q) os u) (then_form f (applied_form q))
+  standard_applied : (at : ℕ) (q : Standard) (os : List Operand) (u : Use) (f : Option Formed) → ArgumentIs os f → HasForm W (operations.standard_value at (predeclared_of q) os u) (then_form f (applied_form q))
   standard_applied at q os u f e = go (operations.is_function (predeclared_of q))
     where
-      go : (b : Bool) → HasForm W (if b then operations.applied_all at (predeclared_of q) os u else broken at C5) (then_form f (applied_form q))
+      go : (b : Bool) → HasForm W (if b then operations.standard_value_of_all at (predeclared_of q) os u else broken at C5) (then_form f (applied_form q))
       go true = applied_all_typed at q os u f e
       go false = tt
 
   -- ---- a name with its arguments
 
-  standard_typed : (at : ℕ) (d : Designator) (p : Predeclared) (os : List Operand) (u : Use) (m : Option scopes.Meaning) (x : Option Name) (o : Option Designated) (f : Option Formed) → StandardIs p m → ArgumentIs os f → HasForm W (operations.applied at p os u) (named_form h at d (is_call_meant m x) m o f)
-  standard_typed at d p os u (Some (scopes.standard_meaning q)) x o f i e = subst (λ (r : Predeclared). HasForm W (operations.applied at r os u) (then_form f (applied_form q))) i (standard_applied at q os u f e)
+  standard_typed : (at : ℕ) (d : Designator) (p : Predeclared) (os : List Operand) (u : Use) (m : Option scopes.Meaning) (x : Option Name) (o : Option Designated) (f : Option Formed) → StandardIs p m → ArgumentIs os f → HasForm W (operations.standard_value at p os u) (named_form h at d (is_call_meant m x) m o f)
+  standard_typed at d p os u (Some (scopes.standard_meaning q)) x o f i e = subst (λ (r : Predeclared). HasForm W (operations.standard_value at r os u) (then_form f (applied_form q))) i (standard_applied at q os u f e)
   standard_typed at d p os u _ x o f i e = absurd i
 
   number_typed : (at : ℕ) (d : Designator) (b : check_base.Base) (z : ℤ) (m : Option scopes.Meaning) (x : Option Name) (o : Option Designated) (f : Option Formed) → ConstantIs tokens b z m → Expressed W (values_of b) (named_form h at d (is_call_meant m x) m o f)
@@ -198,13 +198,13 @@ module _ (tokens : Tokens) (s : Scopes) (h : Here) (w : Context) where
 
   value_typed : (at : ℕ) (i : Identifier) (ss : Selectors) (d : check_designated.DesignatedName) (n : Named) (os : List Operand) (o : Option Designated) (f : Option Formed) →
       NamedIs tokens s h i.name (find i.name h.scope) (last_field ss) n o → ArgumentIs os f →
-      HasForm W (calls.value_named s w at d os n) (named_form h at (designator i ss) (is_call_meant (find i.name h.scope) (last_field ss)) (find i.name h.scope) o f)
+      HasForm W (calls.value_by_name s w at d os n) (named_form h at (designator i ss) (is_call_meant (find i.name h.scope) (last_field ss)) (find i.name h.scope) o f)
   value_typed at i ss d (name.Constant b) os o f e a =
       alone_typed (value at (values_of b) d.uses) os _ (number_typed at (designator i ss) b e.0 (find i.name h.scope) (last_field ss) o f e.1)
   value_typed at i ss d (name.Variable v) os o f e a =
-      alone_typed (calls.placed at v (calls.place_of s v) d.uses) os _ (variable_typed at (designator i ss) (find i.name h.scope) (last_field ss) v o f e)
+      alone_typed (calls.operand_at at v (calls.place_of s v) d.uses) os _ (variable_typed at (designator i ss) (find i.name h.scope) (last_field ss) v o f e)
   value_typed at i ss d (name.Parameter v) os o f e a =
-      alone_typed (calls.placed at v place.Fixed d.uses) os _ (variable_typed at (designator i ss) (find i.name h.scope) (last_field ss) v o f e)
+      alone_typed (calls.operand_at at v place.Fixed d.uses) os _ (variable_typed at (designator i ss) (find i.name h.scope) (last_field ss) v o f e)
   value_typed at i ss d (name.Predeclared p) os o f e a = standard_typed at (designator i ss) p os (calls.total_use d.uses os) (find i.name h.scope) (last_field ss) o f e a
   value_typed at i ss d (name.Routine n) os o f e a = called_typed at d.name_at true i ss n os d.uses o f (own_called i.name n (find i.name h.scope) (last_field ss) e)
   value_typed at i ss d (name.Entry n) os o f e a = called_typed at d.name_at false i ss n os d.uses o f e

@@ -70,15 +70,15 @@ record Single (os : List Operand) : Type 0 where
   pub operand : Operand
   pub is : os ≡ operand ∷ []
 
-applied_one : (at : ℕ) (p : Predeclared) (os : List Operand) (u : Use) (r : Operand) → operations.applied at p os u ≡ Ok r → Single os
+applied_one : (at : ℕ) (p : Predeclared) (os : List Operand) (u : Use) (r : Operand) → operations.standard_value at p os u ≡ Ok r → Single os
 applied_one at p os u r is = go (operations.is_function p) is
   where
-    inner : (os : List Operand) → operations.applied_all at p os u ≡ Ok r → Single os
+    inner : (os : List Operand) → operations.standard_value_of_all at p os u ≡ Ok r → Single os
     inner [] i = absurd (cc)
     inner (o ∷ []) i = record { operand = o; is = refl }
     inner (o ∷ q ∷ os) i = absurd (cc)
 
-    go : (b : Bool) → (if b then operations.applied_all at p os u else broken at C5) ≡ Ok r → Single os
+    go : (b : Bool) → (if b then operations.standard_value_of_all at p os u else broken at C5) ≡ Ok r → Single os
     go true i = inner os i
     go false i = absurd (cc)
 
@@ -97,7 +97,7 @@ module _ (tokens : Tokens) (s : Scopes) (h : Here) (w : Context) (agrees : Scope
   called_function : (at name_at : ℕ) (b : Bool) (n : ℕ) (os : List Operand) (u : Use) (d : Designator) (es : Expressions) (v : Option ValueType) (p : Operand) → (heading_at n s).result ≡ v → HeadingIs (written tokens s h) (heading_at n s) (routine_called h.program h.scope d) → AreSmallExpressions es → arguments s w [] 0 es ≡ Ok os → calls.function_of s w at name_at b n os u v ≡ Ok p → Called d es
   called_function at name_at b n os u d es None p result i small a is = absurd (cc)
   called_function at name_at b n os u d es (Some v) p result i small a is =
-      let t : Then (calls.called s w at name_at b n os u) (calls.with_result at v) p = then_of (calls.called s w at name_at b n os u) (calls.with_result at v) p is in
+      let t : Then (calls.check_routine_call s w at name_at b n os u) (calls.with_result at v) p = then_of (calls.check_routine_call s w at name_at b n os u) (calls.with_result at v) p is in
       let c : CallFormed h d es = call_given tokens s h w agrees at name_at b n os u t.value d es (routine_called h.program h.scope d) refl i small (λ many. plain_arguments tokens s h w agrees (heading_at n s).parameters 0 es os a many) t.is in
       record { function = result_function v (routine_called h.program h.scope d) (heading_at n s) result i; formed = arguments_formed h c.routine.parameters es c.arguments; call = c }
 
@@ -154,13 +154,13 @@ module _ (tokens : Tokens) (s : Scopes) (h : Here) (w : Context) (agrees : Scope
   entry_meant at i ss es r x call bare e c = absurd (cc)
 
   value_used : (at : ℕ) (i : Identifier) (ss : Selectors) (es : Expressions) (d : check_designated.DesignatedName) (n : Named) (os : List Operand) (o : Option Designated) (p : Operand) → d.named ≡ n → NamedIs tokens s h i.name (find i.name h.scope) (last_field ss) n o → AreSmallSelectors ss → AreSmallExpressions es →
-      designator s w (name_with i ss) ≡ Ok d → arguments s w [] 0 es ≡ Ok os → calls.value_named s w at d os n ≡ Ok p → NameUsed at (name_with i ss) es (is_call_meant (find i.name h.scope) (last_field ss)) (find i.name h.scope)
+      designator s w (name_with i ss) ≡ Ok d → arguments s w [] 0 es ≡ Ok os → calls.value_by_name s w at d os n ≡ Ok p → NameUsed at (name_with i ss) es (is_call_meant (find i.name h.scope) (last_field ss)) (find i.name h.scope)
   value_used at i ss es d (Constant b) os o p same k small less is a g =
       constant_used at (name_with i ss) es b k.0 (find i.name h.scope) (last_field ss) k.1 (λ other. other_bare tokens s h w agrees i ss d other is) (none_given s w es (a ∙ ap (λ (z : List Operand). Ok z) (alone_none (value at (values_of b) d.uses) p os g)))
   value_used at i ss es d (Variable v) os o p same k small less is a g =
-      variable_used at (name_with i ss) es (find i.name h.scope) (last_field ss) v o k (none_given s w es (a ∙ ap (λ (z : List Operand). Ok z) (alone_none (calls.placed at v (calls.place_of s v) d.uses) p os g)))
+      variable_used at (name_with i ss) es (find i.name h.scope) (last_field ss) v o k (none_given s w es (a ∙ ap (λ (z : List Operand). Ok z) (alone_none (calls.operand_at at v (calls.place_of s v) d.uses) p os g)))
   value_used at i ss es d (Parameter v) os o p same k small less is a g =
-      variable_used at (name_with i ss) es (find i.name h.scope) (last_field ss) v o k (none_given s w es (a ∙ ap (λ (z : List Operand). Ok z) (alone_none (calls.placed at v place.Fixed d.uses) p os g)))
+      variable_used at (name_with i ss) es (find i.name h.scope) (last_field ss) v o k (none_given s w es (a ∙ ap (λ (z : List Operand). Ok z) (alone_none (calls.operand_at at v place.Fixed d.uses) p os g)))
   value_used at i ss es d (Predeclared' q) os o p same k small less is a g =
       let one : Single os = applied_one at q os (calls.total_use d.uses os) p g in
       standard_used at (name_with i ss) es q (find i.name h.scope) (last_field ss) k (λ other. other_bare tokens s h w agrees i ss d other is) (one_given s w es one.operand (a ∙ ap (λ (z : List Operand). Ok z) one.is))
@@ -194,7 +194,7 @@ module _ (tokens : Tokens) (s : Scopes) (h : Here) (w : Context) (agrees : Scope
       pub expression_used : (v : Bool) (e : Expression) → IsSmallExpression e → (p : Operand) → (v ≡ true → is_function p.place ≡ false) → Below f p.uses → expression s w v e ≡ Ok p → IsUsed h e × CallsFine (expression_calls h.scope e)
       expression_used v (alone at a) m p only low is = sum_used v a m p only low is
       expression_used v (related at a r b) m p only low is =
-          let t : Then (both (sum_value s w false a) (sum_value s w false b)) (operations.related at r) p = then_of (both (sum_value s w false a) (sum_value s w false b)) (operations.related at r) p is in
+          let t : Then (both (sum_value s w false a) (sum_value s w false b)) (operations.relation_value at r) p = then_of (both (sum_value s w false a) (sum_value s w false b)) (operations.relation_value at r) p is in
           let q = both_of (sum_value s w false a) (sum_value s w false b) t.value t.is in
           let k = related_below f at r t.value p t.rest low in
           let x = sum_used false a m.0 t.value.0 (never t.value.0) k.0 q.first in
@@ -204,20 +204,20 @@ module _ (tokens : Tokens) (s : Scopes) (h : Here) (w : Context) (agrees : Scope
       sum_used : (v : Bool) (a : Sum) → IsSmallSum a → (p : Operand) → (v ≡ true → is_function p.place ≡ false) → Below f p.uses → sum_value s w v a ≡ Ok p → SumUsed h a × CallsFine (sum_calls h.scope a)
       sum_used v (sum at o t ts) m p only low is =
           let b : Bool = v && (is_unsigned o && has_no_terms ts) in
-          let all : more_terms s w at (term_value s w b t >>= expressions.signed at o) ts ≡ Ok (Some p) = agreed_some at (more_terms s w at (term_value s w b t >>= expressions.signed at o) ts) p is in
-          let rest = terms_used at ts m.1 (term_value s w b t >>= expressions.signed at o) (Some p) low all in
-          let one : Then (term_value s w b t) (expressions.signed at o) rest.value = then_of (term_value s w b t) (expressions.signed at o) rest.value rest.is in
-          let below : Below f one.value.uses = signed_below f at o one.value (subst (OptionBelow f) (sym (option_ok (operations.signed at o one.value) rest.value one.rest)) rest.below) in
+          let all : more_terms s w at (term_value s w b t >>= expressions.first_term at o) ts ≡ Ok (Some p) = agreed_some at (more_terms s w at (term_value s w b t >>= expressions.first_term at o) ts) p is in
+          let rest = terms_used at ts m.1 (term_value s w b t >>= expressions.first_term at o) (Some p) low all in
+          let one : Then (term_value s w b t) (expressions.first_term at o) rest.value = then_of (term_value s w b t) (expressions.first_term at o) rest.value rest.is in
+          let below : Below f one.value.uses = signed_below f at o one.value (subst (OptionBelow f) (sym (option_ok (operations.with_sign at o one.value) rest.value one.rest)) rest.below) in
           let x = term_used b t m.0 one.value (sum_only s w at v o ts (term_value s w b t) one.value p one.is only all) below one.is in
           ((x.0, rest.rest.0), fine_both (term_calls h.scope t) (terms_calls h.scope ts) x.1 rest.rest.1)
 
       terms_used : (at : ℕ) (ts : Terms) → AreSmallTerms ts → (j : Judged (Option Operand)) (r : Option Operand) → OptionBelow f r → more_terms s w at j ts ≡ Ok r → Reached (OptionBelow f) j (TermsUsed h ts × CallsFine (terms_calls h.scope ts))
       terms_used at no_terms m j r low is = record { value = r; is = is; below = low; rest = (tt, (tt, tt)) }
       terms_used at (terms_more a t ts) m j r low is =
-          let rest = terms_used at ts m.1 (both j (term_value s w false t) >>= expressions.added at a) r low is in
-          let k : Then (both j (term_value s w false t)) (expressions.added at a) rest.value = then_of (both j (term_value s w false t)) (expressions.added at a) rest.value rest.is in
+          let rest = terms_used at ts m.1 (both j (term_value s w false t) >>= expressions.sum_so_far at a) r low is in
+          let k : Then (both j (term_value s w false t)) (expressions.sum_so_far at a) rest.value = then_of (both j (term_value s w false t)) (expressions.sum_so_far at a) rest.value rest.is in
           let q = both_of j (term_value s w false t) k.value k.is in
-          let below = added_below f at a k.value.0 k.value.1 (subst (OptionBelow f) (sym (option_ok (operations.added at a k.value.0 k.value.1) rest.value k.rest)) rest.below) in
+          let below = added_below f at a k.value.0 k.value.1 (subst (OptionBelow f) (sym (option_ok (operations.sum_of at a k.value.0 k.value.1) rest.value k.rest)) rest.below) in
           let x = term_used false t m.0 k.value.1 (never k.value.1) below.1 q.second in
           record { value = k.value.0; is = q.first; below = below.0; rest = ((x.0, rest.rest.0), fine_both (term_calls h.scope t) (terms_calls h.scope ts) x.1 rest.rest.1) }
 
@@ -234,10 +234,10 @@ module _ (tokens : Tokens) (s : Scopes) (h : Here) (w : Context) (agrees : Scope
       factors_used : (at : ℕ) (fs : Factors) → AreSmallFactors fs → (j : Judged (Option Operand)) (r : Option Operand) → OptionBelow f r → more_factors s w at j fs ≡ Ok r → Reached (OptionBelow f) j (FactorsUsed h fs × CallsFine (factors_calls h.scope fs))
       factors_used at no_factors m j r low is = record { value = r; is = is; below = low; rest = (tt, (tt, tt)) }
       factors_used at (factors_more o g fs) m j r low is =
-          let rest = factors_used at fs m.1 (both j (factor s w false g) >>= expressions.multiplied at o) r low is in
-          let k : Then (both j (factor s w false g)) (expressions.multiplied at o) rest.value = then_of (both j (factor s w false g)) (expressions.multiplied at o) rest.value rest.is in
+          let rest = factors_used at fs m.1 (both j (factor s w false g) >>= expressions.product_so_far at o) r low is in
+          let k : Then (both j (factor s w false g)) (expressions.product_so_far at o) rest.value = then_of (both j (factor s w false g)) (expressions.product_so_far at o) rest.value rest.is in
           let q = both_of j (factor s w false g) k.value k.is in
-          let below = multiplied_below f at o k.value.0 k.value.1 (subst (OptionBelow f) (sym (option_ok (operations.multiplied at o k.value.0 k.value.1) rest.value k.rest)) rest.below) in
+          let below = multiplied_below f at o k.value.0 k.value.1 (subst (OptionBelow f) (sym (option_ok (operations.product_of at o k.value.0 k.value.1) rest.value k.rest)) rest.below) in
           let x = factor_used false g m.0 k.value.1 (never k.value.1) below.1 q.second in
           record { value = k.value.0; is = q.first; below = below.0; rest = ((x.0, rest.rest.0), fine_both (factor_calls h.scope g) (factors_calls h.scope fs) x.1 rest.rest.1) }
 
@@ -247,8 +247,8 @@ module _ (tokens : Tokens) (s : Scopes) (h : Here) (w : Context) (agrees : Scope
           let call : Bool = is_call_meant (find i.name h.scope) (last_field ss) in
           let k : NameParts s w d es at p = name_parts s w (v && has_none es) d es at p (name_only v es p only) is in
           let q : ValueSaid s w f k.value.named k.value k.operands = value_said s w f at k.value k.operands k.value.named p k.rest low in
-          let t : Then (selectors s w (names.begun s i) ss) (names.known i.at) k.value = then_of (selectors s w (names.begun s i) ss) (names.known i.at) k.value k.is in
-          let x = selectors_used ss m.0 (names.begun s i) t.value (subst (λ (c : check_designated.DesignatedName). Below f c.uses) (sym (known_is s w i.at t.value k.value t.rest)) q.first) t.is in
+          let t : Then (selectors s w (names.meaning_of_name s i) ss) (names.check_selectors i.at) k.value = then_of (selectors s w (names.meaning_of_name s i) ss) (names.check_selectors i.at) k.value k.is in
+          let x = selectors_used ss m.0 (names.meaning_of_name s i) t.value (subst (λ (c : check_designated.DesignatedName). Below f c.uses) (sym (known_is s w i.at t.value k.value t.rest)) q.first) t.is in
           let y = arguments_used 0 es m.1 k.operands q.others k.arguments in
           let typed = designator_named tokens s h w agrees i ss k.value m.0 k.is in
           let z = value_used at i ss es k.value k.value.named k.operands (designator_form h d) p refl typed m.0 m.1 k.is k.arguments k.rest in
@@ -256,12 +256,12 @@ module _ (tokens : Tokens) (s : Scopes) (h : Here) (w : Context) (agrees : Scope
           ((x.rest.0, y.0, z.0), fine_both (selectors_calls h.scope ss ++ expressions_calls h.scope es) (own_call call at d es) (fine_both (selectors_calls h.scope ss) (expressions_calls h.scope es) x.rest.1 y.1) (z.1, own))
       factor_used v (group at e) m p only low is =
           let t : Then (expression s w false e) (expressions.to_group at) p = then_of (expression s w false e) (expressions.to_group at) p is in
-          expression_used false e m t.value (never t.value) (subst (λ (o : Operand). Below f o.uses) (sym (ok_same (expressions.grouped at t.value) p t.rest)) low) t.is
+          expression_used false e m t.value (never t.value) (subst (λ (o : Operand). Below f o.uses) (sym (ok_same (expressions.value_in_parentheses at t.value) p t.rest)) low) t.is
       factor_used v (negated at g) m p only low is =
-          let t : Then (factor s w false g) (operations.negated at) p = then_of (factor s w false g) (operations.negated at) p is in
+          let t : Then (factor s w false g) (operations.negation_of at) p = then_of (factor s w false g) (operations.negation_of at) p is in
           factor_used false g m t.value (never t.value) (negated_below f at t.value p t.rest low) t.is
       factor_used v (set_of at es) m p only low is =
-          let t : Then (arguments s w [] 0 es) (expressions.constructed at) p = then_of (arguments s w [] 0 es) (expressions.constructed at) p is in
+          let t : Then (arguments s w [] 0 es) (expressions.set_value at) p = then_of (arguments s w [] 0 es) (expressions.set_value at) p is in
           arguments_used 0 es m t.value (constructed_below f at t.value p t.rest low) t.is
       factor_used v _ m p only low is = (tt, (tt, tt))
 
@@ -279,20 +279,20 @@ module _ (tokens : Tokens) (s : Scopes) (h : Here) (w : Context) (agrees : Scope
       selectors_used : (ss : Selectors) → AreSmallSelectors ss → (j : Judged check_designated.DesignatedName) (d : check_designated.DesignatedName) → Below f d.uses → selectors s w j ss ≡ Ok d → Reached (λ (c : check_designated.DesignatedName). Below f c.uses) j (SelectorsUsed h ss × CallsFine (selectors_calls h.scope ss))
       selectors_used no_selectors m j d low is = record { value = d; is = is; below = low; rest = (tt, (tt, tt)) }
       selectors_used (more_selectors (field i) ss) m j d low is =
-          let r = selectors_used ss m.1 (j >>= names.selected s i) d low is in
-          let t : Then j (names.selected s i) r.value = then_of j (names.selected s i) r.value r.is in
+          let r = selectors_used ss m.1 (j >>= names.member_of s i) d low is in
+          let t : Then j (names.member_of s i) r.value = then_of j (names.member_of s i) r.value r.is in
           record { value = t.value; is = t.is; below = subst (Below f) (sym (selected_uses s w f h.scope i t.value r.value (names.type_of t.value.named) t.rest)) r.below; rest = ((tt, r.rest.0), r.rest.1) }
       selectors_used (more_selectors (index e) ss) m j d low is =
           let r = selectors_used ss m.1 (both j (expression s w false e) >>= expressions.at_index s) d low is in
           let t : Then (both j (expression s w false e)) (expressions.at_index s) r.value = then_of (both j (expression s w false e)) (expressions.at_index s) r.value r.is in
           let q = both_of j (expression s w false e) t.value t.is in
-          let all = subst (λ (z : check_designated.DesignatedName). Below f z.uses) (sym (ok_same (names.indexed s t.value.0 t.value.1) r.value t.rest)) r.below in
+          let all = subst (λ (z : check_designated.DesignatedName). Below f z.uses) (sym (ok_same (names.element_name s t.value.0 t.value.1) r.value t.rest)) r.below in
           let x = expression_used false e m.0 t.value.1 (never t.value.1) (second_below f t.value.0.uses t.value.1.uses all) q.second in
           record { value = t.value.0; is = q.first; below = first_below f t.value.0.uses t.value.1.uses all; rest = ((x.0, r.rest.0), fine_both (expression_calls h.scope e) (selectors_calls h.scope ss) x.1 r.rest.1) }
 
     pub designator_used : (i : Identifier) (ss : Selectors) → AreSmallSelectors ss → (d : check_designated.DesignatedName) → Below f d.uses → designator s w (name_with i ss) ≡ Ok d → SelectorsUsed h ss × CallsFine (selectors_calls h.scope ss)
     unfolding expression
     designator_used i ss m d low is =
-        let t : Then (selectors s w (names.begun s i) ss) (names.known i.at) d = then_of (selectors s w (names.begun s i) ss) (names.known i.at) d is in
-        let r = selectors_used ss m (names.begun s i) t.value (subst (λ (z : check_designated.DesignatedName). Below f z.uses) (sym (known_is s w i.at t.value d t.rest)) low) t.is in
+        let t : Then (selectors s w (names.meaning_of_name s i) ss) (names.check_selectors i.at) d = then_of (selectors s w (names.meaning_of_name s i) ss) (names.check_selectors i.at) d is in
+        let r = selectors_used ss m (names.meaning_of_name s i) t.value (subst (λ (z : check_designated.DesignatedName). Below f z.uses) (sym (known_is s w i.at t.value d t.rest)) low) t.is in
         r.rest

@@ -35,11 +35,11 @@ IsNothing (Ok d) = d.named ≡ name.Nothing
 IsNothing (Err fs) = Unit {0}
 
 module _ (s : Scopes) (w : Context) where
-  untyped_field : (i : Identifier) (d : check_designated.DesignatedName) (o : Option ValueType) → o ≡ None → IsNothing (names.selected_of s i d o)
+  untyped_field : (i : Identifier) (d : check_designated.DesignatedName) (o : Option ValueType) → o ≡ None → IsNothing (names.member_by_type s i d o)
   untyped_field i d None e = refl
   untyped_field i d (Some v) e = absurd (cc)
 
-  untyped_element : (d : check_designated.DesignatedName) (v : Operand) (o : Option ValueType) → o ≡ None → names.indexed_of s d v o ≡ name.Nothing
+  untyped_element : (d : check_designated.DesignatedName) (v : Operand) (o : Option ValueType) → o ≡ None → names.element_name_of s d v o ≡ name.Nothing
   untyped_element d v None e = refl
   untyped_element d v (Some y) e = absurd (cc)
 
@@ -72,10 +72,10 @@ module _ (s : Scopes) (w : Context) where
   nothing_stays (more_selectors c ss) j e = nothing_stays ss (selector s w j c) (nothing_selected j c e)
 
   -- what is known is not nothing
-  pub nothing_known : (at : ℕ) (j : Judged check_designated.DesignatedName) (d : check_designated.DesignatedName) → IsNothing j → (j >>= names.known at) ≡ Ok d → ⊥
+  pub nothing_known : (at : ℕ) (j : Judged check_designated.DesignatedName) (d : check_designated.DesignatedName) → IsNothing j → (j >>= names.check_selectors at) ≡ Ok d → ⊥
   nothing_known at (Ok c) d e k = go c.named e k
     where
-      go : (n : Named) → n ≡ name.Nothing → names.known_named at c n ≡ Ok d → ⊥
+      go : (n : Named) → n ≡ name.Nothing → names.check_selectors_of at c n ≡ Ok d → ⊥
       go name.Nothing i g = cc
       go (name.Variable v) i g = cc
       go (name.Parameter v) i g = cc
@@ -87,15 +87,15 @@ module _ (s : Scopes) (w : Context) where
   nothing_known at (Err fs) d e k = cc
 
   -- so what has no type has no selectors
-  pub untyped_bare : (at : ℕ) (ss : Selectors) (c d : check_designated.DesignatedName) → IsUntyped c.named → (selectors s w (Ok c) ss >>= names.known at) ≡ Ok d → ss ≡ no_selectors
+  pub untyped_bare : (at : ℕ) (ss : Selectors) (c d : check_designated.DesignatedName) → IsUntyped c.named → (selectors s w (Ok c) ss >>= names.check_selectors at) ≡ Ok d → ss ≡ no_selectors
   unfolding expression
   untyped_bare at no_selectors c d h k = refl
   untyped_bare at (more_selectors x ss) c d h k = absurd (nothing_known at (selectors s w (selector s w (Ok c) x) ss) d (nothing_stays ss (selector s w (Ok c) x) (untyped_selected c x (untyped_type c.named h))) k)
 
-  pub known_is : (at : ℕ) (c d : check_designated.DesignatedName) → names.known at c ≡ Ok d → c ≡ d
+  pub known_is : (at : ℕ) (c d : check_designated.DesignatedName) → names.check_selectors at c ≡ Ok d → c ≡ d
   known_is at c d k = go c.named k
     where
-      go : (n : Named) → names.known_named at c n ≡ Ok d → c ≡ d
+      go : (n : Named) → names.check_selectors_of at c n ≡ Ok d → c ≡ d
       go name.Nothing g = absurd (cc)
       go (name.Variable v) g = ok_same c d g
       go (name.Parameter v) g = ok_same c d g
@@ -133,7 +133,7 @@ module _ (tokens : Tokens) (s : Scopes) (h : Here) (w : Context) (agrees : Scope
   other_untyped i m x (name.Parameter v) o other k = other (holds_variable m x v o k)
   other_untyped i m x _ o other k = tt
 
-  bare_of : (i : Identifier) (ss : Selectors) (j : Judged check_designated.DesignatedName) (d : check_designated.DesignatedName) → names.begun s i ≡ j → (IsVariableMeaning (find i.name h.scope) → ⊥) → (selectors s w j ss >>= names.known i.at) ≡ Ok d → ss ≡ no_selectors
+  bare_of : (i : Identifier) (ss : Selectors) (j : Judged check_designated.DesignatedName) (d : check_designated.DesignatedName) → names.meaning_of_name s i ≡ j → (IsVariableMeaning (find i.name h.scope) → ⊥) → (selectors s w j ss >>= names.check_selectors i.at) ≡ Ok d → ss ≡ no_selectors
   bare_of i ss (Ok c) d is other k =
       untyped_bare s w i.at ss c d
       (other_untyped i.name (find i.name h.scope) None c.named (begun_form h i.name (find i.name h.scope)) other (subst (λ j. HasDesignated tokens s h i.name (find i.name h.scope) None j (begun_form h i.name (find i.name h.scope))) is (begun_typed tokens s h agrees i)))
@@ -143,7 +143,7 @@ module _ (tokens : Tokens) (s : Scopes) (h : Here) (w : Context) (agrees : Scope
   -- what stands for no variable has no selectors
   pub other_bare : (i : Identifier) (ss : Selectors) (d : check_designated.DesignatedName) → (IsVariableMeaning (find i.name h.scope) → ⊥) → designator s w (name_with i ss) ≡ Ok d → IsBare (name_with i ss)
   unfolding expression
-  other_bare i ss d other k = subst (λ (cs : Selectors). IsBare (name_with i cs)) (sym (bare_of i ss (names.begun s i) d refl other k)) tt
+  other_bare i ss d other k = subst (λ (cs : Selectors). IsBare (name_with i cs)) (sym (bare_of i ss (names.meaning_of_name s i) d refl other k)) tt
 
   -- ---- entries of components
 
@@ -164,12 +164,12 @@ module _ (tokens : Tokens) (s : Scopes) (h : Here) (w : Context) (agrees : Scope
   entry_type c d r v same e t = (let bad : None ≡ Some v = sym (ap names.type_of (ap (λ (x : check_designated.DesignatedName). x.named) same ∙ e)) ∙ t in cc)
 
   -- of one component
-  single_entry : (at : ℕ) (ss : Selectors) (c d : check_designated.DesignatedName) (part : code.ComponentPlace) (k r : ℕ) (kind : SystemKind) → names.type_of c.named ≡ Some (types.Component kind (tokens.systems k)) → d.named ≡ name.Entry r → (selectors s w (Ok c) ss >>= names.known at) ≡ Ok d → EntryFound ss (Some (a_component part k)) r k
+  single_entry : (at : ℕ) (ss : Selectors) (c d : check_designated.DesignatedName) (part : code.ComponentPlace) (k r : ℕ) (kind : SystemKind) → names.type_of c.named ≡ Some (types.Component kind (tokens.systems k)) → d.named ≡ name.Entry r → (selectors s w (Ok c) ss >>= names.check_selectors at) ≡ Ok d → EntryFound ss (Some (a_component part k)) r k
   unfolding expression
   single_entry at no_selectors c d part k r kind t e g = absurd (entry_type c d r (types.Component kind (tokens.systems k)) (known_is s w at c d g) e t)
   single_entry at (more_selectors (index x) ss) c d part k r kind t e g = absurd (nothing_known s w at (selectors s w (both (Ok c) (expression s w false x) >>= at_index s) ss) d (nothing_stays s w ss (both (Ok c) (expression s w false x) >>= at_index s) (go (expression s w false x))) g)
     where
-      element : (v : Operand) (o : Option ValueType) → o ≡ Some (types.Component kind (tokens.systems k)) → names.indexed_of s c v o ≡ name.Nothing
+      element : (v : Operand) (o : Option ValueType) → o ≡ Some (types.Component kind (tokens.systems k)) → names.element_name_of s c v o ≡ name.Nothing
       element v (Some (types.Component j n)) i = refl
       element v (Some (types.Ordinal y)) i = absurd (cc)
       element v (Some types.Queue) i = absurd (cc)
@@ -182,21 +182,21 @@ module _ (tokens : Tokens) (s : Scopes) (h : Here) (w : Context) (agrees : Scope
       go (Ok v) = element v (names.type_of c.named) t
       go (Err fs) = tt
   single_entry at (more_selectors (field i) ss) c d part k r kind t e g =
-      found (member_at (tokens.systems k) i.name s) refl (subst (λ (o : Option ValueType). (selectors s w (names.selected_of s i c o) ss >>= names.known at) ≡ Ok d) t g)
+      found (member_at (tokens.systems k) i.name s) refl (subst (λ (o : Option ValueType). (selectors s w (names.member_by_type s i c o) ss >>= names.check_selectors at) ≡ Ok d) t g)
     where
-      after : (n : ℕ) (ts : Selectors) → member_at (tokens.systems k) i.name s ≡ Some (Some (meaning.Routine n)) → ts ≡ no_selectors → (selectors s w (Ok (names.designated i.at c.uses (name.Entry n))) ts >>= names.known at) ≡ Ok d → EntryFound (more_selectors (field i) ts) (Some (a_component part k)) r k
+      after : (n : ℕ) (ts : Selectors) → member_at (tokens.systems k) i.name s ≡ Some (Some (meaning.Routine n)) → ts ≡ no_selectors → (selectors s w (Ok (names.designation i.at c.uses (name.Entry n))) ts >>= names.check_selectors at) ≡ Ok d → EntryFound (more_selectors (field i) ts) (Some (a_component part k)) r k
       after n no_selectors m none y =
-          let same : names.designated i.at c.uses (name.Entry n) ≡ d = known_is s w at (names.designated i.at c.uses (name.Entry n)) d y in
+          let same : names.designation i.at c.uses (name.Entry n) ≡ d = known_is s w at (names.designation i.at c.uses (name.Entry n)) d y in
           let one : name.Entry n ≡ name.Entry r = ap (λ (z : check_designated.DesignatedName). z.named) same ∙ e in
           let number : n ≡ r = cc in
           record { entry = tt; part = part; name = i.name; last = refl; formed = refl; member = m ∙ ap (λ z. Some (Some (meaning.Routine z))) number }
       after n (more_selectors x ts) m none y = absurd (cc)
 
-      bad : {A : Type 0} (fs : List CheckFault) → (selectors s w (Err fs) ss >>= names.known at) ≡ Ok d → A
+      bad : {A : Type 0} (fs : List CheckFault) → (selectors s w (Err fs) ss >>= names.check_selectors at) ≡ Ok d → A
       bad fs y = absurd (nothing_known s w at (selectors s w (Err fs) ss) d (nothing_stays s w ss (Err fs) tt) y)
 
-      found : (o : Option (Option Meaning)) → member_at (tokens.systems k) i.name s ≡ o → (selectors s w (names.with_entry i.at c o) ss >>= names.known at) ≡ Ok d → EntryFound (more_selectors (field i) ss) (Some (a_component part k)) r k
-      found (Some (Some (meaning.Routine n))) m y = after n ss m (untyped_bare s w at ss (names.designated i.at c.uses (name.Entry n)) d tt y) y
+      found : (o : Option (Option Meaning)) → member_at (tokens.systems k) i.name s ≡ o → (selectors s w (names.with_entry i.at c o) ss >>= names.check_selectors at) ≡ Ok d → EntryFound (more_selectors (field i) ss) (Some (a_component part k)) r k
+      found (Some (Some (meaning.Routine n))) m y = after n ss m (untyped_bare s w at ss (names.designation i.at c.uses (name.Entry n)) d tt y) y
       found _ m y = bad _ y
 
   part_type : (n : Named) (v u : ValueType) → names.type_of n ≡ Some v → names.type_of (names.part_of n u) ≡ Some u
@@ -205,13 +205,13 @@ module _ (tokens : Tokens) (s : Scopes) (h : Here) (w : Context) (agrees : Scope
   part_type x v u e = absurd (cc)
 
   -- of one of an array
-  many_entry : (at : ℕ) (ss : Selectors) (c d : check_designated.DesignatedName) (first : ℕ) (q : named.Range) (k r : ℕ) (v : ValueType) → AreSmallSelectors ss → names.type_of c.named ≡ Some v → TypeIs (written tokens s h) (named.array_over q (named.component_of k)) v → d.named ≡ name.Entry r → (selectors s w (Ok c) ss >>= names.known at) ≡ Ok d → EntryFound ss (Some (some_components first q k)) r k
+  many_entry : (at : ℕ) (ss : Selectors) (c d : check_designated.DesignatedName) (first : ℕ) (q : named.Range) (k r : ℕ) (v : ValueType) → AreSmallSelectors ss → names.type_of c.named ≡ Some v → TypeIs (written tokens s h) (named.array_over q (named.component_of k)) v → d.named ≡ name.Entry r → (selectors s w (Ok c) ss >>= names.check_selectors at) ≡ Ok d → EntryFound ss (Some (some_components first q k)) r k
   unfolding expression
   many_entry at no_selectors c d first q k r v small t a e g = absurd (entry_type c d r v (known_is s w at c d g) e t)
   many_entry at (more_selectors (field i) ss) c d first q k r v small t a e g =
-      absurd (nothing_known s w at (selectors s w (names.selected s i c) ss) d (nothing_stays s w ss (names.selected s i c) (go (names.type_of c.named) (t ∙ ap (λ (y : ValueType). Some y) a.is))) g)
+      absurd (nothing_known s w at (selectors s w (names.member_of s i c) ss) d (nothing_stays s w ss (names.member_of s i c) (go (names.type_of c.named) (t ∙ ap (λ (y : ValueType). Some y) a.is))) g)
     where
-      go : (o : Option ValueType) → o ≡ Some (types.Array a.token) → IsNothing (names.selected_of s i c o)
+      go : (o : Option ValueType) → o ≡ Some (types.Array a.token) → IsNothing (names.member_by_type s i c o)
       go (Some (types.Array n)) z = refl
       go (Some (types.Ordinal y)) z = absurd (cc)
       go (Some types.Queue) z = absurd (cc)
@@ -222,15 +222,15 @@ module _ (tokens : Tokens) (s : Scopes) (h : Here) (w : Context) (agrees : Scope
   many_entry at (more_selectors (index x) ss) c d first q k r v small t a e g = judged (expression s w false x) refl g
     where
       typed : Option ValueType → Operand → check_designated.DesignatedName
-      typed o y = names.designated c.name_at (both_uses c.uses y.uses) (names.indexed_of s c y o)
+      typed o y = names.designation c.name_at (both_uses c.uses y.uses) (names.element_name_of s c y o)
 
-      chosen : (y : Operand) (b : Bool) → agree (types.Ordinal a.shape.index) y.value_type ≡ b → HasForm (written tokens s h) (Ok y) (expression_form h x) → (selectors s w (Ok (names.designated c.name_at (both_uses c.uses y.uses) (if b then names.part_of c.named a.shape.element else name.Nothing))) ss >>= names.known at) ≡ Ok d →
+      chosen : (y : Operand) (b : Bool) → agree (types.Ordinal a.shape.index) y.value_type ≡ b → HasForm (written tokens s h) (Ok y) (expression_form h x) → (selectors s w (Ok (names.designation c.name_at (both_uses c.uses y.uses) (if b then names.part_of c.named a.shape.element else name.Nothing))) ss >>= names.check_selectors at) ≡ Ok d →
           EntryFound (more_selectors (index x) ss) (Some (some_components first q k)) r k
       chosen y true i f z =
           let o = index_ordinal tokens s h agrees [] None a.shape.index y.value_type (expression_form h x) i f in
           let part : code.ComponentPlace = code.element first q.low q.high (h.layouts.systems k).count o.1 in
           let one : EntryFound ss (Some (a_component part k)) r k =
-          single_entry at ss (names.designated c.name_at (both_uses c.uses y.uses) (names.part_of c.named a.shape.element)) d part k r a.belongs.kind (part_type c.named v a.shape.element t ∙ ap (λ (u : ValueType). Some u) a.belongs.is) e z in
+          single_entry at ss (names.designation c.name_at (both_uses c.uses y.uses) (names.part_of c.named a.shape.element)) d part k r a.belongs.kind (part_type c.named v a.shape.element t ∙ ap (λ (u : ValueType). Some u) a.belongs.is) e z in
           record {
             entry = one.entry;
             part = one.part;
@@ -239,24 +239,24 @@ module _ (tokens : Tokens) (s : Scopes) (h : Here) (w : Context) (agrees : Scope
             formed = ap (λ (p : Option Formed). then_form (then_form p (with_index_form h (some_components first q k))) (selected_form h ss)) o.2 ∙ one.formed;
             member = one.member;
           }
-      chosen y false i f z = absurd (nothing_known s w at (selectors s w (Ok (names.designated c.name_at (both_uses c.uses y.uses) name.Nothing)) ss) d (nothing_stays s w ss (Ok (names.designated c.name_at (both_uses c.uses y.uses) name.Nothing)) refl) z)
+      chosen y false i f z = absurd (nothing_known s w at (selectors s w (Ok (names.designation c.name_at (both_uses c.uses y.uses) name.Nothing)) ss) d (nothing_stays s w ss (Ok (names.designation c.name_at (both_uses c.uses y.uses) name.Nothing)) refl) z)
 
-      judged : (j : Judged Operand) → expression s w false x ≡ j → (selectors s w (both (Ok c) j >>= at_index s) ss >>= names.known at) ≡ Ok d → EntryFound (more_selectors (index x) ss) (Some (some_components first q k)) r k
+      judged : (j : Judged Operand) → expression s w false x ≡ j → (selectors s w (both (Ok c) j >>= at_index s) ss >>= names.check_selectors at) ≡ Ok d → EntryFound (more_selectors (index x) ss) (Some (some_components first q k)) r k
       judged (Ok y) is z =
           let there : array_at a.token s ≡ Some a.shape = a.there in
           let f : HasForm (written tokens s h) (Ok y) (expression_form h x) = subst (λ (j : Judged Operand). HasForm (written tokens s h) j (expression_form h x)) is (expression_typed tokens s h w agrees x small.0) in
           chosen y (agree (types.Ordinal a.shape.index) y.value_type) refl f
-          (subst (λ (o : Option ArrayShape). (selectors s w (Ok (names.designated c.name_at (both_uses c.uses y.uses) (names.element_of c y o))) ss >>= names.known at) ≡ Ok d) there
-          (subst (λ (o : Option ValueType). (selectors s w (Ok (typed o y)) ss >>= names.known at) ≡ Ok d) (t ∙ ap (λ (u : ValueType). Some u) a.is) z))
+          (subst (λ (o : Option ArrayShape). (selectors s w (Ok (names.designation c.name_at (both_uses c.uses y.uses) (names.element_of c y o))) ss >>= names.check_selectors at) ≡ Ok d) there
+          (subst (λ (o : Option ValueType). (selectors s w (Ok (typed o y)) ss >>= names.check_selectors at) ≡ Ok d) (t ∙ ap (λ (u : ValueType). Some u) a.is) z))
       judged (Err fs) is z = absurd (nothing_known s w at (selectors s w (Err fs) ss) d (nothing_stays s w ss (Err fs) tt) z)
 
   -- ---- a designator that is an entry
 
-  begun_entry : (i : Identifier) (c : check_designated.DesignatedName) (r : ℕ) → names.begun s i ≡ Ok c → c.named ≡ name.Entry r → ⊥
-  unfolding names.begun names.visible
+  begun_entry : (i : Identifier) (c : check_designated.DesignatedName) (r : ℕ) → names.meaning_of_name s i ≡ Ok c → c.named ≡ name.Entry r → ⊥
+  unfolding names.meaning_of_name names.visible
   begun_entry i c r is e = go (look i.name s) is
     where
-      no_entry : (m : Meaning) → names.named_of m ≡ name.Entry r → ⊥
+      no_entry : (m : Meaning) → names.without_selectors m ≡ name.Entry r → ⊥
       no_entry (meaning.Constant b z) g = cc
       no_entry (meaning.Kind v) g = cc
       no_entry (meaning.Variable v) g = cc
@@ -265,18 +265,18 @@ module _ (tokens : Tokens) (s : Scopes) (h : Here) (w : Context) (agrees : Scope
       no_entry (meaning.Routine n) g = cc
       no_entry (meaning.Predeclared q) g = cc
 
-      go : (o : Option (Option Meaning)) → (names.found i.at o >>= names.unselected i.at) ≡ Ok c → ⊥
-      go (Some (Some m)) k = no_entry m (ap (λ (d : check_designated.DesignatedName). d.named) (ok_same (names.designated i.at no_use (names.named_of m)) c k) ∙ e)
+      go : (o : Option (Option Meaning)) → (names.check_visible i.at o >>= names.designation_of i.at) ≡ Ok c → ⊥
+      go (Some (Some m)) k = no_entry m (ap (λ (d : check_designated.DesignatedName). d.named) (ok_same (names.designation i.at no_use (names.without_selectors m)) c k) ∙ e)
       go x k = cc
 
-  bare_entry : (i : Identifier) (c d : check_designated.DesignatedName) (r : ℕ) → names.begun s i ≡ Ok c → d.named ≡ name.Entry r → (selectors s w (Ok c) no_selectors >>= names.known i.at) ≡ Ok d → ⊥
+  bare_entry : (i : Identifier) (c d : check_designated.DesignatedName) (r : ℕ) → names.meaning_of_name s i ≡ Ok c → d.named ≡ name.Entry r → (selectors s w (Ok c) no_selectors >>= names.check_selectors i.at) ≡ Ok d → ⊥
   unfolding expression
   bare_entry i c d r b e g = begun_entry i c r b (ap (λ (x : check_designated.DesignatedName). x.named) (known_is s w i.at c d g) ∙ e)
 
-  untyped_entry : (i : Identifier) (ss : Selectors) (c d : check_designated.DesignatedName) (r : ℕ) → names.begun s i ≡ Ok c → IsUntyped c.named → d.named ≡ name.Entry r → (selectors s w (Ok c) ss >>= names.known i.at) ≡ Ok d → ⊥
+  untyped_entry : (i : Identifier) (ss : Selectors) (c d : check_designated.DesignatedName) (r : ℕ) → names.meaning_of_name s i ≡ Ok c → IsUntyped c.named → d.named ≡ name.Entry r → (selectors s w (Ok c) ss >>= names.check_selectors i.at) ≡ Ok d → ⊥
   untyped_entry i ss c d r b n e g =
       let none : ss ≡ no_selectors = untyped_bare s w i.at ss c d n g in
-      bare_entry i c d r b e (subst (λ (cs : Selectors). (selectors s w (Ok c) cs >>= names.known i.at) ≡ Ok d) none g)
+      bare_entry i c d r b e (subst (λ (cs : Selectors). (selectors s w (Ok c) cs >>= names.check_selectors i.at) ≡ Ok d) none g)
 
   pub record EntryUsed (i : Identifier) (ss : Selectors) (r : ℕ) : Type 0 where
     pub system : ℕ
@@ -290,7 +290,7 @@ module _ (tokens : Tokens) (s : Scopes) (h : Here) (w : Context) (agrees : Scope
   plain_call _ x p e = p
 
   held_entry : (i : Identifier) (ss : Selectors) (c d : check_designated.DesignatedName) (r : ℕ) (v : ValueType) (o : Option Designated) → begun_form h i.name (find i.name h.scope) ≡ o → AreSmallSelectors ss → names.type_of c.named ≡ Some v → Holds (written tokens s h) (find i.name h.scope) None v o → is_call_meant (find i.name h.scope) (last_field ss) ≡ true →
-      d.named ≡ name.Entry r → (selectors s w (Ok c) ss >>= names.known i.at) ≡ Ok d → EntryUsed i ss r
+      d.named ≡ name.Entry r → (selectors s w (Ok c) ss >>= names.check_selectors i.at) ≡ Ok d → EntryUsed i ss r
   held_entry i ss c d r v (Some (a_variable p t)) is small y k call e g = absurd (plain_call (find i.name h.scope) (last_field ss) k.2 call)
   held_entry i ss c d r v (Some (some_components first q n)) is small y k call e g =
       record { system = n; of = k.1; found = subst (λ (o : Option Designated). EntryFound ss o r n) (sym is) (many_entry i.at ss c d first q n r v small y k.0 e g) }
@@ -298,18 +298,18 @@ module _ (tokens : Tokens) (s : Scopes) (h : Here) (w : Context) (agrees : Scope
       record { system = n; of = k.1; found = subst (λ (o : Option Designated). EntryFound ss o r n) (sym is) (single_entry i.at ss c d part n r k.0.kind (y ∙ ap (λ (u : ValueType). Some u) k.0.is) e g) }
   held_entry i ss c d r v None is small y k call e g = absurd k
 
-  named_entry : (i : Identifier) (ss : Selectors) (c d : check_designated.DesignatedName) (r : ℕ) (n : Named) → c.named ≡ n → names.begun s i ≡ Ok c → AreSmallSelectors ss → NamedIs tokens s h i.name (find i.name h.scope) None n (begun_form h i.name (find i.name h.scope)) → is_call_meant (find i.name h.scope) (last_field ss) ≡ true →
-      d.named ≡ name.Entry r → (selectors s w (Ok c) ss >>= names.known i.at) ≡ Ok d → EntryUsed i ss r
+  named_entry : (i : Identifier) (ss : Selectors) (c d : check_designated.DesignatedName) (r : ℕ) (n : Named) → c.named ≡ n → names.meaning_of_name s i ≡ Ok c → AreSmallSelectors ss → NamedIs tokens s h i.name (find i.name h.scope) None n (begun_form h i.name (find i.name h.scope)) → is_call_meant (find i.name h.scope) (last_field ss) ≡ true →
+      d.named ≡ name.Entry r → (selectors s w (Ok c) ss >>= names.check_selectors i.at) ≡ Ok d → EntryUsed i ss r
   named_entry i ss c d r (name.Variable v) is b small k call e g = held_entry i ss c d r v (begun_form h i.name (find i.name h.scope)) refl small (ap names.type_of is) k call e g
   named_entry i ss c d r (name.Parameter v) is b small k call e g = held_entry i ss c d r v (begun_form h i.name (find i.name h.scope)) refl small (ap names.type_of is) k call e g
   named_entry i ss c d r (name.Entry n) is b small k call e g = absurd (begun_entry i c n b is)
   named_entry i ss c d r _ is b small k call e g = absurd (untyped_entry i ss c d r b (subst IsUntyped (sym is) tt) e g)
 
-  begun_is : (i : Identifier) (ss : Selectors) (j : Judged check_designated.DesignatedName) (d : check_designated.DesignatedName) (r : ℕ) → names.begun s i ≡ j → AreSmallSelectors ss → is_call_meant (find i.name h.scope) (last_field ss) ≡ true → d.named ≡ name.Entry r → (selectors s w j ss >>= names.known i.at) ≡ Ok d → EntryUsed i ss r
+  begun_is : (i : Identifier) (ss : Selectors) (j : Judged check_designated.DesignatedName) (d : check_designated.DesignatedName) (r : ℕ) → names.meaning_of_name s i ≡ j → AreSmallSelectors ss → is_call_meant (find i.name h.scope) (last_field ss) ≡ true → d.named ≡ name.Entry r → (selectors s w j ss >>= names.check_selectors i.at) ≡ Ok d → EntryUsed i ss r
   begun_is i ss (Ok c) d r is small call e g =
       named_entry i ss c d r c.named refl is small (subst (λ (j : Judged check_designated.DesignatedName). HasDesignated tokens s h i.name (find i.name h.scope) None j (begun_form h i.name (find i.name h.scope))) is (begun_typed tokens s h agrees i)) call e g
   begun_is i ss (Err fs) d r is small call e g = absurd (nothing_known s w i.at (selectors s w (Err fs) ss) d (nothing_stays s w ss (Err fs) tt) g)
 
   pub entry_used : (i : Identifier) (ss : Selectors) (d : check_designated.DesignatedName) (r : ℕ) → AreSmallSelectors ss → is_call_meant (find i.name h.scope) (last_field ss) ≡ true → d.named ≡ name.Entry r → designator s w (name_with i ss) ≡ Ok d → EntryUsed i ss r
   unfolding expression
-  entry_used i ss d r small call e g = begun_is i ss (names.begun s i) d r refl small call e g
+  entry_used i ss d r small call e g = begun_is i ss (names.meaning_of_name s i) d r refl small call e g

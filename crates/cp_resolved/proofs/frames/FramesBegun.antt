@@ -6,7 +6,7 @@ use Rattle.cp_resolved.proofs.Words.{IsSmallType, IsSmallPart, IsSmallRoutine, A
 use Rattle.cp_tree.specs.Syntax as syntax
 use Rattle.cp_layout.specs.Layers as layers
 use Rattle.cp_layout.specs.LaidTypes as laid
-use Rattle.cp_layout.specs.LaidDeclarations.{local, locals_of, local_group, local_variables, local_part, local_parts, Parameters, constant_parameter, constant_parameters_of, constant_group, constant_groups, var_parameter, var_parameters_of, var_group, parameter_group, parameter_groups, heading, with_heading, opened}
+use Rattle.cp_layout.specs.LaidDeclarations.{local, locals_of, local_group, local_variables, local_part, local_parts, Parameters, constant_parameter, constant_parameters_of, constant_group, constant_groups, var_parameter, var_parameters_of, var_group, parameter_group, parameter_groups, heading, with_heading, open_routine}
 use Rattle.cp_meaning.specs.Scopes as scopes
 use Rattle.cp_meaning.specs.Declarations as meant
 use Rattle.cp_meaning.specs.Declarations.{Variable, Parameter, Block, Heading, names_of, named_variables, parameters_named, with_names, routine_in}
@@ -187,14 +187,14 @@ module _ (k : Numbering) (all : Compounds) (counted : Counted all) where
   group_framed true l s qs ps g i few f h =
       let t : Ty = meant.type_named s g.type_name.name in
       let xs : List Name = names_of g.names in
-      let a : Frames (var_group l ps g).1 (parameters_by false qs) (parameters_by true qs ++ named_variables xs t) = vars_of_framed l ps t (laid.named_type l g.type_name.name) g.names (parameters_by false qs) (parameters_by true qs) (named_type_same k l s g.type_name.name i) (group_fits true qs xs t true f) h in
+      let a : Frames (var_group l ps g).1 (parameters_by false qs) (parameters_by true qs ++ named_variables xs t) = vars_of_framed l ps t (laid.type_of_name l g.type_name.name) g.names (parameters_by false qs) (parameters_by true qs) (named_type_same k l s g.type_name.name i) (group_fits true qs xs t true f) h in
       let e : parameters_by true (qs ++ parameters_named xs t true) ≡ parameters_by true qs ++ named_variables xs t = by_append true qs (parameters_named xs t true) ∙ ap (λ us. parameters_by true qs ++ us) (by_true xs t).0 in
       let o : parameters_by false (qs ++ parameters_named xs t true) ≡ parameters_by false qs = by_append false qs (parameters_named xs t true) ∙ ap (λ us. parameters_by false qs ++ us) (by_true xs t).1 ∙ append-nil (parameters_by false qs) in
       subst (λ us. Frames (var_group l ps g).1 us (parameters_by true (qs ++ parameters_named xs t true))) (sym o) (subst (λ us. Frames (var_group l ps g).1 (parameters_by false qs) us) (sym e) a)
   group_framed false l s qs ps g i few f h =
       let t : Ty = meant.type_named s g.type_name.name in
       let xs : List Name = names_of g.names in
-      let a : Frames (constant_group l ps g).1 (parameters_by false qs ++ named_variables xs t) (parameters_by true qs) = constants_of_framed l ps t (laid.named_type l g.type_name.name) g.names (parameters_by false qs) (parameters_by true qs) (named_type_same k l s g.type_name.name i) few (group_fits false qs xs t false f) h in
+      let a : Frames (constant_group l ps g).1 (parameters_by false qs ++ named_variables xs t) (parameters_by true qs) = constants_of_framed l ps t (laid.type_of_name l g.type_name.name) g.names (parameters_by false qs) (parameters_by true qs) (named_type_same k l s g.type_name.name i) few (group_fits false qs xs t false f) h in
       let e : parameters_by false (qs ++ parameters_named xs t false) ≡ parameters_by false qs ++ named_variables xs t = by_append false qs (parameters_named xs t false) ∙ ap (λ us. parameters_by false qs ++ us) (by_false xs t).0 in
       let o : parameters_by true (qs ++ parameters_named xs t false) ≡ parameters_by true qs = by_append true qs (parameters_named xs t false) ∙ ap (λ us. parameters_by true qs ++ us) (by_false xs t).1 ∙ append-nil (parameters_by true qs) in
       subst (λ us. Frames (constant_group l ps g).1 us (parameters_by true (qs ++ parameters_named xs t false))) (sym e) (subst (λ us. Frames (constant_group l ps g).1 (parameters_by false qs ++ named_variables xs t) us) (sym o) a)
@@ -238,7 +238,7 @@ module _ (k : Numbering) (all : Compounds) (counted : Counted all) where
       let b : Headed p.1 c.parameters = constant_groups_framed l (record { parameters = []; scope = s }) [] gs i y f h in
       let t : Ty = meant.type_named c.scope j.name in
       let d : Frames (heading l x (syntax.function gs j)).1 (parameters_by false c.parameters ++ one_variable result_name t ∷ []) (parameters_by true c.parameters) =
-      (let e = result_framed k p.1 result_name t (laid.named_type p.1 j.name) (parameters_by false c.parameters) (parameters_by true c.parameters) (named_type_same k p.1 c.scope j.name a.names) (counted_first p.1.types all y counted) has b in record { free = e.free; image = e.image; extents = e.extents; lying = e.lying }) in
+      (let e = result_framed k p.1 result_name t (laid.type_of_name p.1 j.name) (parameters_by false c.parameters) (parameters_by true c.parameters) (named_type_same k p.1 c.scope j.name a.names) (counted_first p.1.types all y counted) has b in record { free = e.free; image = e.image; extents = e.extents; lying = e.lying }) in
       d
   heading_framed l s x syntax.invariants i y f has h = h
 
@@ -268,9 +268,9 @@ module _ (k : Numbering) (all : Compounds) (counted : Counted all) where
   all_locals m = (parameters_by false m.parameters ++ result_variables m.result) ++ m.variables
 
   pub routine_framed : (l : Layer) (s : Scope) (r : syntax.Routine) → IsSmallRoutine r → AreNumbered k.firsts (length l.constants) (in_routine r) → k.routines (length l.routines) ≡ routine_in (with_routine s r) r → InStep k l.types l.names s →
-      Longer (routine_begun l r).types all → RoutineFits (routine_in (with_routine s r) r) → AreLying [] [] (opened l r.name.name).1.names → Frames (routine_begun l r) (all_locals (routine_in (with_routine s r) r)) (parameters_by true (routine_in (with_routine s r) r).parameters)
+      Longer (routine_begun l r).types all → RoutineFits (routine_in (with_routine s r) r) → AreLying [] [] (open_routine l r.name.name).1.names → Frames (routine_begun l r) (all_locals (routine_in (with_routine s r) r)) (parameters_by true (routine_in (with_routine s r) r).parameters)
   routine_framed l s r small n e i x f none =
-      let o : Layer = (opened l r.name.name).1 in
+      let o : Layer = (open_routine l r.name.name).1 in
       let y : layers.Heading × Layer = heading o r.name.name r.kind in
       let j : Layer = with_heading y.1 y.0 in
       let t : Scope = with_routine s r in
@@ -288,10 +288,10 @@ module _ (k : Numbering) (all : Compounds) (counted : Counted all) where
 
   -- the last heading is its own
   pub routine_slot : (l : Layer) (s : Scope) (r : syntax.Routine) → k.routines (length l.routines) ≡ routine_in (with_routine s r) r → InStep k l.types l.names s →
-      Longer (routine_begun l r).types all → RoutineFits (routine_in (with_routine s r) r) → AreLying [] [] (opened l r.name.name).1.names →
-      SlotIs (parameters_by false (routine_in (with_routine s r) r).parameters) (routine_in (with_routine s r) r).result (heading (opened l r.name.name).1 r.name.name r.kind).0.result
+      Longer (routine_begun l r).types all → RoutineFits (routine_in (with_routine s r) r) → AreLying [] [] (open_routine l r.name.name).1.names →
+      SlotIs (parameters_by false (routine_in (with_routine s r) r).parameters) (routine_in (with_routine s r) r).result (heading (open_routine l r.name.name).1 r.name.name r.kind).0.result
   routine_slot l s r e i x f none =
-      let o : Layer = (opened l r.name.name).1 in
+      let o : Layer = (open_routine l r.name.name).1 in
       let y : layers.Heading × Layer = heading o r.name.name r.kind in
       let j : Layer = with_heading y.1 y.0 in
       heading_slot o (with_routine s r) r.name.name r.kind (refl, (length l.routines, refl, e), i) (among j (routine_begun l r) (local_parts_declare j r.parts) x) f.parameters (record { free = tt; image = refl; extents = refl; lying = none })

@@ -7,7 +7,7 @@ use Rattle.cp_resolved.proofs.Words.{predeclared, Variable, Parameter, parameter
 use Rattle.cp_resolved.proofs.Words.{AreFitParts, nothing_declared, system_variables, Numbering, InStep, initial_meaning, Each, IsSmallProgramPart, IsSmallProgram}
 use Rattle.cp_resolved.proofs.Words.{AreNumbered, IsParameter, routines_begun, initial_begun, part_begun, program_parts_begun, all_begun}
 use Rattle.cp_layout.specs.Layers as layers
-use Rattle.cp_layout.specs.LaidDeclarations.{routines, system, system_definition, system_definitions, definition, type_named, program_part, program_parts, program, heading_with, with_heading, with_new_frame}
+use Rattle.cp_layout.specs.LaidDeclarations.{routines, system, system_definition, system_definitions, definition, with_type_name, program_part, program_parts, program, heading_with, with_heading, with_new_frame}
 use Rattle.cp_meaning.specs.Systems.{SystemMeaning, Declared, definition_in, definitions_in, program_part_in, program_parts_in, declared, program_system, own_meaning, or_own, system_of}
 use Rattle.cp_resolved.specs.Openings.{Opening, routine_openings, initial_opening, part_openings, parts_openings, openings_of, AreOpened}
 use Rattle.cp_resolved.specs.TreeLayouts.{part_parts, program_parts_parts, all_parts, whole_laid, initial_or, components_among}
@@ -29,7 +29,7 @@ use Rattle.cp_resolved.proofs.components.Handed.{body_owned, routines_owned}
 
 -- ---- the cells of the program
 
-pub definition_owned : (l : Layer) (n : List ℕ) (v : syntax.Definition) (ws : List Variable) → Owns l ws → Owns (type_named n (definition l v)) ws
+pub definition_owned : (l : Layer) (n : List ℕ) (v : syntax.Definition) (ws : List Variable) → Owns l ws → Owns (with_type_name n (definition l v)) ws
 unfolding system
 definition_owned l n (syntax.type_definition t) ws h =
     let a : Owns (written_type l t).1 ws = type_owns l t ws h in

@@ -3,7 +3,7 @@ use Rattle.cp_resolved.proofs.Words.{◌≡◌, ◌+◌, ◌-◌, ℕ, zero, suc
 use Rattle.cp_resolved.proofs.Words.{system_type, types_of, system_types, Layer, System, SystemView, no_system, Scope, permanent_variable, seen_inside, Parameter}
 use Rattle.cp_resolved.proofs.Words.{Heading, with_groups, parameter_variables, Enumerated, each_in, in_part, in_routine, in_definition, IsFitDefinition}
 use Rattle.cp_resolved.proofs.Words.{AreFitDefinitions, system_variables, Numbering, InStep, initial_meaning, Each, IsSmallSystem, IsSmallDefinition, AreNumbered}
-use Rattle.cp_resolved.proofs.Words.{IsParameter, definition_parts, definitions_parts, initial_or, components_among, none-some, same_Some, Parameters, entered}
+use Rattle.cp_resolved.proofs.Words.{IsParameter, definition_parts, definitions_parts, initial_or, components_among, none-some, same_Some, Parameters, enter_system}
 use Rattle.cp_resolved.proofs.Words.{system_groups, system, initial_statement, system_definition, system_definitions, definition, SystemMeaning, system_in, Declared}
 use Rattle.cp_resolved.proofs.Words.{definition_in, definitions_in, system_of, routines_begun, initial_begun, parameters_of, parts_begun, system_begun, definition_begun}
 use Rattle.cp_resolved.proofs.Words.{definitions_begun, Opening, routine_openings, parts_scope, initial_opening, definition_openings, definitions_openings, AreOpened}
@@ -41,13 +41,13 @@ module _ (k : Numbering) (p : syntax.Program) (end : Layer) (counted : Counted e
     abbrev es : List Enumerated
     es = each_in in_part s.parts
 
-    inside : InStep k l.types (entered l).1.names u
+    inside : InStep k l.types (enter_system l).1.names u
     inside = all_inside k l.types l.names d.scope i.outer i.names
 
     -- the permanent cells as the routines begin
     parts_owned : SystemFits k p end counted (system_in u s) → Owns (parts_begun l s) (parameter_variables (system_in u s).parameters ++ components_among false (system_in u s).variables)
     parts_owned fits =
-        let x : Layer = (entered l).1 in
+        let x : Layer = (enter_system l).1 in
         let y : Layer = (system_groups x [] s.parameters).1 in
         let j : Heading = with_groups permanent_variable (record { parameters = []; scope = u }) s.parameters in
         let start : Owns x [] = record { cells = omega arith; holding = nothing_held k l.types x.names u inside (inside_of d.variables d.scope v) } in

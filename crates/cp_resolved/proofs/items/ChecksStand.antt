@@ -8,7 +8,7 @@ use Rattle.cp_slots.specs.Code as code
 use Rattle.cp_layout.specs.Layers as layers
 use Rattle.cp_layout.specs.LaidExpressions.{arguments_from, arguments}
 use Rattle.cp_layout.specs.LaidStatements as laid
-use Rattle.cp_layout.specs.LaidStatements.{checked, procedure}
+use Rattle.cp_layout.specs.LaidStatements.{check_invariants, procedure}
 use Rattle.cp_meaning.specs.Scopes as scopes
 use Rattle.cp_meaning.specs.Declarations as meant
 use Rattle.cp_meaning.specs.Lifting.{is_routine_meant, check_statement, check_items, waits_meant}
@@ -62,23 +62,23 @@ module _ (k : Numbering) (h : Here) (g : Ground) where
   no_routine n ts (scopes.standard_meaning p) s e f = let bad : meaning.Routine n ≡ meaning.Predeclared (predeclared_as p) = f in cc
 
   checks_by : (l m : Layer) (at : ℕ) (o : Option LayoutMeaning) (q : Option scopes.Meaning) → Surroundings k h g l → Kept l m → layers.find syntax.nameless l.names ≡ o → scopes.find syntax.nameless h.scope ≡ q → FoundIs k l.types o q (scopes.since syntax.nameless h.scope) →
-      ChecksGo g h m (laid.checked_by m at o) (if is_routine_meant q then statement_item (check_statement at) ∷ [] else [])
+      ChecksGo g h m (laid.check_by m at o) (if is_routine_meant q then statement_item (check_statement at) ∷ [] else [])
   checks_by l m at (Some y) (Some (scopes.routine_meaning r)) w s there me fi =
-      subst (λ z. ChecksGo g h m (laid.checked_by m at (Some z)) (statement_item (check_statement at) ∷ [])) (sym fi.1) (one_check l m at fi.0 r w s me (there ∙ ap (λ z. Some z) fi.1) fi.2)
+      subst (λ z. ChecksGo g h m (laid.check_by m at (Some z)) (statement_item (check_statement at) ∷ [])) (sym fi.1) (one_check l m at fi.0 r w s me (there ∙ ap (λ z. Some z) fi.1) fi.2)
   checks_by l m at None (Some (scopes.routine_meaning r)) w s there me fi = absurd fi
   checks_by l m at (Some (meaning.Routine n)) (Some q) w s there me fi = absurd (no_routine n l.types q (scopes.since syntax.nameless h.scope) refl fi)
   checks_by l m at (Some (meaning.Routine n)) None w s there me fi = absurd fi
   checks_by l m at _ _ w s there me fi = checks_none g h m
 
   -- a call of the invariants of the block, where it has some
-  pub checks_go : (l m : Layer) (at : ℕ) → Surroundings k h g l → Kept l m → ChecksGo g h m (checked m at) (check_items at h.scope)
-  unfolding checked
+  pub checks_go : (l m : Layer) (at : ℕ) → Surroundings k h g l → Kept l m → ChecksGo g h m (check_invariants m at) (check_items at h.scope)
+  unfolding check_invariants
   checks_go l m at w s =
-      subst (λ ns. ChecksGo g h m (laid.checked_by m at (layers.find syntax.nameless ns)) (check_items at h.scope)) (sym (ap (λ (j : Layer). j.names) s))
+      subst (λ ns. ChecksGo g h m (laid.check_by m at (layers.find syntax.nameless ns)) (check_items at h.scope)) (sym (ap (λ (j : Layer). j.names) s))
       (checks_by l m at (layers.find syntax.nameless l.names) (scopes.find syntax.nameless h.scope) w s refl refl (found_in k l.types syntax.nameless l.names h.scope w.names.names))
 
   -- before what waits
-  pub before_go : (l m : Layer) (at : ℕ) (q : scopes.Standard) → Surroundings k h g l → Kept l m → ChecksGo g h m (laid.checked_before m at (predeclared_as q)) (checks_of h at (Some (scopes.standard_meaning q)))
+  pub before_go : (l m : Layer) (at : ℕ) (q : scopes.Standard) → Surroundings k h g l → Kept l m → ChecksGo g h m (laid.check_before m at (predeclared_as q)) (checks_of h at (Some (scopes.standard_meaning q)))
   before_go l m at scopes.delay_procedure w s = checks_go l m at w s
   before_go l m at scopes.continue_procedure w s = checks_go l m at w s
   before_go l m at _ w s = checks_none g h m

@@ -3,9 +3,9 @@ use Rattle.std.proofs.Common.{Bool, true, false, ◌≡◌, ◌+◌, ℕ, suc, L
 use Rattle.cp_tree.specs.Syntax as syntax
 use Rattle.cp_resolved.proofs.Words.{RoutineView, Scope, seen_inside, nothing_declared, Numbering, routine_in, whole_laid}
 use Rattle.cp_slots.specs.Code as code
-use Rattle.cp_layout.specs.Layers.{Layer, added, settled, without_pending, nothing_laid, routine_of, with_routine}
-use Rattle.cp_layout.specs.LaidStatements.{statements, statement, arms, starts, started, assigned, invoked, chosen, selected, while_item, until_item, for_item, blocked, cycled, checked, assertion, token_of}
-use Rattle.cp_layout.specs.LaidDeclarations.{end_of_body, Parameters, heading, with_heading, opened, routine, routines, initial_statement, entered, system_groups, system, definition, system_definition, system_definitions, program_part, program_parts, constants, variables, program}
+use Rattle.cp_layout.specs.Layers.{Layer, add_item, settle_items, without_pending, nothing_laid, routine_of, with_routine}
+use Rattle.cp_layout.specs.LaidStatements.{statements, statement, arms, starts, start_statement, assign, call_statement, choose, select, while_item, until_item, for_item, block_item, cycle_item, check_invariants, assertion, token_of}
+use Rattle.cp_layout.specs.LaidDeclarations.{end_of_body, Parameters, heading, with_heading, open_routine, routine, routines, initial_statement, enter_system, system_groups, system, definition, system_definition, system_definitions, program_part, program_parts, constants, variables, program}
 use Rattle.cp_meaning.specs.Systems.{Declared, definition_in, program_part_in, declared, program_system, own_meaning, system_in}
 use Rattle.cp_resolved.specs.Begun.{routine_begun, routines_begun, initial_begun, parameters_of, parts_begun, system_begun, definition_begun, definitions_begun, part_begun, program_parts_begun, all_begun}
 use Rattle.cp_resolved.specs.Openings.{Opening, routine_openings, parts_scope, initial_opening, definition_openings, definitions_openings, part_openings, parts_openings, openings_of}
@@ -24,30 +24,30 @@ use Rattle.cp_resolved.proofs.names.StepsOfRoutines.{routine_count, routines_cou
 starts_pending : (l : Layer) (ts : List syntax.Start) (next : Option ℕ) → l.pending ≡ [] → (starts l ts next).1.pending ≡ []
 unfolding starts
 starts_pending l [] next h = h
-starts_pending l (t ∷ ts) next h = all_pending (without_pending (started (starts l ts next).1 t)) (started (starts l ts next).1 t).pending (starts l ts next).0
+starts_pending l (t ∷ ts) next h = all_pending (without_pending (start_statement (starts l ts next).1 t)) (start_statement (starts l ts next).1 t).pending (starts l ts next).0
 
-settled_pending : (l : Layer) (next : Option ℕ) → (settled l next).1.pending ≡ []
+settled_pending : (l : Layer) (next : Option ℕ) → (settle_items l next).1.pending ≡ []
 settled_pending l next = all_pending (without_pending l) l.pending next
 
 statement_pending : (l : Layer) (s : syntax.Statement) (next : Option ℕ) → l.pending ≡ [] → (statement l s next).1.pending ≡ []
 unfolding statement
-statement_pending l (syntax.empty at) next h = settled_pending (added l at code.nothing 0) next
-statement_pending l (syntax.assign at d e) next h = settled_pending (assigned l at d e) next
-statement_pending l (syntax.invoke at d es) next h = settled_pending (invoked l at d es) next
-statement_pending l (syntax.block at ss) next h = settled_pending (blocked (statements l ss None).1 at (statements l ss None).0) next
-statement_pending l (syntax.if_then at e s) next h = settled_pending (chosen (statement l s None).1 at e (statement l s None).0 None) next
+statement_pending l (syntax.empty at) next h = settled_pending (add_item l at code.nothing 0) next
+statement_pending l (syntax.assign at d e) next h = settled_pending (assign l at d e) next
+statement_pending l (syntax.invoke at d es) next h = settled_pending (call_statement l at d es) next
+statement_pending l (syntax.block at ss) next h = settled_pending (block_item (statements l ss None).1 at (statements l ss None).0) next
+statement_pending l (syntax.if_then at e s) next h = settled_pending (choose (statement l s None).1 at e (statement l s None).0 None) next
 statement_pending l (syntax.if_else at e s t) next h =
     let x : Option ℕ × Layer = statement l s None in
     let y : Option ℕ × Layer = statement x.1 t None in
-    settled_pending (chosen y.1 at e x.0 y.0) next
-statement_pending l (syntax.case_of at e as' b) next h = settled_pending (selected (arms l as').1 at e (arms l as').0) next
+    settled_pending (choose y.1 at e x.0 y.0) next
+statement_pending l (syntax.case_of at e as' b) next h = settled_pending (select (arms l as').1 at e (arms l as').0) next
 statement_pending l (syntax.while_do at e s) next h = settled_pending (while_item (statement l s None).1 at e (statement l s None).0) next
 statement_pending l (syntax.repeat_until at ss e) next h =
     let x : Option ℕ × Layer = statements l ss None in
-    let y : Option ℕ × Layer = settled (until_item x.1 (token_of e) e x.0) next in
-    settled_pending (blocked y.1 at x.0) y.0
+    let y : Option ℕ × Layer = settle_items (until_item x.1 (token_of e) e x.0) next in
+    settled_pending (block_item y.1 at x.0) y.0
 statement_pending l (syntax.for_do at i e d f s) next h = settled_pending (for_item (statement l s None).1 at i.name e d f (statement l s None).0) next
-statement_pending l (syntax.cycle at ss) next h = settled_pending (cycled (statements l ss None).1 at (statements l ss None).0) next
+statement_pending l (syntax.cycle at ss) next h = settled_pending (cycle_item (statements l ss None).1 at (statements l ss None).0) next
 statement_pending l (syntax.init at ts) next h = starts_pending l ts next h
 statement_pending l (syntax.asserted at k e s) next h = settled_pending (assertion (statement l s next).1 at k e) (statement l s next).0
 
@@ -57,7 +57,7 @@ statements_pending l syntax.no_statements after h = h
 statements_pending l (syntax.more_statements s ss) after h = statement_pending (statements l ss after).1 s (statements l ss after).0 (statements_pending l ss after h)
 
 pub ended_pending : (l : Layer) (c : Bool) → (end_of_body l c).1.pending ≡ []
-ended_pending l true = settled_pending (checked l 0) None
+ended_pending l true = settled_pending (check_invariants l 0) None
 ended_pending l false = settled_pending l None
 
 body_pending : (l : Layer) (ss : syntax.Statements) (c : Bool) → (body_items l ss c).1.pending ≡ []
@@ -68,7 +68,7 @@ declared_pending l m d h = ap (λ (j : Layer). j.pending) d.same ∙ h
 
 begun_pending : (l : Layer) (r : syntax.Routine) → l.pending ≡ [] → (routine_begun l r).pending ≡ []
 begun_pending l r h =
-    let x : Layer = (opened l r.name.name).1 in
+    let x : Layer = (open_routine l r.name.name).1 in
     let y = heading x r.name.name r.kind in
     declared_pending (with_heading y.1 y.0) (routine_begun l r) (local_parts_declare (with_heading y.1 y.0) r.parts) (declared_pending x y.1 (heading_declares x r.name.name r.kind) h)
 
@@ -82,8 +82,8 @@ routines_pending l (r ∷ rs) h = routines_pending (routine l r) rs (routine_pen
 
 parts_pending : (l : Layer) (s : syntax.System) → l.pending ≡ [] → (parts_begun l s).pending ≡ []
 parts_pending l s h =
-    let y : Layer = (system_groups (entered l).1 [] s.parameters).1 in
-    declared_pending y (parts_begun l s) (permanent_parts_declare y s.parts) (declared_pending (entered l).1 y (system_groups_declare (entered l).1 [] s.parameters) h)
+    let y : Layer = (system_groups (enter_system l).1 [] s.parameters).1 in
+    declared_pending y (parts_begun l s) (permanent_parts_declare y s.parts) (declared_pending (enter_system l).1 y (system_groups_declare (enter_system l).1 [] s.parameters) h)
 
 definition_pending : (l : Layer) (d : syntax.Definition) → l.pending ≡ [] → (definition l d).1.pending ≡ []
 unfolding system
@@ -156,7 +156,7 @@ module _ (end : Layer) where
 
   same_routines : (l : Layer) (r : syntax.Routine) → length (routine_begun l r).routines ≡ length l.routines
   same_routines l r =
-      let x : Layer = (opened l r.name.name).1 in
+      let x : Layer = (open_routine l r.name.name).1 in
       let y = heading x r.name.name r.kind in
       ap (λ (j : Layer). length j.routines) (local_parts_declare (with_heading y.1 y.0) r.parts).same ∙ ap (λ (j : Layer). length j.routines) (heading_declares x r.name.name r.kind).same
 

@@ -9,10 +9,10 @@ use Rattle.cp_symbols.specs.declared.kinds.CellBase.TheVariants as base
 use Rattle.cp_symbols.specs.declared.names.LayoutMeaning.TheVariants as meaning
 use Rattle.cp_slots.specs.Code as code
 use Rattle.cp_layout.specs.Values as values
-use Rattle.cp_layout.specs.Values.{Value, ordinal_value, set_value, number_value, loaded, place_at, ordinal_of}
+use Rattle.cp_layout.specs.Values.{Value, ordinal_value, set_value, number_value, value_loaded_from, place_at, ordinal_of}
 use Rattle.cp_layout.specs.Layers as layers
 use Rattle.cp_layout.specs.LaidExpressions as laid
-use Rattle.cp_layout.specs.LaidExpressions.{begun, begun_as, field_selected, element_selected, entry_of, entry_found, named_as, function_as, called, counted, as_integer, expression, sum, more_terms, term, more_factors, factor, elements, first_value, arguments_from, designator, selectors, selector}
+use Rattle.cp_layout.specs.LaidExpressions.{name_meaning, meaning_of, field_of_designated, element_of_designated, entry_of, entry_found, value_of_meaning, function_as, call_value, with_their_count, as_integer, expression, sum, more_terms, term, more_factors, factor, elements, first_value, arguments_from, designator, selectors, selector}
 use Rattle.cp_meaning.specs.Types as named
 use Rattle.cp_meaning.specs.Scopes as scopes
 use Rattle.cp_meaning.specs.Lifting.{last_field, is_call_meant, own_call, expression_calls, sum_calls, terms_calls, term_calls, factors_calls, factor_calls, expressions_calls, selectors_calls}
@@ -105,14 +105,14 @@ last_same e (syntax.more_selectors s ss) h = refl
 module _ (k : Numbering) (h : Here) (b : Layer) (g : Knows k h b) (calls : KnowsCalls k h b) where
   -- ---- what stays as it was where the statement begins
 
-  pub same_begun : (l : Layer) (x : Name) → Kept b l → begun l x ≡ begun b x
-  same_begun l x e = ap (λ m. begun m x) e
+  pub same_begun : (l : Layer) (x : Name) → Kept b l → name_meaning l x ≡ name_meaning b x
+  same_begun l x e = ap (λ m. name_meaning m x) e
 
-  pub same_element : (l : Layer) (d : values.Designated) (c : code.OrdinalExpression) → Kept b l → element_selected l d c ≡ element_selected b d c
-  same_element l d c e = ap (λ m. element_selected m d c) e
+  pub same_element : (l : Layer) (d : values.Designated) (c : code.OrdinalExpression) → Kept b l → element_of_designated l d c ≡ element_of_designated b d c
+  same_element l d c e = ap (λ m. element_of_designated m d c) e
 
-  same_field : (l : Layer) (d : values.Designated) (x : Name) → Kept b l → field_selected l d x ≡ field_selected b d x
-  same_field l d x e = ap (λ m. field_selected m d x) e
+  same_field : (l : Layer) (d : values.Designated) (x : Name) → Kept b l → field_of_designated l d x ≡ field_of_designated b d x
+  same_field l d x e = ap (λ m. field_of_designated m d x) e
 
   pub same_result : (l : Layer) (n : ℕ) → Kept b l → result_of l n ≡ result_of b n
   same_result l n e = ap (λ m. result_of m n) e
@@ -153,15 +153,15 @@ module _ (k : Numbering) (h : Here) (b : Layer) (g : Knows k h b) (calls : Knows
   number_is : (n : ℕ) (f : Formed) → constant_form named.integers (pos n) ≡ Some f → ValueIs k b.types f (number_value (as_integer n) base.Integer)
   number_is n f e = constant_is named.integers (pos n) f (number_value (as_integer n) base.Integer) (ap (λ z. number_value z base.Integer) (number_kept n (nat_le n 32767) refl f (record { ty = named.ordinal (range_of_base named.integers); form = as_ordinal (code.number (pos n)) }) e)) e
 
-  pub constant_found : (x : Name) (p : Option LayoutMeaning) (a : Base) (z : ℤ) (s : scopes.Scope) → layers.find x b.names ≡ p → FoundIs k b.types p (Some (scopes.constant_meaning a z)) s → begun b x ≡ values.a_value (number_value z (base_of k a))
+  pub constant_found : (x : Name) (p : Option LayoutMeaning) (a : Base) (z : ℤ) (s : scopes.Scope) → layers.find x b.names ≡ p → FoundIs k b.types p (Some (scopes.constant_meaning a z)) s → name_meaning b x ≡ values.a_value (number_value z (base_of k a))
   constant_found x None a z s i f = absurd f
-  constant_found x (Some m) a z s i f = ap begun_as i ∙ ap (λ n. begun_as (Some n)) f.0
+  constant_found x (Some m) a z s i f = ap meaning_of i ∙ ap (λ n. meaning_of (Some n)) f.0
 
   -- ---- calls
 
-  cell_is : (at : ℕ) (n : ℕ) (t : Ty) (z : Formed) (v : FunctionResult) → (frame_here h).origins (temporary at) ≡ origin.Local n → TypeIs k b.types t v.value_type → call_form h at t ≡ Some z → ValueIs k b.types z (loaded (place_at (origin.Local n)) v.value_type)
-  cell_is at n (named.ordinal r) z v o t e = subst (λ y. ValueIs k b.types y (loaded (place_at (origin.Local n)) v.value_type)) (same_inside _ z e) (
-      (r, refl, ap (loaded (place_at (origin.Local n))) t ∙ ap (λ q. ordinal_value (code.load (place_at q)) (base_of k r.base)) (sym o)))
+  cell_is : (at : ℕ) (n : ℕ) (t : Ty) (z : Formed) (v : FunctionResult) → (frame_here h).origins (temporary at) ≡ origin.Local n → TypeIs k b.types t v.value_type → call_form h at t ≡ Some z → ValueIs k b.types z (value_loaded_from (place_at (origin.Local n)) v.value_type)
+  cell_is at n (named.ordinal r) z v o t e = subst (λ y. ValueIs k b.types y (value_loaded_from (place_at (origin.Local n)) v.value_type)) (same_inside _ z e) (
+      (r, refl, ap (value_loaded_from (place_at (origin.Local n))) t ∙ ap (λ q. ordinal_value (code.load (place_at q)) (base_of k r.base)) (sym o)))
   cell_is at n x z v o t e = absurd (cc)
 
   room_kept : (f : layers.Frame) (o : Option RoutineView) → length (layers.frame_with f o).image ≡ length f.image
@@ -178,8 +178,8 @@ module _ (k : Numbering) (h : Here) (b : Layer) (g : Knows k h b) (calls : Knows
   call_is n at d es m c e r t None as' is z v i a f = absurd v
   call_is n at d es m c e r t (Some w) as' is z v i a f =
       let l : Layer = (as' m r).1 in
-      let x : Layer = (called (counted (as' m r)).1 at c e r w (as' m r).0).1 in
-      let taken : length x.frame.image ≡ length l.frame.image + 1 = room_kept (layers.with_cell (counted (as' m r)).1).frame (slice_get l.routines r) ∙ one_cell l.frame.image in
+      let x : Layer = (call_value (with_their_count (as' m r)).1 at c e r w (as' m r).0).1 in
+      let taken : length x.frame.image ≡ length l.frame.image + 1 = room_kept (layers.with_cell (with_their_count (as' m r)).1).frame (slice_get l.routines r) ∙ one_cell l.frame.image in
       record {
         value = cell_is at (length l.frame.image) t z w ((next_rest h n l is (function_call at d es ∷ []) i a).0) v f;
         taken = takes_both n l x is (function_call at d es ∷ []) i taken;
@@ -190,11 +190,11 @@ module _ (k : Numbering) (h : Here) (b : Layer) (g : Knows k h b) (calls : Knows
   result_given r (Some t) w e i v = subst (λ u. ResultsAre k b.types (Some (result_type u)) w) (sym e) v
 
   own_found : (x : Name) (p : Option LayoutMeaning) (r : syntax.Routine) → layers.find x b.names ≡ p → FoundIs k b.types p (Some (scopes.routine_meaning r)) (scopes.since x h.scope) →
-      (n : ℕ) × (begun b x ≡ values.a_routine n) × ResultsAre k b.types (routine_in (scopes.since x h.scope) r).result (result_of b n)
+      (n : ℕ) × (name_meaning b x ≡ values.a_routine n) × ResultsAre k b.types (routine_in (scopes.since x h.scope) r).result (result_of b n)
   own_found x None r i f = absurd f
   own_found x (Some m) r i f =
       let there : layers.find x b.names ≡ Some (meaning.Routine f.0) = i ∙ ap (λ q. Some q) f.1 in
-      (f.0, ap begun_as there, subst (λ q. ResultsAre k b.types q.result (result_of b f.0)) f.2 (calls.own x f.0 there))
+      (f.0, ap meaning_of there, subst (λ q. ResultsAre k b.types q.result (result_of b f.0)) f.2 (calls.own x f.0 there))
 
   -- ---- selectors
 
@@ -202,10 +202,10 @@ module _ (k : Numbering) (h : Here) (b : Layer) (g : Knows k h b) (calls : Knows
   ordinal_is t (as_ordinal e) v c i f = ap ordinal_of i.2 ∙ same_inside e c f
   ordinal_is t x v c i f = absurd (cc)
 
-  pub index_is : (d q : Designated) (x : values.Designated) (a : Formed) (v : Value) → DesignatedIs k b.types d x → ValueIs k b.types a v → with_index_form h d a ≡ Some q → DesignatedIs k b.types q (element_selected b x (ordinal_of v))
+  pub index_is : (d q : Designated) (x : values.Designated) (a : Formed) (v : Value) → DesignatedIs k b.types d x → ValueIs k b.types a v → with_index_form h d a ≡ Some q → DesignatedIs k b.types q (element_of_designated b x (ordinal_of v))
   index_is d q x a v i j f =
       let p : (c : code.OrdinalExpression) × (ordinal_form a.form ≡ Some c) × (with_element_form h d c ≡ Some q) = inside (ordinal_form a.form) (with_element_form h d) q f in
-      subst (λ o. DesignatedIs k b.types q (element_selected b x o)) (sym (ordinal_is a.ty a.form v p.0 j p.1)) (element_same k h b g d q x p.0 i p.2)
+      subst (λ o. DesignatedIs k b.types q (element_of_designated b x o)) (sym (ordinal_is a.ty a.form v p.0 j p.1)) (element_same k h b g d q x p.0 i p.2)
 
   element_stays : (t : Ty) (w : code.Place) (c : code.OrdinalExpression) (q : Designated) (ss : syntax.Selectors) → element_of_form t w c ≡ Some q → NoEntry q ss
   element_stays (named.array_over r u) (code.place o n is) c q ss e = subst (λ y. NoEntry y ss) (same_inside _ q e) tt
@@ -260,21 +260,21 @@ module _ (k : Numbering) (h : Here) (b : Layer) (g : Knows k h b) (calls : Knows
   no_entry_of x t ss (Some y) e f = subst (λ d. NoEntry d ss) (sym (without_components k h b g x t f)) tt
 
   -- the value of a name that is no call
-  valued_is : (n : ℕ) (m : Layer) (at : ℕ) (q : Designated) (x : values.Designated) (first : Layer → Value × Layer) (as' : Layer → ℕ → List code.Argument × Layer) (is : List Item) (z : Formed) → DesignatedIs k b.types q x → TakesFrom n m is → valued_form q ≡ Some z → Is z n (named_as m at x first as') is
+  valued_is : (n : ℕ) (m : Layer) (at : ℕ) (q : Designated) (x : values.Designated) (first : Layer → Value × Layer) (as' : Layer → ℕ → List code.Argument × Layer) (is : List Item) (z : Formed) → DesignatedIs k b.types q x → TakesFrom n m is → valued_form q ≡ Some z → Is z n (value_of_meaning m at x first as') is
   valued_is n m at (a_variable w t) x first as' is z i j f =
-      subst (λ y. Is z n (named_as m at y first as') is) (sym i.is) (record { value = subst (λ y. ValueIs k b.types y (loaded w i.value_type)) (same_inside _ z f) (loaded_same k b.types w t i.value_type i.belongs); taken = j })
+      subst (λ y. Is z n (value_of_meaning m at y first as') is) (sym i.is) (record { value = subst (λ y. ValueIs k b.types y (value_loaded_from w i.value_type)) (same_inside _ z f) (loaded_same k b.types w t i.value_type i.belongs); taken = j })
   valued_is n m at (a_component c o) x first as' is z i j f =
-      subst (λ y. Is z n (named_as m at y first as') is) (sym i) (record { value = subst (λ y. ValueIs k b.types y (values.component_value c)) (same_inside _ z f) refl; taken = j })
+      subst (λ y. Is z n (value_of_meaning m at y first as') is) (sym i) (record { value = subst (λ y. ValueIs k b.types y (values.component_value c)) (same_inside _ z f) refl; taken = j })
   valued_is n m at (some_components c r o) x first as' is z i j f = absurd (cc)
 
-  pub standard_found : (x : Name) (p : Option LayoutMeaning) (q : scopes.Standard) (s : scopes.Scope) → layers.find x b.names ≡ p → FoundIs k b.types p (Some (scopes.standard_meaning q)) s → begun b x ≡ values.a_standard (predeclared_as q)
+  pub standard_found : (x : Name) (p : Option LayoutMeaning) (q : scopes.Standard) (s : scopes.Scope) → layers.find x b.names ≡ p → FoundIs k b.types p (Some (scopes.standard_meaning q)) s → name_meaning b x ≡ values.a_standard (predeclared_as q)
   standard_found x None q s i f = absurd f
-  standard_found x (Some m) q s i f = ap begun_as i ∙ ap (λ n. begun_as (Some n)) f
+  standard_found x (Some m) q s i f = ap meaning_of i ∙ ap (λ n. meaning_of (Some n)) f
 
   -- the routine of a component
   pub record Reached (t : Ty) (o : Option Name) (q : Option RoutineMeaning) : Type 0 where
     pub routine : RoutineMeaning
-    pub called : q ≡ Some routine
+    pub call_value : q ≡ Some routine
     pub number : ℕ
     pub there : entry_named (system_type t) o ≡ Some number
     pub results : ResultsAre k b.types (Some (result_type routine.result)) (result_of b number)
@@ -283,7 +283,7 @@ module _ (k : Numbering) (h : Here) (b : Layer) (g : Knows k h b) (calls : Knows
   reached x t y None e f i = absurd i
   reached x t y (Some r) e f i =
       let d : EntryIs k b (system_type t) y r = calls.entry x y t r e f in
-      record { routine = r; called = refl; number = d.number; there = d.there; results = result_given r r.result (result_of b d.number) refl i d.result }
+      record { routine = r; call_value = refl; number = d.number; there = d.there; results = result_given r r.result (result_of b d.number) refl i d.result }
 
   pub reached_by : (x : Name) (t : Ty) (o : Option Name) → is_call_meant (Some (scopes.permanent_variable t)) o ≡ true → scopes.find x h.scope ≡ Some (scopes.permanent_variable t) → IsFunction (routine_meant h.program h.scope x (Some (scopes.permanent_variable t)) o) →
       Reached t o (routine_meant h.program h.scope x (Some (scopes.permanent_variable t)) o)
@@ -325,10 +325,10 @@ module _ (k : Numbering) (h : Here) (b : Layer) (g : Knows k h b) (calls : Knows
       let as' : Layer → ℕ → List code.Argument × Layer = λ m i. arguments_from m i 0 syntax.no_expressions in
       let q : (y : Designated) × (designator_form h (syntax.designator x ss) ≡ Some y) × (valued_form y ≡ Some z) = inside (designator_form h (syntax.designator x ss)) valued_form z f in
       let target : selected_form h ss d ≡ Some q.0 = ap (λ w. then_form w (selected_form h ss)) (sym e) ∙ q.1 in
-      let begins : DesignatedIs k b.types d (begun l x.name) = subst (λ w. DesignatedIs k b.types d w) (sym (same_begun l x.name s)) (begun_same k h b g x.name d r e) in
-      let m : Layer = (selectors l (begun l x.name) ss).1 in
-      let j : Selected q.0 (cells l) (selectors l (begun l x.name) ss) (selectors_calls h.scope ss) = us d q.0 (begun l x.name) begins ne (next_first h (cells l) (selectors_calls h.scope ss) [] n) target in
-      valued_is (cells l) m at q.0 (selectors l (begun l x.name) ss).0 first as' (selectors_calls h.scope ss ++ []) z j.leads (takes_both (cells l) m m (selectors_calls h.scope ss) [] j.taken (takes_none m)) q.2
+      let begins : DesignatedIs k b.types d (name_meaning l x.name) = subst (λ w. DesignatedIs k b.types d w) (sym (same_begun l x.name s)) (begun_same k h b g x.name d r e) in
+      let m : Layer = (selectors l (name_meaning l x.name) ss).1 in
+      let j : Selected q.0 (cells l) (selectors l (name_meaning l x.name) ss) (selectors_calls h.scope ss) = us d q.0 (name_meaning l x.name) begins ne (next_first h (cells l) (selectors_calls h.scope ss) [] n) target in
+      valued_is (cells l) m at q.0 (selectors l (name_meaning l x.name) ss).0 first as' (selectors_calls h.scope ss ++ []) z j.leads (takes_both (cells l) m m (selectors_calls h.scope ss) [] j.taken (takes_none m)) q.2
 
   -- a name in an expression
   named_is : (l : Layer) (at : ℕ) (x : Identifier) (ss : syntax.Selectors) (es : syntax.Expressions) (z : Formed) (c : Bool) (m : Option scopes.Meaning) (p : Option LayoutMeaning) → is_call_meant m (last_field ss) ≡ c → scopes.find x.name h.scope ≡ m → layers.find x.name b.names ≡ p →
@@ -340,7 +340,7 @@ module _ (k : Numbering) (h : Here) (b : Layer) (g : Knows k h b) (calls : Knows
   named_is l at x syntax.no_selectors es z true (Some (scopes.routine_meaning r)) p ce me pe fi s us en ta fs u n f =
       let d : syntax.Designator = syntax.designator x syntax.no_selectors in
       let as' : Layer → ℕ → List code.Argument × Layer = λ m i. arguments_from m i 0 es in
-      let o : (i : ℕ) × (begun b x.name ≡ values.a_routine i) × ResultsAre k b.types (routine_in (scopes.since x.name h.scope) r).result (result_of b i) = own_found x.name p r pe fi in
+      let o : (i : ℕ) × (name_meaning b x.name ≡ values.a_routine i) × ResultsAre k b.types (routine_in (scopes.since x.name h.scope) r).result (result_of b i) = own_found x.name p r pe fi in
       let q : RoutineMeaning = routine_in (scopes.since x.name h.scope) r in
       let met : routine_called h.program h.scope d ≡ Some q = ap (λ m. routine_meant h.program h.scope x.name m None) me in
       let i : IsFunction (Some q) = subst IsFunction met u.1 in
@@ -348,7 +348,7 @@ module _ (k : Numbering) (h : Here) (b : Layer) (g : Knows k h b) (calls : Knows
       let j : Is z (cells l) (function_as l at code.own false o.0 (result_of l o.0) as') (expressions_calls h.scope es ++ function_call at d es ∷ []) =
       call_is (cells l) at d es l code.own false o.0 (result_type q.result) (result_of l o.0) as' (expressions_calls h.scope es) z v
       (ta l o.0 s u.2 (next_first h (cells l) (expressions_calls h.scope es) (function_call at d es ∷ []) n)) n (ap (λ w. call_form h at (result_called w)) (sym met) ∙ f) in
-      subst (λ w. Is z (cells l) (named_as l at w (λ m. first_value m es) as') (expressions_calls h.scope es ++ function_call at d es ∷ [])) (sym (same_begun l x.name s ∙ o.1)) j
+      subst (λ w. Is z (cells l) (value_of_meaning l at w (λ m. first_value m es) as') (expressions_calls h.scope es ++ function_call at d es ∷ [])) (sym (same_begun l x.name s ∙ o.1)) j
   named_is l at x (syntax.more_selectors y ss) es z true (Some (scopes.routine_meaning r)) p ce me pe fi s us en ta fs u n f = absurd u.0
   named_is l at x ss es z true (Some (scopes.permanent_variable t)) p ce me pe fi s us en ta fs u n f =
       let d : syntax.Designator = syntax.designator x ss in
@@ -356,46 +356,46 @@ module _ (k : Numbering) (h : Here) (b : Layer) (g : Knows k h b) (calls : Knows
       let first : Designated = permanent_begun h x.name t in
       let formed : begun_form h x.name (scopes.find x.name h.scope) ≡ Some first = ap (begun_form h x.name) me in
       let target : selected_form h ss first ≡ Some u.3.0 = ap (λ w. then_form w (selected_form h ss)) (sym formed) ∙ u.3.1 in
-      let begins : DesignatedIs k b.types first (begun b x.name) = begun_same k h b g x.name first (subst IsNoRoutine (sym me) tt) formed in
-      let begins_here : DesignatedIs k b.types first (begun l x.name) = subst (λ w. DesignatedIs k b.types first w) (sym (same_begun l x.name s)) begins in
-      let e : Entered u.3.0 (system_type t) (last_field ss) (cells l) (selectors l (begun l x.name) ss) (selectors_calls h.scope ss) = en (system_type t) first u.3.0 (begun l x.name) begins_here (parts_begun x.name t (has_parts t (last_field ss) ce)) u.0
+      let begins : DesignatedIs k b.types first (name_meaning b x.name) = begun_same k h b g x.name first (subst IsNoRoutine (sym me) tt) formed in
+      let begins_here : DesignatedIs k b.types first (name_meaning l x.name) = subst (λ w. DesignatedIs k b.types first w) (sym (same_begun l x.name s)) begins in
+      let e : Entered u.3.0 (system_type t) (last_field ss) (cells l) (selectors l (name_meaning l x.name) ss) (selectors_calls h.scope ss) = en (system_type t) first u.3.0 (name_meaning l x.name) begins_here (parts_begun x.name t (has_parts t (last_field ss) ce)) u.0
       (next_first h (cells l) (selectors_calls h.scope ss) (expressions_calls h.scope es ++ function_call at d es ∷ []) n) target in
       let met : routine_called h.program h.scope d ≡ routine_meant h.program h.scope x.name (Some (scopes.permanent_variable t)) (last_field ss) = ap (λ m. routine_meant h.program h.scope x.name m (last_field ss)) me in
       let r : Reached t (last_field ss) (routine_meant h.program h.scope x.name (Some (scopes.permanent_variable t)) (last_field ss)) = reached_by x.name t (last_field ss) ce me (subst IsFunction met u.1) in
-      let m : Layer = (selectors l (begun l x.name) ss).1 in
+      let m : Layer = (selectors l (name_meaning l x.name) ss).1 in
       let kept : Kept b m = kept_trans b l m s (designator_kept l d) in
       let v : ResultsAre k b.types (Some (result_type r.routine.result)) (result_of m r.number) = subst (λ w. ResultsAre k b.types (Some (result_type r.routine.result)) w) (sym (same_result m r.number kept)) r.results in
       let rest : AreNext h (cells m) (expressions_calls h.scope es ++ function_call at d es ∷ []) = next_rest h (cells l) m (selectors_calls h.scope ss) (expressions_calls h.scope es ++ function_call at d es ∷ []) e.taken n in
       let j : Is z (cells m) (function_as m at e.part true r.number (result_of m r.number) as') (expressions_calls h.scope es ++ function_call at d es ∷ []) =
       call_is (cells m) at d es m e.part true r.number (result_type r.routine.result) (result_of m r.number) as' (expressions_calls h.scope es) z v
       (ta m r.number kept u.2 (next_first h (cells m) (expressions_calls h.scope es) (function_call at d es ∷ []) rest)) rest (ap (λ w. call_form h at (result_called w)) (sym (met ∙ r.called)) ∙ f) in
-      let w : Is z (cells m) (named_as m at (selectors l (begun l x.name) ss).0 (λ m. first_value m es) as') (expressions_calls h.scope es ++ function_call at d es ∷ []) =
-      subst (λ y. Is z (cells m) (named_as m at y (λ m. first_value m es) as') (expressions_calls h.scope es ++ function_call at d es ∷ [])) (sym (e.leads ∙ ap (entry_found e.part) r.there)) j in
+      let w : Is z (cells m) (value_of_meaning m at (selectors l (name_meaning l x.name) ss).0 (λ m. first_value m es) as') (expressions_calls h.scope es ++ function_call at d es ∷ []) =
+      subst (λ y. Is z (cells m) (value_of_meaning m at y (λ m. first_value m es) as') (expressions_calls h.scope es ++ function_call at d es ∷ [])) (sym (e.leads ∙ ap (entry_found e.part) r.there)) j in
       record {
         value = w.value;
-        taken = takes_both (cells l) m (named_as m at (selectors l (begun l x.name) ss).0 (λ m. first_value m es) as').1 (selectors_calls h.scope ss) (expressions_calls h.scope es ++ function_call at d es ∷ []) e.taken w.taken;
+        taken = takes_both (cells l) m (value_of_meaning m at (selectors l (name_meaning l x.name) ss).0 (λ m. first_value m es) as').1 (selectors_calls h.scope ss) (expressions_calls h.scope es ++ function_call at d es ∷ []) e.taken w.taken;
       }
   named_is l at x syntax.no_selectors syntax.no_expressions z false (Some (scopes.constant_meaning a v)) p ce me pe fi s us en ta fs u n f =
       let first : Layer → Value × Layer = λ m. first_value m syntax.no_expressions in
       let as' : Layer → ℕ → List code.Argument × Layer = λ m i. arguments_from m i 0 syntax.no_expressions in
-      let met : begun l x.name ≡ values.a_value (number_value v (base_of k a)) = same_begun l x.name s ∙ constant_found x.name p a v (scopes.since x.name h.scope) pe fi in
-      let j : Is z (cells l) (named_as l at (values.a_value (number_value v (base_of k a))) first as') [] = record { value = constant_is a v z (number_value v (base_of k a)) refl f; taken = takes_none l } in
-      subst (λ w. Is z (cells l) (named_as l at w first as') []) (sym met) j
+      let met : name_meaning l x.name ≡ values.a_value (number_value v (base_of k a)) = same_begun l x.name s ∙ constant_found x.name p a v (scopes.since x.name h.scope) pe fi in
+      let j : Is z (cells l) (value_of_meaning l at (values.a_value (number_value v (base_of k a))) first as') [] = record { value = constant_is a v z (number_value v (base_of k a)) refl f; taken = takes_none l } in
+      subst (λ w. Is z (cells l) (value_of_meaning l at w first as') []) (sym met) j
   named_is l at x (syntax.more_selectors y ss) es z false (Some (scopes.constant_meaning a v)) p ce me pe fi s us en ta fs u n f = absurd u.0
   named_is l at x syntax.no_selectors (syntax.more_expressions e es) z false (Some (scopes.constant_meaning a v)) p ce me pe fi s us en ta fs u n f = absurd u.1
   named_is l at x syntax.no_selectors es z false (Some (scopes.standard_meaning q)) p ce me pe fi s us en ta fs u n f =
       let first : Layer → Value × Layer = λ m. first_value m es in
       let as' : Layer → ℕ → List code.Argument × Layer = λ m i. arguments_from m i 0 es in
-      let met : begun l x.name ≡ values.a_standard (predeclared_as q) = same_begun l x.name s ∙ standard_found x.name p q (scopes.since x.name h.scope) pe fi in
+      let met : name_meaning l x.name ≡ values.a_standard (predeclared_as q) = same_begun l x.name s ∙ standard_found x.name p q (scopes.since x.name h.scope) pe fi in
       let c : List Item = expressions_calls h.scope es in
       let w : (y : Formed) × (first_form h es ≡ Some y) × (applied_form q y ≡ Some z) = inside (first_form h es) (applied_form q) z f in
       let i : Is w.0 (cells l) (first_value l es) c = fs w.0 u.1 (next_first h (cells l) c [] n) w.1 in
       let m : Layer = (first_value l es).1 in
-      let j : Is z (cells l) (named_as l at (values.a_standard (predeclared_as q)) first as') (c ++ []) = record {
+      let j : Is z (cells l) (value_of_meaning l at (values.a_standard (predeclared_as q)) first as') (c ++ []) = record {
         value = applied_same k b.types q w.0 z (first_value l es).0 i.value w.2;
         taken = takes_both (cells l) m m c [] i.taken (takes_none m);
       } in
-      subst (λ y. Is z (cells l) (named_as l at y first as') (c ++ [])) (sym met) j
+      subst (λ y. Is z (cells l) (value_of_meaning l at y first as') (c ++ [])) (sym met) j
   named_is l at x (syntax.more_selectors y ss) es z false (Some (scopes.standard_meaning q)) p ce me pe fi s us en ta fs u n f = absurd u.0
   named_is l at x ss syntax.no_expressions z false (Some (scopes.local_variable t)) p ce me pe fi s us en ta fs u n f =
       variable_is l at x ss (a_variable (code.place ((frame_here h).origins x.name) 0 code.no_indices) t) z (subst IsNoRoutine (sym me) tt) (ap (begun_form h x.name) me) s us tt n f
@@ -430,7 +430,7 @@ module _ (k : Numbering) (h : Here) (b : Layer) (g : Knows k h b) (calls : Knows
         let p : (x : Formed) × (term_form h t ≡ Some x) × (then_form (signed_form o x) (λ y. terms_form h ts y) ≡ Some z) = inside (term_form h t) _ z f in
         let q : (y : Formed) × (signed_form o p.0 ≡ Some y) × (terms_form h ts y ≡ Some z) = inside (signed_form o p.0) _ z p.2 in
         let m : Layer = (term l t).1 in
-        let v : Value = laid.signed o (term l t).0 in
+        let v : Value = laid.with_sign o (term l t).0 in
         let i : Is p.0 (cells l) (term l t) (term_calls h.scope t) = term_is l t p.0 s u.0 (next_first h (cells l) (term_calls h.scope t) (terms_calls h.scope ts) n) p.1 in
         let j : Is z (cells m) (more_terms m v ts) (terms_calls h.scope ts) = terms_is m v q.0 ts z (kept_trans b l m s (term_kept l t)) u.1 (operations.sign_same k b.types o p.0 q.0 (term l t).0 i.value q.1)
         (next_rest h (cells l) m (term_calls h.scope t) (terms_calls h.scope ts) i.taken n) q.2 in
@@ -445,7 +445,7 @@ module _ (k : Numbering) (h : Here) (b : Layer) (g : Knows k h b) (calls : Knows
         let p : (y : Formed) × (term_form h t ≡ Some y) × (then_form (added_forms o x y x.form y.form) (λ q. terms_form h ts q) ≡ Some z) = inside (term_form h t) _ z f in
         let q : (y : Formed) × (added_forms o x p.0 x.form p.0.form ≡ Some y) × (terms_form h ts y ≡ Some z) = inside (added_forms o x p.0 x.form p.0.form) _ z p.2 in
         let m : Layer = (term l t).1 in
-        let c : Value = values.added o v (term l t).0 in
+        let c : Value = values.sum_of o v (term l t).0 in
         let i : Is p.0 (cells l) (term l t) (term_calls h.scope t) = term_is l t p.0 s u.0 (next_first h (cells l) (term_calls h.scope t) (terms_calls h.scope ts) n) p.1 in
         let j : Is z (cells m) (more_terms m c ts) (terms_calls h.scope ts) = terms_is m c q.0 ts z (kept_trans b l m s (term_kept l t)) u.1
         (operations.added k b.types o x p.0 x.form p.0.form x.ty p.0.ty v (term l t).0 q.0 w i.value q.1)
@@ -473,7 +473,7 @@ module _ (k : Numbering) (h : Here) (b : Layer) (g : Knows k h b) (calls : Knows
         let p : (y : Formed) × (factor_form h a ≡ Some y) × (then_form (multiplied_forms o x y x.form y.form) (λ q. factors_form h fs q) ≡ Some z) = inside (factor_form h a) _ z f in
         let q : (y : Formed) × (multiplied_forms o x p.0 x.form p.0.form ≡ Some y) × (factors_form h fs y ≡ Some z) = inside (multiplied_forms o x p.0 x.form p.0.form) _ z p.2 in
         let m : Layer = (factor l a).1 in
-        let c : Value = values.multiplied o v (factor l a).0 in
+        let c : Value = values.product_of o v (factor l a).0 in
         let i : Is p.0 (cells l) (factor l a) (factor_calls h.scope a) = factor_is l a p.0 s u.0 (next_first h (cells l) (factor_calls h.scope a) (factors_calls h.scope fs) n) p.1 in
         let j : Is z (cells m) (more_factors m c fs) (factors_calls h.scope fs) = factors_is m c q.0 fs z (kept_trans b l m s (factor_kept l a)) u.1
         (operations.multiplied k b.types o x p.0 x.form p.0.form x.ty p.0.ty v (factor l a).0 q.0 w i.value q.1)
@@ -534,8 +534,8 @@ module _ (k : Numbering) (h : Here) (b : Layer) (g : Knows k h b) (calls : Knows
     selected_is l d q x syntax.no_selectors s u i e n f = record { leads = subst (λ y. DesignatedIs k b.types y x) (same_inside d q f) i; taken = takes_none l }
     selected_is l (a_variable w t) q x (syntax.more_selectors (syntax.field y) ss) s u i e n f =
         let p : (c : Designated) × (with_field_form (a_variable w t) y.name ≡ Some c) × (selected_form h ss c ≡ Some q) = inside (with_field_form (a_variable w t) y.name) _ q f in
-        let j : DesignatedIs k b.types p.0 (field_selected l x y.name) = subst (λ v. DesignatedIs k b.types p.0 v) (sym (same_field l x y.name s)) (field_same k h b g w t p.0 x y.name i p.1) in
-        selected_is l p.0 q (field_selected l x y.name) ss s u.1 j (stays w t y.name p.0 ss p.1) n p.2
+        let j : DesignatedIs k b.types p.0 (field_of_designated l x y.name) = subst (λ v. DesignatedIs k b.types p.0 v) (sym (same_field l x y.name s)) (field_same k h b g w t p.0 x y.name i p.1) in
+        selected_is l p.0 q (field_of_designated l x y.name) ss s u.1 j (stays w t y.name p.0 ss p.1) n p.2
     selected_is l (some_components a r c) q x (syntax.more_selectors (syntax.field y) ss) s u i e n f = absurd (cc)
     selected_is l (a_component a c) q x (syntax.more_selectors (syntax.field y) ss) s u i e n f = absurd (stuck a c y ss q e f)
     selected_is l d q x (syntax.more_selectors (syntax.index o) ss) s u i e n f =
@@ -544,7 +544,7 @@ module _ (k : Numbering) (h : Here) (b : Layer) (g : Knows k h b) (calls : Knows
         let m : Layer = (expression l o).1 in
         let j : Is a.0 (cells l) (expression l o) (expression_calls h.scope o) = expression_is l o a.0 s u.0 (next_first h (cells l) (expression_calls h.scope o) (selectors_calls h.scope ss) n) a.1 in
         let kept : Kept b m = kept_trans b l m s (expression_kept l o) in
-        let w : values.Designated = element_selected m x (ordinal_of (expression l o).0) in
+        let w : values.Designated = element_of_designated m x (ordinal_of (expression l o).0) in
         let r : DesignatedIs k b.types p.0 w = subst (λ v. DesignatedIs k b.types p.0 v) (sym (same_element m x (ordinal_of (expression l o).0) kept)) (index_is d p.0 x a.0 (expression l o).0 i j.value a.2) in
         let t : Selected q (cells m) (selectors m w ss) (selectors_calls h.scope ss) = selected_is m p.0 q w ss kept u.1 r (goes_on d a.0 p.0 o ss e a.2)
         (next_rest h (cells l) m (expression_calls h.scope o) (selectors_calls h.scope ss) j.taken n) p.2 in
@@ -556,7 +556,7 @@ module _ (k : Numbering) (h : Here) (b : Layer) (g : Knows k h b) (calls : Knows
     entered_is l c (a_variable w t) q x ss s u i e r n f = absurd e
     entered_is l c (some_components a y w) q x (syntax.more_selectors (syntax.field o) ss) s u i e r n f = absurd (cc)
     entered_is l c (a_component a w) q x (syntax.more_selectors (syntax.field o) syntax.no_selectors) s u i e r n f =
-        record { part = a; is_part = sym (same_inside (a_component a w) q f) ∙ ap (a_component a) e; leads = same_field l x o.name s ∙ ap (λ v. field_selected b v o.name) i ∙ ap (λ v. entry_found a (entry_of b v o.name)) e; taken = takes_none l }
+        record { part = a; is_part = sym (same_inside (a_component a w) q f) ∙ ap (a_component a) e; leads = same_field l x o.name s ∙ ap (λ v. field_of_designated b v o.name) i ∙ ap (λ v. entry_found a (entry_of b v o.name)) e; taken = takes_none l }
     entered_is l c (a_component a w) q x (syntax.more_selectors (syntax.field o) (syntax.more_selectors y ss)) s u i e r n f = absurd r
     entered_is l c d q x (syntax.more_selectors (syntax.index o) ss) s u i e r n f =
         let p : (v : Designated) × (then_form (expression_form h o) (with_index_form h d) ≡ Some v) × (selected_form h ss v ≡ Some q) = inside (then_form (expression_form h o) (with_index_form h d)) _ q f in
@@ -564,7 +564,7 @@ module _ (k : Numbering) (h : Here) (b : Layer) (g : Knows k h b) (calls : Knows
         let m : Layer = (expression l o).1 in
         let j : Is a.0 (cells l) (expression l o) (expression_calls h.scope o) = expression_is l o a.0 s u.0 (next_first h (cells l) (expression_calls h.scope o) (selectors_calls h.scope ss) n) a.1 in
         let kept : Kept b m = kept_trans b l m s (expression_kept l o) in
-        let w : values.Designated = element_selected m x (ordinal_of (expression l o).0) in
+        let w : values.Designated = element_of_designated m x (ordinal_of (expression l o).0) in
         let t : DesignatedIs k b.types p.0 w = subst (λ v. DesignatedIs k b.types p.0 v) (sym (same_element m x (ordinal_of (expression l o).0) kept)) (index_is d p.0 x a.0 (expression l o).0 i j.value a.2) in
         let z : Entered q c (last_field ss) (cells m) (selectors m w ss) (selectors_calls h.scope ss) = entered_is m c p.0 q w ss kept u.1 t (part_of c d a.0 p.0 e a.2) r
         (next_rest h (cells l) m (expression_calls h.scope o) (selectors_calls h.scope ss) j.taken n) p.2 in

@@ -12,7 +12,7 @@ use Rattle.cp_layout.specs.Values.{Value, ordinal_of, number_value}
 use Rattle.cp_layout.specs.Layers as layers
 use Rattle.cp_layout.specs.Layers.{Layer, Pending, parameter_at, parameter_of, result_of}
 use Rattle.cp_layout.specs.LaidExpressions as laid
-use Rattle.cp_layout.specs.LaidExpressions.{begun, element_selected, field_selected, entry_found, passed, named_as, function_as, called, counted, expression, sum, more_terms, term, more_factors, factor, elements, first_value, arguments_from, designator, selectors, selector}
+use Rattle.cp_layout.specs.LaidExpressions.{name_meaning, element_of_designated, field_of_designated, entry_found, argument_for, value_of_meaning, function_as, call_value, with_their_count, expression, sum, more_terms, term, more_factors, factor, elements, first_value, arguments_from, designator, selectors, selector}
 use Rattle.cp_meaning.specs.Scopes as scopes
 use Rattle.cp_meaning.specs.Lifting.{last_field, is_call_meant, own_call, expression_calls, sum_calls, terms_calls, term_calls, factors_calls, factor_calls, expressions_calls, designator_calls, selectors_calls}
 use Rattle.cp_resolved.specs.Compiled.{compared_forms, Formed, then_form, Designated, a_variable, some_components, a_component, named_form, valued_form, with_index_form, with_field_form, permanent_begun, begun_form, signed_form, added_forms, multiplied_forms, not_form, applied_form, with_member_form, set_form, expression_form, sum_form, terms_form, term_form, factors_form, factor_form, members_form, first_form, designator_form, selected_form}
@@ -34,7 +34,7 @@ pub record CallPending (lines : List ℕ) (h : Here) (at : ℕ) (d : syntax.Desi
   pub part : code.ComponentPlace
   pub is_entry : Bool
   pub arguments : List code.Argument
-  pub called : IsCalled h d es number part is_entry arguments
+  pub call_value : IsCalled h d es number part is_entry arguments
   pub taken : ResultGoes h (Some (temporary at)) (h.layouts.meanings number).result
   pub action : p.action ≡ code.call number part is_entry arguments (result_cell h (Some (temporary at)))
   pub line : p.line ≡ slice_index lines at
@@ -137,8 +137,8 @@ module _ (k : Numbering) (h : Here) (b : Layer) (g : Knows k h b) (calls : Knows
       let is : List Item = expressions_calls h.scope es in
       let j : Layer = (arguments_from m number 0 es).1 in
       let given : List code.Argument = (arguments_from m number 0 es).0 in
-      let x : List code.Argument × Layer = counted (arguments_from m number 0 es) in
-      let z : Layer = (called x.1 at part e number w x.0).1 in
+      let x : List code.Argument × Layer = with_their_count (arguments_from m number 0 es) in
+      let z : Layer = (call_value x.1 at part e number w x.0).1 in
       let last : (n : ℕ) → AreReady h n (function_call at d es ∷ []) → IsReady h n at d es = λ n a. a.0 in
       let before : ArgumentsGo m number 0 es (cell_named (h.layouts.frames number)) routine.parameters → GoesOn m z (is ++ function_call at d es ∷ []) = λ a.
       (let own : IsReady h (cells j) at d es = last (cells j) (ready_rest h (cells m) j is (function_call at d es ∷ []) a.0.taken ready) in
@@ -148,7 +148,7 @@ module _ (k : Numbering) (h : Here) (b : Layer) (g : Knows k h b) (calls : Knows
         part = part;
         is_entry = e;
         arguments = given;
-        called = record { routine = routine; called = met; same = sym heading.same; callee = callee; given = a.1 };
+        call_value = record { routine = routine; call_value = met; same = sym heading.same; callee = callee; given = a.1 };
         taken = subst (λ (q : RoutineMeaning). ResultGoes h (Some (temporary at)) q.result) (sym heading.same) (result_there (temporary at) routine.result has (own.held ∙ ap (λ q. Some (result_called q)) met));
         action = ap (λ q. code.call number part e given (Some (slot_of q))) (sym own.cell);
         line = ap (λ ls. slice_index ls at) (kept_lines j (kept_trans b m j s (arguments_kept m number 0 es)));
@@ -176,9 +176,9 @@ module _ (k : Numbering) (h : Here) (b : Layer) (g : Knows k h b) (calls : Knows
   First l es = (z : Formed) → IsOne es → AreReady h (cells l) (expressions_calls h.scope es) → first_form h es ≡ Some z → GoesOn l (first_value l es).1 (expressions_calls h.scope es)
 
   -- the value of a name that is no call changes nothing
-  plain_kept : (m : Layer) (at : ℕ) (q : Designated) (x : values.Designated) (first : Layer → Value × Layer) (as' : Layer → ℕ → List code.Argument × Layer) (z : Formed) → DesignatedIs k b.types q x → valued_form q ≡ Some z → (named_as m at x first as').1 ≡ m
-  plain_kept m at (a_variable w t) x first as' z i f = ap (λ y. (named_as m at y first as').1) i.is
-  plain_kept m at (a_component c o) x first as' z i f = ap (λ y. (named_as m at y first as').1) i
+  plain_kept : (m : Layer) (at : ℕ) (q : Designated) (x : values.Designated) (first : Layer → Value × Layer) (as' : Layer → ℕ → List code.Argument × Layer) (z : Formed) → DesignatedIs k b.types q x → valued_form q ≡ Some z → (value_of_meaning m at x first as').1 ≡ m
+  plain_kept m at (a_variable w t) x first as' z i f = ap (λ y. (value_of_meaning m at y first as').1) i.is
+  plain_kept m at (a_component c o) x first as' z i f = ap (λ y. (value_of_meaning m at y first as').1) i
   plain_kept m at (some_components c r o) x first as' z i f = absurd (cc)
 
   goes_same : (l m n : Layer) (is : List Item) → n ≡ m → GoesOn l m is → GoesOn l n (is ++ [])
@@ -193,11 +193,11 @@ module _ (k : Numbering) (h : Here) (b : Layer) (g : Knows k h b) (calls : Knows
       let as' : Layer → ℕ → List code.Argument × Layer = λ m i. arguments_from m i 0 syntax.no_expressions in
       let q : (y : Designated) × (designator_form h (syntax.designator x ss) ≡ Some y) × (valued_form y ≡ Some z) = inside (designator_form h (syntax.designator x ss)) valued_form z f in
       let target : selected_form h ss d ≡ Some q.0 = ap (λ w. then_form w (selected_form h ss)) (sym e) ∙ q.1 in
-      let begins : DesignatedIs k b.types d (begun l x.name) = subst (λ w. DesignatedIs k b.types d w) (sym (known.same_begun k h b g calls l x.name s)) (begun_same k h b g x.name d r e) in
-      let m : Layer = (selectors l (begun l x.name) ss).1 in
+      let begins : DesignatedIs k b.types d (name_meaning l x.name) = subst (λ w. DesignatedIs k b.types d w) (sym (known.same_begun k h b g calls l x.name s)) (begun_same k h b g x.name d r e) in
+      let m : Layer = (selectors l (name_meaning l x.name) ss).1 in
       let ready : AreReady h (cells l) (selectors_calls h.scope ss) = ready_first h (cells l) (selectors_calls h.scope ss) [] n in
-      let j : known.Selected k h b g calls q.0 (cells l) (selectors l (begun l x.name) ss) (selectors_calls h.scope ss) = known.selected_is k h b g calls l d q.0 (begun l x.name) ss s us begins ne (ready_next h (cells l) (selectors_calls h.scope ss) ready) target in
-      goes_same l m (named_as m at (selectors l (begun l x.name) ss).0 first as').1 (selectors_calls h.scope ss) (plain_kept m at q.0 (selectors l (begun l x.name) ss).0 first as' z j.leads q.2) (go d q.0 (begun l x.name) ready target)
+      let j : known.Selected k h b g calls q.0 (cells l) (selectors l (name_meaning l x.name) ss) (selectors_calls h.scope ss) = known.selected_is k h b g calls l d q.0 (name_meaning l x.name) ss s us begins ne (ready_next h (cells l) (selectors_calls h.scope ss) ready) target in
+      goes_same l m (value_of_meaning m at (selectors l (name_meaning l x.name) ss).0 first as').1 (selectors_calls h.scope ss) (plain_kept m at q.0 (selectors l (name_meaning l x.name) ss).0 first as' z j.leads q.2) (go d q.0 (name_meaning l x.name) ready target)
 
   -- the routine of a component
   pub entry_heading : (x : Name) (t : Ty) (o : Option Name) (routine : RoutineMeaning) (n : ℕ) → is_call_meant (Some (scopes.permanent_variable t)) o ≡ true → scopes.find x h.scope ≡ Some (scopes.permanent_variable t) → routine_meant h.program h.scope x (Some (scopes.permanent_variable t)) o ≡ Some routine →
@@ -223,8 +223,8 @@ module _ (k : Numbering) (h : Here) (b : Layer) (g : Knows k h b) (calls : Knows
       let v : ResultsAre k b.types (Some (result_type q.result)) (result_of l number) =
       subst (λ w. ResultsAre k b.types (Some (result_type q.result)) w) (sym (known.same_result k h b g calls l number s)) (known.result_given k h b g calls q q.result (result_of b number) refl has results) in
       let callee : CalleeIs h d (scopes.find x.name h.scope) code.own false number = subst (λ m. CalleeIs h d m code.own false number) (sym me) (refl, refl, given.0) in
-      let begins : begun l x.name ≡ values.a_routine number = known.same_begun k h b g calls l x.name s ∙ ap laid.begun_as there in
-      subst (λ w. GoesOn l (named_as l at w (λ m. first_value m es) as').1 (expressions_calls h.scope es ++ function_call at d es ∷ [])) (sym begins)
+      let begins : name_meaning l x.name ≡ values.a_routine number = known.same_begun k h b g calls l x.name s ∙ ap laid.meaning_of there in
+      subst (λ w. GoesOn l (value_of_meaning l at w (λ m. first_value m es) as').1 (expressions_calls h.scope es ++ function_call at d es ∷ [])) (sym begins)
       (call_goes l at d es code.own false number q (result_of l number) v s met has callee (subst (HeadingIs k h b number) fi.2 given.1) ar tt n)
 
   component_goes : (l : Layer) (at : ℕ) (x : Identifier) (ss : syntax.Selectors) (es : syntax.Expressions) (t : Ty) → is_call_meant (Some (scopes.permanent_variable t)) (last_field ss) ≡ true → scopes.find x.name h.scope ≡ Some (scopes.permanent_variable t) → Kept b l → SelectorsUsed h ss → Selects l ss → Argues es →
@@ -238,13 +238,13 @@ module _ (k : Numbering) (h : Here) (b : Layer) (g : Knows k h b) (calls : Knows
       let first : Designated = permanent_begun h x.name t in
       let begins_form : begun_form h x.name (scopes.find x.name h.scope) ≡ Some first = ap (begun_form h x.name) me in
       let target : selected_form h ss first ≡ Some form.0 = ap (λ w. then_form w (selected_form h ss)) (sym begins_form) ∙ form.1 in
-      let begins : DesignatedIs k b.types first (begun b x.name) = begun_same k h b g x.name first (subst IsNoRoutine (sym me) tt) begins_form in
-      let begins_here : DesignatedIs k b.types first (begun l x.name) = subst (λ w. DesignatedIs k b.types first w) (sym (known.same_begun k h b g calls l x.name s)) begins in
+      let begins : DesignatedIs k b.types first (name_meaning b x.name) = begun_same k h b g x.name first (subst IsNoRoutine (sym me) tt) begins_form in
+      let begins_here : DesignatedIs k b.types first (name_meaning l x.name) = subst (λ w. DesignatedIs k b.types first w) (sym (known.same_begun k h b g calls l x.name s)) begins in
       let ready : AreReady h (cells l) (selectors_calls h.scope ss) = ready_first h (cells l) (selectors_calls h.scope ss) rest n in
-      let m : Layer = (selectors l (begun l x.name) ss).1 in
-      let e : known.Entered k h b g calls form.0 (system_type t) (last_field ss) (cells l) (selectors l (begun l x.name) ss) (selectors_calls h.scope ss) =
-      known.entered_is k h b g calls l (system_type t) first form.0 (begun l x.name) ss s us begins_here (known.parts_begun k h b g calls x.name t (known.has_parts k h b g calls t (last_field ss) ce)) en (ready_next h (cells l) (selectors_calls h.scope ss) ready) target in
-      let moved : GoesOn l m (selectors_calls h.scope ss) = go first form.0 (begun l x.name) ready target in
+      let m : Layer = (selectors l (name_meaning l x.name) ss).1 in
+      let e : known.Entered k h b g calls form.0 (system_type t) (last_field ss) (cells l) (selectors l (name_meaning l x.name) ss) (selectors_calls h.scope ss) =
+      known.entered_is k h b g calls l (system_type t) first form.0 (name_meaning l x.name) ss s us begins_here (known.parts_begun k h b g calls x.name t (known.has_parts k h b g calls t (last_field ss) ce)) en (ready_next h (cells l) (selectors_calls h.scope ss) ready) target in
+      let moved : GoesOn l m (selectors_calls h.scope ss) = go first form.0 (name_meaning l x.name) ready target in
       let met : routine_called h.program h.scope d ≡ routine_meant h.program h.scope x.name (Some (scopes.permanent_variable t)) (last_field ss) = ap (λ w. routine_meant h.program h.scope x.name w (last_field ss)) me in
       let r : known.Reached k h b g calls t (last_field ss) (routine_meant h.program h.scope x.name (Some (scopes.permanent_variable t)) (last_field ss)) = known.reached_by k h b g calls x.name t (last_field ss) ce me (subst IsFunction met u) in
       let kept : Kept b m = kept_trans b l m s (designator_kept l d) in
@@ -255,9 +255,9 @@ module _ (k : Numbering) (h : Here) (b : Layer) (g : Knows k h b) (calls : Knows
       let callee : CalleeIs h d (scopes.find x.name h.scope) e.part true r.number = subst (λ w. CalleeIs h d w e.part true r.number) (sym me) (part_is, refl) in
       let called_there : GoesOn m (function_as m at e.part true r.number (result_of m r.number) as').1 rest =
       call_goes m at d es e.part true r.number r.routine (result_of m r.number) v kept (met ∙ r.called) has callee heading.1 ar (ready_held h (cells l) (selectors_calls h.scope ss) ready) (ready_rest h (cells l) m (selectors_calls h.scope ss) rest moved.taken n) in
-      let all : GoesOn m (named_as m at (selectors l (begun l x.name) ss).0 (λ m. first_value m es) as').1 rest =
-      subst (λ y. GoesOn m (named_as m at y (λ m. first_value m es) as').1 rest) (sym (e.leads ∙ ap (entry_found e.part) r.there)) called_there in
-      goes_both lines h l m (named_as m at (selectors l (begun l x.name) ss).0 (λ m. first_value m es) as').1 (selectors_calls h.scope ss) rest moved all
+      let all : GoesOn m (value_of_meaning m at (selectors l (name_meaning l x.name) ss).0 (λ m. first_value m es) as').1 rest =
+      subst (λ y. GoesOn m (value_of_meaning m at y (λ m. first_value m es) as').1 rest) (sym (e.leads ∙ ap (entry_found e.part) r.there)) called_there in
+      goes_both lines h l m (value_of_meaning m at (selectors l (name_meaning l x.name) ss).0 (λ m. first_value m es) as').1 (selectors_calls h.scope ss) rest moved all
 
   -- a name in an expression
   named_goes : (l : Layer) (at : ℕ) (x : Identifier) (ss : syntax.Selectors) (es : syntax.Expressions) (z : Formed) (c : Bool) (m : Option scopes.Meaning) (p : Option LayoutMeaning) → is_call_meant m (last_field ss) ≡ c → scopes.find x.name h.scope ≡ m → layers.find x.name b.names ≡ p →
@@ -272,18 +272,18 @@ module _ (k : Numbering) (h : Here) (b : Layer) (g : Knows k h b) (calls : Knows
   named_goes l at x syntax.no_selectors syntax.no_expressions z false (Some (scopes.constant_meaning a v)) p ce me pe fi s us go ar fs u n f =
       let first : Layer → Value × Layer = λ m. first_value m syntax.no_expressions in
       let as' : Layer → ℕ → List code.Argument × Layer = λ m i. arguments_from m i 0 syntax.no_expressions in
-      let met : begun l x.name ≡ values.a_value (number_value v (base_of k a)) = known.same_begun k h b g calls l x.name s ∙ known.constant_found k h b g calls x.name p a v (scopes.since x.name h.scope) pe fi in
-      subst (λ w. GoesOn l (named_as l at w first as').1 []) (sym met) (goes_none lines h l)
+      let met : name_meaning l x.name ≡ values.a_value (number_value v (base_of k a)) = known.same_begun k h b g calls l x.name s ∙ known.constant_found k h b g calls x.name p a v (scopes.since x.name h.scope) pe fi in
+      subst (λ w. GoesOn l (value_of_meaning l at w first as').1 []) (sym met) (goes_none lines h l)
   named_goes l at x (syntax.more_selectors y ss) es z false (Some (scopes.constant_meaning a v)) p ce me pe fi s us go ar fs u n f = absurd u.0
   named_goes l at x syntax.no_selectors (syntax.more_expressions e es) z false (Some (scopes.constant_meaning a v)) p ce me pe fi s us go ar fs u n f = absurd u.1
   named_goes l at x syntax.no_selectors es z false (Some (scopes.standard_meaning q)) p ce me pe fi s us go ar fs u n f =
       let first : Layer → Value × Layer = λ m. first_value m es in
       let as' : Layer → ℕ → List code.Argument × Layer = λ m i. arguments_from m i 0 es in
-      let met : begun l x.name ≡ values.a_standard (predeclared_as q) = known.same_begun k h b g calls l x.name s ∙ known.standard_found k h b g calls x.name p q (scopes.since x.name h.scope) pe fi in
+      let met : name_meaning l x.name ≡ values.a_standard (predeclared_as q) = known.same_begun k h b g calls l x.name s ∙ known.standard_found k h b g calls x.name p q (scopes.since x.name h.scope) pe fi in
       let c : List Item = expressions_calls h.scope es in
       let w : (y : Formed) × (first_form h es ≡ Some y) × (applied_form q y ≡ Some z) = inside (first_form h es) (applied_form q) z f in
       let i : GoesOn l (first_value l es).1 c = fs w.0 u.1 (ready_first h (cells l) c [] n) w.1 in
-      subst (λ y. GoesOn l (named_as l at y first as').1 (c ++ [])) (sym met) (goes_same l (first_value l es).1 (first_value l es).1 c refl i)
+      subst (λ y. GoesOn l (value_of_meaning l at y first as').1 (c ++ [])) (sym met) (goes_same l (first_value l es).1 (first_value l es).1 c refl i)
   named_goes l at x (syntax.more_selectors y ss) es z false (Some (scopes.standard_meaning q)) p ce me pe fi s us go ar fs u n f = absurd u.0
   named_goes l at x ss syntax.no_expressions z false (Some (scopes.local_variable t)) p ce me pe fi s us go ar fs u n f =
       variable_goes l at x ss (a_variable (code.place ((frame_here h).origins x.name) 0 code.no_indices) t) z (subst IsNoRoutine (sym me) tt) (ap (begun_form h x.name) me) s us go tt n f
@@ -314,7 +314,7 @@ module _ (k : Numbering) (h : Here) (b : Layer) (g : Knows k h b) (calls : Knows
         let p : (x : Formed) × (term_form h t ≡ Some x) × (then_form (signed_form o x) (λ y. terms_form h ts y) ≡ Some z) = inside (term_form h t) _ z f in
         let q : (y : Formed) × (signed_form o p.0 ≡ Some y) × (terms_form h ts y ≡ Some z) = inside (signed_form o p.0) _ z p.2 in
         let m : Layer = (term l t).1 in
-        let v : Value = laid.signed o (term l t).0 in
+        let v : Value = laid.with_sign o (term l t).0 in
         let i : GoesOn l m (term_calls h.scope t) = term_goes l t p.0 s u.0 (ready_first h (cells l) (term_calls h.scope t) (terms_calls h.scope ts) n) p.1 in
         goes_both lines h l m (more_terms m v ts).1 (term_calls h.scope t) (terms_calls h.scope ts) i (terms_goes m v q.0 ts z (kept_trans b l m s (term_kept l t)) u.1 (ready_rest h (cells l) m (term_calls h.scope t) (terms_calls h.scope ts) i.taken n) q.2)
 
@@ -324,7 +324,7 @@ module _ (k : Numbering) (h : Here) (b : Layer) (g : Knows k h b) (calls : Knows
         let p : (y : Formed) × (term_form h t ≡ Some y) × (then_form (added_forms o x y x.form y.form) (λ q. terms_form h ts q) ≡ Some z) = inside (term_form h t) _ z f in
         let q : (y : Formed) × (added_forms o x p.0 x.form p.0.form ≡ Some y) × (terms_form h ts y ≡ Some z) = inside (added_forms o x p.0 x.form p.0.form) _ z p.2 in
         let m : Layer = (term l t).1 in
-        let c : Value = values.added o v (term l t).0 in
+        let c : Value = values.sum_of o v (term l t).0 in
         let i : GoesOn l m (term_calls h.scope t) = term_goes l t p.0 s u.0 (ready_first h (cells l) (term_calls h.scope t) (terms_calls h.scope ts) n) p.1 in
         goes_both lines h l m (more_terms m c ts).1 (term_calls h.scope t) (terms_calls h.scope ts) i (terms_goes m c q.0 ts z (kept_trans b l m s (term_kept l t)) u.1 (ready_rest h (cells l) m (term_calls h.scope t) (terms_calls h.scope ts) i.taken n) q.2)
 
@@ -341,7 +341,7 @@ module _ (k : Numbering) (h : Here) (b : Layer) (g : Knows k h b) (calls : Knows
         let p : (y : Formed) × (factor_form h a ≡ Some y) × (then_form (multiplied_forms o x y x.form y.form) (λ q. factors_form h fs q) ≡ Some z) = inside (factor_form h a) _ z f in
         let q : (y : Formed) × (multiplied_forms o x p.0 x.form p.0.form ≡ Some y) × (factors_form h fs y ≡ Some z) = inside (multiplied_forms o x p.0 x.form p.0.form) _ z p.2 in
         let m : Layer = (factor l a).1 in
-        let c : Value = values.multiplied o v (factor l a).0 in
+        let c : Value = values.product_of o v (factor l a).0 in
         let i : GoesOn l m (factor_calls h.scope a) = factor_goes l a p.0 s u.0 (ready_first h (cells l) (factor_calls h.scope a) (factors_calls h.scope fs) n) p.1 in
         goes_both lines h l m (more_factors m c fs).1 (factor_calls h.scope a) (factors_calls h.scope fs) i (factors_goes m c q.0 fs z (kept_trans b l m s (factor_kept l a)) u.1 (ready_rest h (cells l) m (factor_calls h.scope a) (factors_calls h.scope fs) i.taken n) q.2)
 
@@ -390,7 +390,7 @@ module _ (k : Numbering) (h : Here) (b : Layer) (g : Knows k h b) (calls : Knows
         let rest : ArgumentsGo m r (n + 1) es slots qs = arguments_go m r (n + 1) es slots qs ps kept u.1 (ready_rest h (cells l) m is js i.taken a) w.2 later c.1 in
         let here : parameter_of m r n ≡ Some p = same_parameter m r n kept ∙ (let z : n ≡ n + 0 = omega arith in ap (parameter_of b r) z) ∙ d 0 in
         let types : m.types ≡ b.types = ap (λ (j : Layer). j.types) kept in
-        let same : passed m p.passing (expression l e).0 ≡ f.value = given_same k m q.is_var q.ty f.given.form (expression l e).0 p.passing f.value (subst (λ ts. ValueIs k ts f.given.form (expression l e).0) (sym types) value.value) (subst (λ ts. PassedBy k ts q.is_var q.ty p.passing) (sym types) w.1) f.given.given f.moved in
+        let same : argument_for m p.passing (expression l e).0 ≡ f.value = given_same k m q.is_var q.ty f.given.form (expression l e).0 p.passing f.value (subst (λ ts. ValueIs k ts f.given.form (expression l e).0) (sym types) value.value) (subst (λ ts. PassedBy k ts q.is_var q.ty p.passing) (sym types) w.1) f.given.given f.moved in
         let own : AreGiven h slots (q ∷ qs) (syntax.more_expressions e es) (laid.with_argument m (Some p) (expression l e).0 (arguments_from m r (n + 1) es).0) = (w.0, subst (IsGiven h q e) (sym same) f.given, rest.1) in
         (goes_both lines h l m (arguments_from m r (n + 1) es).1 is js i rest.0, subst (λ o. AreGiven h slots (q ∷ qs) (syntax.more_expressions e es) (laid.with_argument m o (expression l e).0 (arguments_from m r (n + 1) es).0)) (sym here) own)
     arguments_go l r n _ slots _ ps s u a w d c = absurd c
@@ -400,13 +400,13 @@ module _ (k : Numbering) (h : Here) (b : Layer) (g : Knows k h b) (calls : Knows
     selectors_go l d q x syntax.no_selectors s u n f = goes_none lines h l
     selectors_go l d q x (syntax.more_selectors (syntax.field y) ss) s u n f =
         let p : (c : Designated) × (with_field_form d y.name ≡ Some c) × (selected_form h ss c ≡ Some q) = inside (with_field_form d y.name) _ q f in
-        selectors_go l p.0 q (field_selected l x y.name) ss s u.1 n p.2
+        selectors_go l p.0 q (field_of_designated l x y.name) ss s u.1 n p.2
     selectors_go l d q x (syntax.more_selectors (syntax.index o) ss) s u n f =
         let p : (c : Designated) × (then_form (expression_form h o) (with_index_form h d) ≡ Some c) × (selected_form h ss c ≡ Some q) = inside (then_form (expression_form h o) (with_index_form h d)) _ q f in
         let a : (y : Formed) × (expression_form h o ≡ Some y) × (with_index_form h d y ≡ Some p.0) = inside (expression_form h o) _ p.0 p.1 in
         let m : Layer = (expression l o).1 in
         let i : GoesOn l m (expression_calls h.scope o) = expression_goes l o a.0 s u.0 (ready_first h (cells l) (expression_calls h.scope o) (selectors_calls h.scope ss) n) a.1 in
-        let w : values.Designated = element_selected m x (ordinal_of (expression l o).0) in
+        let w : values.Designated = element_of_designated m x (ordinal_of (expression l o).0) in
         goes_both lines h l m (selectors m w ss).1 (expression_calls h.scope o) (selectors_calls h.scope ss) i (selectors_go m p.0 q w ss (kept_trans b l m s (expression_kept l o)) u.1 (ready_rest h (cells l) m (expression_calls h.scope o) (selectors_calls h.scope ss) i.taken n) p.2)
 
     -- the one argument of a standard function

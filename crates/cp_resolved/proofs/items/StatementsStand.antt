@@ -2,7 +2,7 @@
 use Rattle.std.proofs.Common.{◌≡◌, ◌+◌, ◌<◌, ◌≤◌, min, max, ℕ, Bool, true, false, List, [], ◌∷◌, ◌++◌, length, Option, Some, None, slice_get, refl, sym, ap, subst, ◌∙◌, arith, append-nil}
 use Rattle.cp_resolved.proofs.Words.{none-some, same_Some, Constant, Identifier, Direction, LayoutMeaning, most, Name, Ty, Item}
 use Rattle.cp_resolved.proofs.Words.{system_of, name_of, routine_of_type, routine_meant, routine_called, Here, cell_named, Each}
-use Rattle.cp_resolved.proofs.Words.{IsSmallConstant, ValueIs, DesignatedIs, Layer, added, again, settled, need_inside, pending_need, without_pending}
+use Rattle.cp_resolved.proofs.Words.{IsSmallConstant, ValueIs, DesignatedIs, Layer, add_item, again, settle_items, need_inside, pending_need, without_pending}
 use Rattle.cp_resolved.proofs.Words.{starts_calls, calls_laid, all_calls_laid, arms_calls_laid, arm_calls_laid, AreHeld, IsCell, Assigns, Means}
 use Rattle.cp_tree.specs.declared.statement.AssertionKind.{AssertionKind}
 use Rattle.cp_tree.specs.declared.statement.AssertionKind.TheVariants as kinds
@@ -16,9 +16,9 @@ use Rattle.cp_layout.specs.Values as values
 use Rattle.cp_layout.specs.Values.{place_of, ordinal_of}
 use Rattle.cp_layout.specs.Layers as layers
 use Rattle.cp_layout.specs.LaidTypes as laid_types
-use Rattle.cp_layout.specs.LaidExpressions.{begun_as, begun, entry_found, counted, arguments_from, arguments, expression, designator, selectors, first_value}
+use Rattle.cp_layout.specs.LaidExpressions.{meaning_of, name_meaning, entry_found, with_their_count, arguments_from, arguments, expression, designator, selectors, first_value}
 use Rattle.cp_layout.specs.LaidStatements as laid
-use Rattle.cp_layout.specs.LaidStatements.{checked, assertion, statement, statements, arms, one_arm, arms_need, chosen, while_item, until_item, selected, for_item, blocked, repeated, assigned, invoked, standard, procedure, begun_component, started, starts, Target, target_of, low_of, high_of, origin_of, token_of}
+use Rattle.cp_layout.specs.LaidStatements.{check_invariants, assertion, statement, statements, arms, one_arm, arms_need, choose, while_item, until_item, select, for_item, block_item, repeat_items, assign, call_statement, standard, procedure, begin_component, start_statement, starts, Target, target_of, low_of, high_of, origin_of, token_of}
 use Rattle.cp_meaning.specs.Types as named
 use Rattle.cp_meaning.specs.Scopes as scopes
 use Rattle.cp_meaning.specs.Declarations as meant
@@ -123,7 +123,7 @@ module _ (k : Numbering) (h : Here) (g : Ground) (few : length g.tables.items �
   -- the calls of a statement and its own item
   own_does : (l m : Layer) (is : List Item) (at : ℕ) (a : code.Action) (need : ℕ) (next : Option ℕ) → World l → l.pending ≡ [] → Kept l m → Goes g.lines h l m is → Means h a → Does l (ended g h m at a need next).1 is (Led g h (ended g h m at a need next).0 is at a next)
   own_does l m is at a need next w none s i x =
-      let j : Layer = added m at a need in
+      let j : Layer = add_item m at a need in
       record {
         taken = ap (λ (f : layers.Frame). length f.image) (all_frame (without_pending j) j.pending next) ∙ i.taken;
         pending = all_pending (without_pending j) j.pending next;
@@ -135,7 +135,7 @@ module _ (k : Numbering) (h : Here) (g : Ground) (few : length g.tables.items �
   -- the calls of a statement, the checks before it, and its own item
   checked_does : (l m o : Layer) (is cs : List Item) (at : ℕ) (a : code.Action) (need : ℕ) (next : Option ℕ) → World l → l.pending ≡ [] → Kept l o → Goes g.lines h l m is → ChecksGo g h m o cs → Means h a → Does l (ended g h o at a need next).1 is (LedChecked g h (ended g h o at a need next).0 is cs at a next)
   checked_does l m o is cs at a need next w none s i c x =
-      let j : Layer = added o at a need in
+      let j : Layer = add_item o at a need in
       record {
         taken = ap (λ (f : layers.Frame). length f.image) (all_frame (without_pending j) j.pending next) ∙ c.image ∙ i.taken;
         pending = all_pending (without_pending j) j.pending next;
@@ -194,7 +194,7 @@ module _ (k : Numbering) (h : Here) (g : Ground) (few : length g.tables.items �
   unfolding designator
   designator_goes l x ss q w u n f =
       let p : (d : Designated) × (begun_form h x.name (scopes.find x.name h.scope) ≡ Some d) × (selected_form h ss d ≡ Some q) = known.inside (begun_form h x.name (scopes.find x.name h.scope)) (selected_form h ss) q f in
-      selectors_go k h l w.names w.calls w.headings g.lines w.lines l p.0 q (begun l x.name) ss refl u n p.2
+      selectors_go k h l w.names w.calls w.headings g.lines w.lines l p.0 q (name_meaning l x.name) ss refl u n p.2
 
   assigns_mean : (t u : Ty) (y : Form) (p : code.Place) (a : code.Action) → AssignedBy t p u y a → Assigns h a → Means h a
   assigns_mean (named.ordinal q) u (as_ordinal c) p a e x = subst (λ b. Assigns h b → Means h b) (sym e) (λ y. y) x
@@ -204,8 +204,8 @@ module _ (k : Numbering) (h : Here) (g : Ground) (few : length g.tables.items �
   assigns_mean _ u _ p a e x = absurd e
 
   assign_does : (l : Layer) (at : ℕ) (x : Identifier) (ss : syntax.Selectors) (e : syntax.Expression) (next : Option ℕ) → World l → l.pending ≡ [] → AssignFormed h (syntax.designator x ss) e → AreReady h (cells l) (selectors_calls h.scope ss ++ expression_calls h.scope e) →
-      After l (settled (assigned l at (syntax.designator x ss) e) next) (syntax.assign at (syntax.designator x ss) e) next
-  unfolding assigned
+      After l (settle_items (assign l at (syntax.designator x ss) e) next) (syntax.assign at (syntax.designator x ss) e) next
+  unfolding assign
   assign_does l at x ss e next w none f n =
       let d : syntax.Designator = syntax.designator x ss in
       let is : List Item = selectors_calls h.scope ss in
@@ -224,13 +224,13 @@ module _ (k : Numbering) (h : Here) (g : Ground) (few : length g.tables.items �
       let value : ValueIs k o.types f.value (expression m e).0 = subst (λ ts. ValueIs k ts f.value (expression m e).0) (sym types) v.value in
       let belongs : TypeIs k o.types f.ty (target_of m (designator l d).0).value_type = subst (λ ts. TypeIs k ts f.ty (target_of m (designator l d).0).value_type) (sym types) t.belongs in
       let same : laid.assignment o (target_of m (designator l d).0) (expression m e).0 ≡ f.act =
-      ap (λ p. laid.assigned_as o p (expression m e).0 (target_of m (designator l d).0).value_type) t.place_is
+      ap (λ p. laid.assign_by_type o p (expression m e).0 (target_of m (designator l d).0).value_type) t.place_is
       ∙ assigned_same k o f.ty f.value.ty f.value.form (expression m e).0 f.place (target_of m (designator l d).0).value_type f.act value belongs f.assigned f.moved in
       let a : code.Action = laid.assignment o (target_of m (designator l d).0) (expression m e).0 in
-      let meant : Assigns h f.act = record { target = d; expression = e; place = f.place; ty = f.ty; value = f.value; aimed = f.target; formed = f.formed; assigned = f.assigned; chosen = ready_held h (cells l) is first; held = ready_held h (cells m) js rest } in
+      let meant : Assigns h f.act = record { target = d; expression = e; place = f.place; ty = f.ty; value = f.value; aimed = f.target; formed = f.formed; assign = f.assigned; choose = ready_held h (cells l) is first; held = ready_held h (cells m) js rest } in
       let done : Does l (ended g h o at a 0 next).1 (is ++ js) (Led g h (ended g h o at a 0 next).0 (is ++ js) at a next) = own_does l o (is ++ js) at a 0 next w none whole (goes_both g.lines h l m o is js i j) (subst (Means h) (sym same) (assigns_mean f.ty f.value.ty f.value.form f.place f.act f.assigned meant)) in
       then_does l (ended g h o at a 0 next).1 (is ++ js) (Led g h (ended g h o at a 0 next).0 (is ++ js) at a next) (StatementIs g h (ended g h o at a 0 next).0 (syntax.assign at d e) next)
-      (λ y. (let z = led_as (ended g h o at a 0 next).0 (is ++ js) at a f.act next same y in (z.number, z.calls, record { place = f.place; ty = f.ty; value = f.value; act = f.act; target = f.target; formed = f.formed; assigned = f.assigned; item = z.item }))) done
+      (λ y. (let z = led_as (ended g h o at a 0 next).0 (is ++ js) at a f.act next same y in (z.number, z.calls, record { place = f.place; ty = f.ty; value = f.value; act = f.act; target = f.target; formed = f.formed; assign = f.assigned; item = z.item }))) done
 
   led_checked_as : (first : Option ℕ) (is cs : List Item) (at : ℕ) (a c : code.Action) (next : Option ℕ) → a ≡ c → LedChecked g h first is cs at a next → LedChecked g h first is cs at c next
   led_checked_as first is cs at a c next e x = subst (λ y. LedChecked g h first is cs at y next) e x
@@ -241,15 +241,15 @@ module _ (k : Numbering) (h : Here) (g : Ground) (few : length g.tables.items �
   shown_same c (named.enumerated at xs) = ap shown.Constant (sym (numbered at))
   shown_same c _ = refl
 
-  performed_does : (l : Layer) (at : ℕ) (p : scopes.Standard) (e : syntax.Expression) (z : Formed) (a : code.Action) (next : Option ℕ) → World l → l.pending ≡ [] → expression_form h e ≡ Some z → IsUsed h e → AreReady h (cells l) (expression_calls h.scope e ++ []) → (ValueIs k l.types z (expression l e).0 → laid.performed (predeclared_as p) (expression l e).0 ≡ a) → Means h a →
-      Does l (settled (standard l at (predeclared_as p) (syntax.more_expressions e syntax.no_expressions)) next).1 (expression_calls h.scope e ++ []) (LedChecked g h (settled (standard l at (predeclared_as p) (syntax.more_expressions e syntax.no_expressions)) next).0 (expression_calls h.scope e ++ []) (checks_of h at (Some (scopes.standard_meaning p))) at a next)
+  performed_does : (l : Layer) (at : ℕ) (p : scopes.Standard) (e : syntax.Expression) (z : Formed) (a : code.Action) (next : Option ℕ) → World l → l.pending ≡ [] → expression_form h e ≡ Some z → IsUsed h e → AreReady h (cells l) (expression_calls h.scope e ++ []) → (ValueIs k l.types z (expression l e).0 → laid.standard_action (predeclared_as p) (expression l e).0 ≡ a) → Means h a →
+      Does l (settle_items (standard l at (predeclared_as p) (syntax.more_expressions e syntax.no_expressions)) next).1 (expression_calls h.scope e ++ []) (LedChecked g h (settle_items (standard l at (predeclared_as p) (syntax.more_expressions e syntax.no_expressions)) next).0 (expression_calls h.scope e ++ []) (checks_of h at (Some (scopes.standard_meaning p))) at a next)
   unfolding standard first_value
   performed_does l at p e z a next w none f u n same means =
       let is : List Item = expression_calls h.scope e in
       let cs : List Item = checks_of h at (Some (scopes.standard_meaning p)) in
       let m : Layer = (expression l e).1 in
-      let o : Layer = laid.checked_before m at (predeclared_as p) in
-      let c : code.Action = laid.performed (predeclared_as p) (expression l e).0 in
+      let o : Layer = laid.check_before m at (predeclared_as p) in
+      let c : code.Action = laid.standard_action (predeclared_as p) (expression l e).0 in
       let r : AreReady h (cells l) is = ready_first h (cells l) is [] n in
       let i : Goes g.lines h l m is = expression_goes k h l w.names w.calls w.headings g.lines w.lines l e z refl u r f in
       let v = known.expression_is k h l w.names w.calls l e z refl u (ready_next h (cells l) is r) f in
@@ -259,14 +259,14 @@ module _ (k : Numbering) (h : Here) (g : Ground) (few : length g.tables.items �
 
   abbrev Performs : Layer → ℕ → scopes.Standard → syntax.Expressions → Option ℕ → Type 0
   Performs l at s es next =
-      Does l (settled (standard l at (predeclared_as s) es) next).1 (expressions_calls h.scope es)
-      ((n : ℕ) × (check : Option ℕ) × CallsAre g h (settled (standard l at (predeclared_as s) es) next).0 (expressions_calls h.scope es) check × ChecksAre g h check (checks_of h at (Some (scopes.standard_meaning s))) (Some n) × Performed g h n at s (first_of es) next)
+      Does l (settle_items (standard l at (predeclared_as s) es) next).1 (expressions_calls h.scope es)
+      ((n : ℕ) × (check : Option ℕ) × CallsAre g h (settle_items (standard l at (predeclared_as s) es) next).0 (expressions_calls h.scope es) check × ChecksAre g h check (checks_of h at (Some (scopes.standard_meaning s))) (Some n) × Performed g h n at s (first_of es) next)
 
   standard_does : (l : Layer) (at : ℕ) (s : scopes.Standard) (e : syntax.Expression) (next : Option ℕ) → World l → l.pending ≡ [] → PerformFormed h s (Some e) → AreReady h (cells l) (expression_calls h.scope e ++ []) → Performs l at s (syntax.more_expressions e syntax.no_expressions) next
   standard_does l at scopes.display_procedure e next w none f n =
       then_does l _ (expression_calls h.scope e ++ []) _ _ (λ y. (y.number, y.check, y.calls, y.checks, record { range = f.range; cell = f.cell; formed = f.formed; item = y.item }))
       (performed_does l at scopes.display_procedure e _ (code.display f.cell (kind_of g.firsts f.range.base)) next w none f.formed f.used n (λ v.
-      ap laid.displayed v.2 ∙ ap (code.display f.cell) (shown_same f.cell v.0.base) ∙ ap (λ (r : named.Range). code.display f.cell (kind_of g.firsts r.base)) (range_inside v.0 f.range (sym v.1)))
+      ap laid.display v.2 ∙ ap (code.display f.cell) (shown_same f.cell v.0.base) ∙ ap (λ (r : named.Range). code.display f.cell (kind_of g.firsts r.base)) (range_inside v.0 f.range (sym v.1)))
       (record { expression = e; ty = named.ordinal f.range; formed = f.formed; held = ready_held h (cells l) (expression_calls h.scope e) (ready_first h (cells l) (expression_calls h.scope e) [] n) }))
   standard_does l at scopes.delay_procedure e next w none f n =
       then_does l _ (expression_calls h.scope e ++ []) _ _ (λ y. (y.number, y.check, y.calls, y.checks, record { place = f.place; formed = f.formed; item = y.item }))
@@ -282,15 +282,15 @@ module _ (k : Numbering) (h : Here) (g : Ground) (few : length g.tables.items �
   Calls l at x d es is next = Does l x.1 is ((n : ℕ) × CallsAre g h x.0 is (Some n) × CallItem g h n at d es None next)
 
   procedure_does : (l m : Layer) (is : List Item) (at : ℕ) (d : syntax.Designator) (es : syntax.Expressions) (part : code.ComponentPlace) (b : Bool) (number : ℕ) (routine : meant.RoutineMeaning) (next : Option ℕ) → World l → l.pending ≡ [] → Kept l m → Goes g.lines h l m is → routine_called h.program h.scope d ≡ Some routine →
-      CalleeIs h d (scopes.find (name_of d) h.scope) part b number → HeadingIs k h l number routine → CallFormed h d es → AreUsed h es → AreHeld h (designator_calls h.scope d) → AreReady h (cells m) (expressions_calls h.scope es) → Calls l at (settled (procedure m at part b number es) next) d es (is ++ expressions_calls h.scope es) next
+      CalleeIs h d (scopes.find (name_of d) h.scope) part b number → HeadingIs k h l number routine → CallFormed h d es → AreUsed h es → AreHeld h (designator_calls h.scope d) → AreReady h (cells m) (expressions_calls h.scope es) → Calls l at (settle_items (procedure m at part b number es) next) d es (is ++ expressions_calls h.scope es) next
   unfolding procedure arguments
-  procedure_does l m is at d es part b number routine next w none s i met callee heading formed u chosen n =
+  procedure_does l m is at d es part b number routine next w none s i met callee heading formed u choose n =
       let js : List Item = expressions_calls h.scope es in
       let fits : CanGiveAll h routine.parameters es = subst (λ (q : meant.RoutineMeaning). CanGiveAll h q.parameters es) (same_Some formed.routine routine (sym formed.called ∙ met)) formed.arguments in
       let a = arguments_go k h l w.names w.calls w.headings g.lines w.lines m number 0 es (cell_named (h.layouts.frames number)) routine.parameters (parameters_in (slice_get l.headings number)) s u n heading.parameters (λ j. heading_parameters k h l w.names w.calls w.headings g.lines w.lines number 0 j refl) fits in
       let j : Layer = (arguments_from m number 0 es).1 in
       let given : List code.Argument = (arguments_from m number 0 es).0 in
-      let c : List code.Argument × Layer = counted (arguments_from m number 0 es) in
+      let c : List code.Argument × Layer = with_their_count (arguments_from m number 0 es) in
       let o : Layer = layers.with_room c.1 number in
       let act : code.Action = code.call number part b given None in
       let need : ℕ = layers.call_need c.1 number in
@@ -301,27 +301,27 @@ module _ (k : Numbering) (h : Here) (g : Ground) (few : length g.tables.items �
         y.calls,
         record { number = number; part = part; is_entry = b; arguments = given; called = record { routine = routine; called = met; same = sym heading.same; callee = callee; given = a.1 }; item = y.item; taken = tt },
       )) (own_does l o (is ++ js) at act need next w none whole (goes_both g.lines h l m o is js i rest)
-      (record { designator = d; expressions = es; name = None; called = record { routine = routine; called = met; same = sym heading.same; callee = callee; given = a.1 }; goes = tt; cell = refl; chosen = chosen; held = ready_held h (cells m) js n }))
+      (record { designator = d; expressions = es; name = None; called = record { routine = routine; called = met; same = sym heading.same; callee = callee; given = a.1 }; goes = tt; cell = refl; choose = choose; held = ready_held h (cells m) js n }))
 
   abbrev InvokeDoes : Layer → ℕ → Identifier → syntax.Selectors → syntax.Expressions → Option scopes.Meaning → Option ℕ → Type 0
   InvokeDoes l at x ss es m next =
-      Does l (settled (invoked l at (syntax.designator x ss) es) next).1 (selectors_calls h.scope ss ++ expressions_calls h.scope es) ((n : ℕ) × (check : Option ℕ) × CallsAre g h (settled (invoked l at (syntax.designator x ss) es) next).0 (selectors_calls h.scope ss ++ expressions_calls h.scope es) check × ChecksAre g h check (checks_of h at m) (Some n) × InvokedBy g h n at m (syntax.designator x ss) es next)
+      Does l (settle_items (call_statement l at (syntax.designator x ss) es) next).1 (selectors_calls h.scope ss ++ expressions_calls h.scope es) ((n : ℕ) × (check : Option ℕ) × CallsAre g h (settle_items (call_statement l at (syntax.designator x ss) es) next).0 (selectors_calls h.scope ss ++ expressions_calls h.scope es) check × ChecksAre g h check (checks_of h at m) (Some n) × InvokedBy g h n at m (syntax.designator x ss) es next)
 
   invoke_standard : (l : Layer) (at : ℕ) (x : Identifier) (ss : syntax.Selectors) (es : syntax.Expressions) (q : scopes.Standard) (next : Option ℕ) → World l → l.pending ≡ [] → scopes.find x.name h.scope ≡ Some (scopes.standard_meaning q) → InvokeFormed h (Some (scopes.standard_meaning q)) (syntax.designator x ss) es →
       AreReady h (cells l) (selectors_calls h.scope ss ++ expressions_calls h.scope es) → InvokeDoes l at x ss es (Some (scopes.standard_meaning q)) next
-  unfolding invoked designator selectors
+  unfolding call_statement designator selectors
   invoke_standard l at x syntax.no_selectors (syntax.more_expressions e syntax.no_expressions) q next w none me f n =
       let es : syntax.Expressions = syntax.more_expressions e syntax.no_expressions in
       let is : List Item = expressions_calls h.scope es in
       let found = subst (λ m. FoundIs k l.types (layers.find x.name l.names) m (scopes.since x.name h.scope)) me (found_in k l.types x.name l.names h.scope w.names.names) in
-      let begins : begun l x.name ≡ values.a_standard (predeclared_as q) = known.standard_found k h l w.names w.calls x.name (layers.find x.name l.names) q (scopes.since x.name h.scope) refl found in
-      subst (λ y. Does l (settled (laid.invoked_as l at (laid.callee_of y) es) next).1 is ((n : ℕ) × (check : Option ℕ) × CallsAre g h (settled (laid.invoked_as l at (laid.callee_of y) es) next).0 is check × ChecksAre g h check (checks_of h at (Some (scopes.standard_meaning q))) (Some n) × Performed g h n at q (Some e) next)) (sym begins) (standard_does l at q e next w none f.2 n)
+      let begins : name_meaning l x.name ≡ values.a_standard (predeclared_as q) = known.standard_found k h l w.names w.calls x.name (layers.find x.name l.names) q (scopes.since x.name h.scope) refl found in
+      subst (λ y. Does l (settle_items (laid.call_of l at (laid.callee_of y) es) next).1 is ((n : ℕ) × (check : Option ℕ) × CallsAre g h (settle_items (laid.call_of l at (laid.callee_of y) es) next).0 is check × ChecksAre g h check (checks_of h at (Some (scopes.standard_meaning q))) (Some n) × Performed g h n at q (Some e) next)) (sym begins) (standard_does l at q e next w none f.2 n)
   invoke_standard l at x (syntax.more_selectors s ss) es q next w none me f n = absurd f.0
   invoke_standard l at x syntax.no_selectors _ q next w none me f n = absurd f.1
 
   invoke_own : (l : Layer) (at : ℕ) (x : Identifier) (ss : syntax.Selectors) (es : syntax.Expressions) (r : syntax.Routine) (p : Option LayoutMeaning) (next : Option ℕ) → World l → l.pending ≡ [] → scopes.find x.name h.scope ≡ Some (scopes.routine_meaning r) → layers.find x.name l.names ≡ p →
       FoundIs k l.types p (Some (scopes.routine_meaning r)) (scopes.since x.name h.scope) → InvokeFormed h (Some (scopes.routine_meaning r)) (syntax.designator x ss) es → AreReady h (cells l) (selectors_calls h.scope ss ++ expressions_calls h.scope es) → InvokeDoes l at x ss es (Some (scopes.routine_meaning r)) next
-  unfolding invoked designator selectors
+  unfolding call_statement designator selectors
   invoke_own l at x (syntax.more_selectors s ss) es r p next w none me pe fi f n = absurd f.0
   invoke_own l at x syntax.no_selectors es r None next w none me pe fi f n = absurd fi
   invoke_own l at x syntax.no_selectors es r (Some y) next w none me pe fi f n =
@@ -333,13 +333,13 @@ module _ (k : Numbering) (h : Here) (g : Ground) (few : length g.tables.items �
       let met : routine_called h.program h.scope d ≡ Some q = ap (λ m. routine_meant h.program h.scope x.name m None) me in
       let given = w.headings.own x.name number there in
       let callee : CalleeIs h d (scopes.find x.name h.scope) code.own false number = subst (λ m. CalleeIs h d m code.own false number) (sym me) (refl, refl, given.0) in
-      then_does l (settled (invoked l at d es) next).1 is ((n : ℕ) × CallsAre g h (settled (invoked l at d es) next).0 is (Some n) × CallItem g h n at d es None next) _ (λ c. (c.0, Some c.0, c.1, refl, c.2))
-      (subst (λ z. Does l (settled (laid.invoked_as l at (laid.callee_of z) es) next).1 is ((n : ℕ) × CallsAre g h (settled (laid.invoked_as l at (laid.callee_of z) es) next).0 is (Some n) × CallItem g h n at d es None next)) (sym (ap begun_as there))
+      then_does l (settle_items (call_statement l at d es) next).1 is ((n : ℕ) × CallsAre g h (settle_items (call_statement l at d es) next).0 is (Some n) × CallItem g h n at d es None next) _ (λ c. (c.0, Some c.0, c.1, refl, c.2))
+      (subst (λ z. Does l (settle_items (laid.call_of l at (laid.callee_of z) es) next).1 is ((n : ℕ) × CallsAre g h (settle_items (laid.call_of l at (laid.callee_of z) es) next).0 is (Some n) × CallItem g h n at d es None next)) (sym (ap meaning_of there))
       (procedure_does l l [] at d es code.own false number q next w none refl (goes_none g.lines h l) met callee (subst (HeadingIs k h l number) fi.2 given.1) f.2 f.1 tt n))
 
   invoke_entry : (l : Layer) (at : ℕ) (x : Identifier) (ss : syntax.Selectors) (es : syntax.Expressions) (t : Ty) (o : Option Name) (next : Option ℕ) → World l → l.pending ≡ [] → scopes.find x.name h.scope ≡ Some (scopes.permanent_variable t) → last_field ss ≡ o → EntryFormed h (syntax.designator x ss) es →
       AreReady h (cells l) (selectors_calls h.scope ss ++ expressions_calls h.scope es) → InvokeDoes l at x ss es (Some (scopes.permanent_variable t)) next
-  unfolding invoked designator
+  unfolding call_statement designator
   invoke_entry l at x ss es t None next w none me last f n =
       absurd (none-some f.call.routine (sym (ap (λ m. routine_meant h.program h.scope x.name m (last_field ss)) me ∙ ap (routine_meant h.program h.scope x.name (Some (scopes.permanent_variable t))) last) ∙ f.call.called))
   invoke_entry l at x ss es t (Some y) next w none me last f n =
@@ -354,15 +354,15 @@ module _ (k : Numbering) (h : Here) (g : Ground) (few : length g.tables.items �
       let start : Designated = permanent_begun h x.name t in
       let begins_form : begun_form h x.name (scopes.find x.name h.scope) ≡ Some start = ap (begun_form h x.name) me in
       let target : selected_form h ss start ≡ Some f.part = ap (λ z. then_form z (selected_form h ss)) (sym begins_form) ∙ f.formed in
-      let begins : DesignatedIs k l.types start (begun l x.name) = begun_same k h l w.names x.name start (subst IsNoRoutine (sym me) tt) begins_form in
-      let m : Layer = (selectors l (begun l x.name) ss).1 in
-      let e = known.entered_is k h l w.names w.calls l (system_type t) start f.part (begun l x.name) ss refl f.chosen begins (known.parts_begun k h l w.names w.calls x.name t (parts_of h.program t y routine called_there)) f.entry (ready_next h (cells l) is first) target in
+      let begins : DesignatedIs k l.types start (name_meaning l x.name) = begun_same k h l w.names x.name start (subst IsNoRoutine (sym me) tt) begins_form in
+      let m : Layer = (selectors l (name_meaning l x.name) ss).1 in
+      let e = known.entered_is k h l w.names w.calls l (system_type t) start f.part (name_meaning l x.name) ss refl f.chosen begins (known.parts_begun k h l w.names w.calls x.name t (parts_of h.program t y routine called_there)) f.entry (ready_next h (cells l) is first) target in
       let moved : Goes g.lines h l m is = designator_goes l x ss f.part w f.chosen first f.formed in
       let part_is : designator_form h d ≡ Some (a_component e.part (h.layouts.owners entry.number)) = f.formed ∙ ap (λ z. Some z) e.is_part ∙ ap (λ c. Some (a_component e.part c)) (sym heading.0) in
       let callee : CalleeIs h d (scopes.find x.name h.scope) e.part true entry.number = subst (λ z. CalleeIs h d z e.part true entry.number) (sym me) (part_is, refl) in
-      let leads : (selectors l (begun l x.name) ss).0 ≡ values.an_entry e.part entry.number = e.leads ∙ ap (λ z. entry_found e.part (known.entry_named k h l w.names w.calls (system_type t) z)) last ∙ ap (entry_found e.part) entry.there in
-      then_does l (settled (invoked l at d es) next).1 (is ++ js) ((n : ℕ) × CallsAre g h (settled (invoked l at d es) next).0 (is ++ js) (Some n) × CallItem g h n at d es None next) _ (λ c. (c.0, Some c.0, c.1, refl, c.2))
-      (subst (λ z. Does l (settled (laid.invoked_as m at (laid.callee_of z) es) next).1 (is ++ js) ((n : ℕ) × CallsAre g h (settled (laid.invoked_as m at (laid.callee_of z) es) next).0 (is ++ js) (Some n) × CallItem g h n at d es None next)) (sym leads)
+      let leads : (selectors l (name_meaning l x.name) ss).0 ≡ values.an_entry e.part entry.number = e.leads ∙ ap (λ z. entry_found e.part (known.entry_named k h l w.names w.calls (system_type t) z)) last ∙ ap (entry_found e.part) entry.there in
+      then_does l (settle_items (call_statement l at d es) next).1 (is ++ js) ((n : ℕ) × CallsAre g h (settle_items (call_statement l at d es) next).0 (is ++ js) (Some n) × CallItem g h n at d es None next) _ (λ c. (c.0, Some c.0, c.1, refl, c.2))
+      (subst (λ z. Does l (settle_items (laid.call_of m at (laid.callee_of z) es) next).1 (is ++ js) ((n : ℕ) × CallsAre g h (settle_items (laid.call_of m at (laid.callee_of z) es) next).0 (is ++ js) (Some n) × CallItem g h n at d es None next)) (sym leads)
       (procedure_does l m is at d es e.part true entry.number routine next w none (designator_kept l d) moved f.call.called callee heading.1 f.call f.used (ready_held h (cells l) is first) (ready_rest h (cells l) m is js moved.taken n)))
 
   no_call : (l : Layer) (x : Identifier) (ss : syntax.Selectors) (es : syntax.Expressions) (m : Option scopes.Meaning) → scopes.find x.name h.scope ≡ m → routine_meant h.program h.scope x.name m (last_field ss) ≡ None → EntryFormed h (syntax.designator x ss) es → ⊥
@@ -382,8 +382,8 @@ module _ (k : Numbering) (h : Here) (g : Ground) (few : length g.tables.items �
   -- ---- `for`
 
   for_does : (l : Layer) (at : ℕ) (i : Identifier) (e : syntax.Expression) (d : Direction) (f : syntax.Expression) (body : Option ℕ) (next : Option ℕ) (w : World l) → l.pending ≡ [] → (x : ForFormed h i e f) → AreReady h (cells l) (expression_calls h.scope e ++ expression_calls h.scope f) →
-      Does l (settled (for_item l at i.name e d f body) next).1 (expression_calls h.scope e ++ expression_calls h.scope f)
-      (Led g h (settled (for_item l at i.name e d f body) next).0 (expression_calls h.scope e ++ expression_calls h.scope f) at (code.for_do x.origin x.range.low x.range.high x.first.cell x.last.cell (is_down d) body) next)
+      Does l (settle_items (for_item l at i.name e d f body) next).1 (expression_calls h.scope e ++ expression_calls h.scope f)
+      (Led g h (settle_items (for_item l at i.name e d f body) next).0 (expression_calls h.scope e ++ expression_calls h.scope f) at (code.for_do x.origin x.range.low x.range.high x.first.cell x.last.cell (is_down d) body) next)
   unfolding for_item designator selectors
   for_does l at i e d f body next w none x n =
       let is : List Item = expression_calls h.scope e in
@@ -399,7 +399,7 @@ module _ (k : Numbering) (h : Here) (g : Ground) (few : length g.tables.items �
       let v = known.expression_is k h l w.names w.calls m f _ kept x.last.used (ready_next h (cells m) js rest) x.last.formed in
       let to : ordinal_of (expression m f).0 ≡ x.last.cell = known.ordinal_is k h l w.names w.calls x.last.ty (as_ordinal x.last.cell) (expression m f).0 x.last.cell v.value refl in
       let from : ordinal_of (expression l e).0 ≡ x.first.cell = cell_is l e x.first.ty x.first.cell w x.first.formed x.first.used first in
-      let t : Target = target_of l (begun l i.name) in
+      let t : Target = target_of l (name_meaning l i.name) in
       let counts : TargetIs k l (code.place x.origin 0 code.no_indices) (named.ordinal x.range) t =
       own_target k h g l i syntax.no_selectors (code.place x.origin 0 code.no_indices) (named.ordinal x.range) (scopes.find i.name h.scope) w refl x.named tt tt (ap (λ q. then_form q (selected_form h syntax.no_selectors)) x.variable) in
       let ty : t.value_type ≡ types.Ordinal (range_on k x.range) = counts.belongs in
@@ -428,20 +428,20 @@ module _ (k : Numbering) (h : Here) (g : Ground) (few : length g.tables.items �
   -- ---- starts
 
   start_by : (l : Layer) (x : Identifier) (ss : syntax.Selectors) (es : syntax.Expressions) (next : Option ℕ) → World l → l.pending ≡ [] → StartFormed h (record { target = syntax.designator x ss; arguments = es }) → AreReady h (cells l) (selectors_calls h.scope ss ++ expressions_calls h.scope es) →
-      Does l (settled (started l (record { target = syntax.designator x ss; arguments = es })) next).1 (selectors_calls h.scope ss ++ expressions_calls h.scope es)
-      ((n : ℕ) × CallsAre g h (settled (started l (record { target = syntax.designator x ss; arguments = es })) next).0 (selectors_calls h.scope ss ++ expressions_calls h.scope es) (Some n) × StartItem g h n (record { target = syntax.designator x ss; arguments = es }) next)
-  unfolding started begun_component arguments designator
+      Does l (settle_items (start_statement l (record { target = syntax.designator x ss; arguments = es })) next).1 (selectors_calls h.scope ss ++ expressions_calls h.scope es)
+      ((n : ℕ) × CallsAre g h (settle_items (start_statement l (record { target = syntax.designator x ss; arguments = es })) next).0 (selectors_calls h.scope ss ++ expressions_calls h.scope es) (Some n) × StartItem g h n (record { target = syntax.designator x ss; arguments = es }) next)
+  unfolding start_statement begin_component arguments designator
   start_by l x ss es next w none f n =
       let t : syntax.Start = record { target = syntax.designator x ss; arguments = es } in
       let d : syntax.Designator = syntax.designator x ss in
       let is : List Item = selectors_calls h.scope ss in
       let js : List Item = expressions_calls h.scope es in
       let first : AreReady h (cells l) is = ready_first h (cells l) is js n in
-      let m : Layer = (selectors l (begun l x.name) ss).1 in
+      let m : Layer = (selectors l (name_meaning l x.name) ss).1 in
       let p : (y : Designated) × (begun_form h x.name (scopes.find x.name h.scope) ≡ Some y) × (selected_form h ss y ≡ Some (a_component f.part f.system)) = known.inside (begun_form h x.name (scopes.find x.name h.scope)) (selected_form h ss) (a_component f.part f.system) f.target in
-      let begins : DesignatedIs k l.types p.0 (begun l x.name) = begun_same k h l w.names x.name p.0 (not_routine (scopes.find x.name h.scope) f.named) p.1 in
-      let part = known.selected_is k h l w.names w.calls l p.0 (a_component f.part f.system) (begun l x.name) ss refl f.chosen begins (known.no_entry p.0 ss f.whole) (ready_next h (cells l) is first) p.2 in
-      let leads : (selectors l (begun l x.name) ss).0 ≡ values.a_component f.part f.system = part.leads in
+      let begins : DesignatedIs k l.types p.0 (name_meaning l x.name) = begun_same k h l w.names x.name p.0 (not_routine (scopes.find x.name h.scope) f.named) p.1 in
+      let part = known.selected_is k h l w.names w.calls l p.0 (a_component f.part f.system) (name_meaning l x.name) ss refl f.chosen begins (known.no_entry p.0 ss f.whole) (ready_next h (cells l) is first) p.2 in
+      let leads : (selectors l (name_meaning l x.name) ss).0 ≡ values.a_component f.part f.system = part.leads in
       let s : StartIs k h l f.system = w.starts d f.part f.system f.target in
       let number : ℕ = laid.initial_of l f.system in
       let kept : Kept l m = designator_kept l d in
@@ -452,7 +452,7 @@ module _ (k : Numbering) (h : Here) (g : Ground) (few : length g.tables.items �
       (λ j. heading_parameters k h l w.names w.calls w.headings g.lines w.lines number 0 j refl) f.arguments in
       let j : Layer = (arguments_from m number 0 es).1 in
       let given : List code.Argument = (arguments_from m number 0 es).0 in
-      let c : List code.Argument × Layer = counted (arguments_from m number 0 es) in
+      let c : List code.Argument × Layer = with_their_count (arguments_from m number 0 es) in
       let o : Layer = layers.with_room c.1 number in
       let act : code.Action = code.start f.part number given in
       let wanted : code.Action = code.start f.part (h.layouts.systems f.system).initial given in
@@ -464,14 +464,14 @@ module _ (k : Numbering) (h : Here) (g : Ground) (few : length g.tables.items �
       (λ y. (let z = led_as (ended g h o x.at act need next).0 (is ++ js) x.at act wanted next (ap (λ r. code.start f.part r given) s.initial) y in
       (z.number, z.calls, record { part = f.part; system = f.system; arguments = given; target = f.target; given = a.1; item = z.item })))
       (own_does l o (is ++ js) x.at act need next w none whole (goes_both g.lines h l m o is js i goes_there)
-      (record { target = d; expressions = es; system = f.system; aimed = f.target; given = a.1; initial = s.initial; chosen = ready_held h (cells l) is first; held = ready_held h (cells m) js rest })) in
-      let numbered_so : Does l (settled (laid.started_as m x.at (Some (f.part, f.system)) es) next).1 (is ++ js) ((z : ℕ) × CallsAre g h (settled (laid.started_as m x.at (Some (f.part, f.system)) es) next).0 (is ++ js) (Some z) × StartItem g h z t next) =
-      subst (λ r. Does l (settled (begun_component m x.at f.part r es) next).1 (is ++ js) ((z : ℕ) × CallsAre g h (settled (begun_component m x.at f.part r es) next).0 (is ++ js) (Some z) × StartItem g h z t next)) (sym same) done in
-      subst (λ y. Does l (settled (laid.started_as m x.at (laid.placed_of y) es) next).1 (is ++ js) ((z : ℕ) × CallsAre g h (settled (laid.started_as m x.at (laid.placed_of y) es) next).0 (is ++ js) (Some z) × StartItem g h z t next)) (sym leads) numbered_so
+      (record { target = d; expressions = es; system = f.system; aimed = f.target; given = a.1; initial = s.initial; choose = ready_held h (cells l) is first; held = ready_held h (cells m) js rest })) in
+      let numbered_so : Does l (settle_items (laid.start_of m x.at (Some (f.part, f.system)) es) next).1 (is ++ js) ((z : ℕ) × CallsAre g h (settle_items (laid.start_of m x.at (Some (f.part, f.system)) es) next).0 (is ++ js) (Some z) × StartItem g h z t next) =
+      subst (λ r. Does l (settle_items (begin_component m x.at f.part r es) next).1 (is ++ js) ((z : ℕ) × CallsAre g h (settle_items (begin_component m x.at f.part r es) next).0 (is ++ js) (Some z) × StartItem g h z t next)) (sym same) done in
+      subst (λ y. Does l (settle_items (laid.start_of m x.at (laid.component_place_of y) es) next).1 (is ++ js) ((z : ℕ) × CallsAre g h (settle_items (laid.start_of m x.at (laid.component_place_of y) es) next).0 (is ++ js) (Some z) × StartItem g h z t next)) (sym leads) numbered_so
 
   start_does : (l : Layer) (d : syntax.Designator) (es : syntax.Expressions) (next : Option ℕ) → World l → l.pending ≡ [] → StartFormed h (record { target = d; arguments = es }) → AreReady h (cells l) (designator_calls h.scope d ++ expressions_calls h.scope es) →
-      Does l (settled (started l (record { target = d; arguments = es })) next).1 (designator_calls h.scope d ++ expressions_calls h.scope es)
-      ((n : ℕ) × CallsAre g h (settled (started l (record { target = d; arguments = es })) next).0 (designator_calls h.scope d ++ expressions_calls h.scope es) (Some n) × StartItem g h n (record { target = d; arguments = es }) next)
+      Does l (settle_items (start_statement l (record { target = d; arguments = es })) next).1 (designator_calls h.scope d ++ expressions_calls h.scope es)
+      ((n : ℕ) × CallsAre g h (settle_items (start_statement l (record { target = d; arguments = es })) next).0 (designator_calls h.scope d ++ expressions_calls h.scope es) (Some n) × StartItem g h n (record { target = d; arguments = es }) next)
   start_does l (syntax.designator x ss) es next w none f n = start_by l x ss es next w none f n
 
   starts_do : (l : Layer) (ts : List syntax.Start) (next : Option ℕ) → World l → l.pending ≡ [] → Each (StartFormed h) ts → AreReady h (cells l) (starts_calls h.scope ts) → Does l (starts l ts next).1 (starts_calls h.scope ts) (StartsAre g h (starts l ts next).0 ts next)
@@ -483,12 +483,12 @@ module _ (k : Numbering) (h : Here) (g : Ground) (few : length g.tables.items �
       let js : List Item = designator_calls h.scope t.target ++ expressions_calls h.scope t.arguments in
       let a = starts_do l ts next w none f.1 (ready_first h (cells l) is js n) in
       let c = start_does rest.1 t.target t.arguments rest.0 (world_grown l rest.1 a.grew w) a.pending f.0 (ready_rest h (cells l) rest.1 is js a.taken n) in
-      both_do l rest.1 (settled (started rest.1 t) rest.0).1 is js (StartsAre g h rest.0 ts next) _ (StartsAre g h (settled (started rest.1 t) rest.0).0 (t ∷ ts) next) a c (λ y z. (z.0, rest.0, z.1, z.2, y))
+      both_do l rest.1 (settle_items (start_statement rest.1 t) rest.0).1 is js (StartsAre g h rest.0 ts next) _ (StartsAre g h (settle_items (start_statement rest.1 t) rest.0).0 (t ∷ ts) next) a c (λ y z. (z.0, rest.0, z.1, z.2, y))
 
   -- ---- all statements
 
   repeat_does : (l m : Layer) (at : ℕ) (body : Option ℕ) (ss : syntax.Statements) (e : syntax.Expression) (next : Option ℕ) → World m → l.pending ≡ [] → TestFormed h e → Does l m (all_calls_laid h.scope ss) (OwnAll g h ss body None) → AreReady h (cells m) (expression_calls h.scope e) →
-      Does l (repeated m at body e next).1 (all_calls_laid h.scope ss ++ expression_calls h.scope e) (StatementIs g h (repeated m at body e next).0 (syntax.repeat_until at ss e) next)
+      Does l (repeat_items m at body e next).1 (all_calls_laid h.scope ss ++ expression_calls h.scope e) (StatementIs g h (repeat_items m at body e next).0 (syntax.repeat_until at ss e) next)
   unfolding until_item
   repeat_does l m at body ss e next w none f before n =
       let is : List Item = expression_calls h.scope e in
@@ -504,7 +504,7 @@ module _ (k : Numbering) (h : Here) (g : Ground) (few : length g.tables.items �
         means = first.means;
         stands = λ b. (first.stands b, again_is m o is (token_of e) (act (ordinal_of (expression m e).0)) need next before.pending (goes m e f.test.ty f.cell w f.test.cell f.used n) b);
       } in
-      let z : Option ℕ × Layer = settled (blocked y.1 at body) y.0 in
+      let z : Option ℕ × Layer = settle_items (block_item y.1 at body) y.0 in
       let last : Does y.1 z.1 [] (Led g h z.0 [] at (code.block body) y.0) = alone_does y.1 at (code.block body) (need_inside y.1.items body) y.0 (world_grown m y.1 first.grew w) first.pending tt in
       let both : Does m z.1 (is ++ []) (Led g h z.0 [] at (code.block body) y.0 × (Led g h y.0 is (token_of e) (act f.cell) next × (y.0 ≡ Some (again o)))) =
       both_do m y.1 z.1 is [] _ (Led g h z.0 [] at (code.block body) y.0) (Led g h z.0 [] at (code.block body) y.0 × (Led g h y.0 is (token_of e) (act f.cell) next × (y.0 ≡ Some (again o)))) looped last (λ a c. (c, a)) in
@@ -524,7 +524,7 @@ module _ (k : Numbering) (h : Here) (g : Ground) (few : length g.tables.items �
       ))
 
   while_does : (l : Layer) (at : ℕ) (e : syntax.Expression) (body : Option ℕ) (next : Option ℕ) → World l → l.pending ≡ [] → (f : TestFormed h e) → AreReady h (cells l) (expression_calls h.scope e) →
-      Does l (settled (while_item l at e body) next).1 (expression_calls h.scope e) (Led g h (settled (while_item l at e body) next).0 (expression_calls h.scope e) at (code.while_do f.cell body (again (expression l e).1)) next × ((settled (while_item l at e body) next).0 ≡ Some (again (expression l e).1)))
+      Does l (settle_items (while_item l at e body) next).1 (expression_calls h.scope e) (Led g h (settle_items (while_item l at e body) next).0 (expression_calls h.scope e) at (code.while_do f.cell body (again (expression l e).1)) next × ((settle_items (while_item l at e body) next).0 ≡ Some (again (expression l e).1)))
   unfolding while_item
   while_does l at e body next w none f n =
       let is : List Item = expression_calls h.scope e in
@@ -541,8 +541,8 @@ module _ (k : Numbering) (h : Here) (g : Ground) (few : length g.tables.items �
       }
 
   choose_does : (l : Layer) (at : ℕ) (e : syntax.Expression) (first other : Option ℕ) (next : Option ℕ) → World l → l.pending ≡ [] → (f : TestFormed h e) → AreReady h (cells l) (expression_calls h.scope e) →
-      Does l (settled (chosen l at e first other) next).1 (expression_calls h.scope e) (Led g h (settled (chosen l at e first other) next).0 (expression_calls h.scope e) at (code.choose f.cell first other) next)
-  unfolding chosen
+      Does l (settle_items (choose l at e first other) next).1 (expression_calls h.scope e) (Led g h (settle_items (choose l at e first other) next).0 (expression_calls h.scope e) at (code.choose f.cell first other) next)
+  unfolding choose
   choose_does l at e first other next w none f n = test_does l e f at (λ c. code.choose c first other) (max (need_inside (expression l e).1.items first) (need_inside (expression l e).1.items other)) next (λ c. c) w none n
 
   said_same : (kind : AssertionKind) → laid.said_of kind ≡ said_of kind
@@ -550,15 +550,15 @@ module _ (k : Numbering) (h : Here) (g : Ground) (few : length g.tables.items �
   said_same kinds.Invariant = refl
 
   assert_does : (l : Layer) (at : ℕ) (kind : AssertionKind) (e : syntax.Expression) (next : Option ℕ) → World l → l.pending ≡ [] → (f : TestFormed h e) → AreReady h (cells l) (expression_calls h.scope e) →
-      Does l (settled (assertion l at kind e) next).1 (expression_calls h.scope e) (Led g h (settled (assertion l at kind e) next).0 (expression_calls h.scope e) at (code.assert_that f.cell (said_of kind)) next)
+      Does l (settle_items (assertion l at kind e) next).1 (expression_calls h.scope e) (Led g h (settle_items (assertion l at kind e) next).0 (expression_calls h.scope e) at (code.assert_that f.cell (said_of kind)) next)
   unfolding assertion
   assert_does l at kind e next w none f n =
       let done = test_does l e f at (λ c. code.assert_that c (laid.said_of kind)) 0 next (λ c. c) w none n in
-      subst (λ y. Does l (settled (assertion l at kind e) next).1 (expression_calls h.scope e) (Led g h (settled (assertion l at kind e) next).0 (expression_calls h.scope e) at (code.assert_that f.cell y) next)) (said_same kind) done
+      subst (λ y. Does l (settle_items (assertion l at kind e) next).1 (expression_calls h.scope e) (Led g h (settle_items (assertion l at kind e) next).0 (expression_calls h.scope e) at (code.assert_that f.cell y) next)) (said_same kind) done
 
   select_does : (l : Layer) (at : ℕ) (e : syntax.Expression) (as' : List code.Arm) (next : Option ℕ) → World l → l.pending ≡ [] → (f : OrdinalFormed h e) → AreReady h (cells l) (expression_calls h.scope e) →
-      Does l (settled (selected l at e as') next).1 (expression_calls h.scope e) (Led g h (settled (selected l at e as') next).0 (expression_calls h.scope e) at (code.select f.cell as') next)
-  unfolding selected
+      Does l (settle_items (select l at e as') next).1 (expression_calls h.scope e) (Led g h (settle_items (select l at e as') next).0 (expression_calls h.scope e) at (code.select f.cell as') next)
+  unfolding select
   select_does l at e as' next w none f n = expression_does l e f.ty f.cell at (λ c. code.select c as') (arms_need (expression l e).1 0 as') next (λ c. c) w none f.formed f.used n
 
   mutual
@@ -678,19 +678,19 @@ module _ (k : Numbering) (h : Here) (g : Ground) (few : length g.tables.items �
   -- the checks at the end
   ended_does : (l : Layer) (checks : Bool) → World l → l.pending ≡ [] → Does l (end_of_body l checks).1 [] (ChecksAre g h (end_of_body l checks).0 (last_checks checks h.scope) None)
   ended_does l true w none =
-      let m : Layer = checked l 0 in
+      let m : Layer = check_invariants l 0 in
       let c : ChecksGo g h l m (check_items 0 h.scope) = checks_go k h g l l 0 w refl in
-      let e : cells (settled m None).1 ≡ cells l = ap (λ (f : layers.Frame). length f.image) (all_frame (without_pending m) m.pending None) ∙ c.image in
+      let e : cells (settle_items m None).1 ≡ cells l = ap (λ (f : layers.Frame). length f.image) (all_frame (without_pending m) m.pending None) ∙ c.image in
       record {
         taken = omega (arith, e);
         pending = all_pending (without_pending m) m.pending None;
-        grew = grew_trans l m (settled m None).1 (kept_grew l m (checked_kept l 0)) (settled_grew m None);
+        grew = grew_trans l m (settle_items m None).1 (kept_grew l m (checked_kept l 0)) (settled_grew m None);
         means = end_new g h l m (check_items 0 h.scope) none (checked_kept l 0) c;
         stands = λ b. checks_end g h l m (check_items 0 h.scope) none c b;
       }
   ended_does l false w none =
       let c : ChecksGo g h l l [] = checks_none g h l in
-      let e : cells (settled l None).1 ≡ cells l = ap (λ (f : layers.Frame). length f.image) (all_frame (without_pending l) l.pending None) in
+      let e : cells (settle_items l None).1 ≡ cells l = ap (λ (f : layers.Frame). length f.image) (all_frame (without_pending l) l.pending None) in
       record {
         taken = omega (arith, e);
         pending = all_pending (without_pending l) l.pending None;

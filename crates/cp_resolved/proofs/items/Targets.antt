@@ -7,7 +7,7 @@ use Rattle.cp_slots.specs.Code as code
 use Rattle.cp_layout.specs.Values as values
 use Rattle.cp_layout.specs.Values.{place_at}
 use Rattle.cp_layout.specs.Layers as layers
-use Rattle.cp_layout.specs.LaidExpressions.{begun_as, begun, designator, selectors}
+use Rattle.cp_layout.specs.LaidExpressions.{meaning_of, name_meaning, designator, selectors}
 use Rattle.cp_layout.specs.LaidStatements.{Target, target_of, result_target}
 use Rattle.cp_meaning.specs.Types as named
 use Rattle.cp_meaning.specs.Scopes as scopes
@@ -67,24 +67,24 @@ module _ (k : Numbering) (h : Here) (g : Ground) where
   unfolding designator
   variable_target l x ss q t w r u n f =
       let p : (d : Designated) × (begun_form h x.name (scopes.find x.name h.scope) ≡ Some d) × (selected_form h ss d ≡ Some (a_variable q t)) = known.inside (begun_form h x.name (scopes.find x.name h.scope)) (selected_form h ss) (a_variable q t) f in
-      let begins : DesignatedIs k l.types p.0 (begun l x.name) = begun_same k h l w.names x.name p.0 r p.1 in
-      let i = known.selected_is k h l w.names w.calls l p.0 (a_variable q t) (begun l x.name) ss refl u begins (no_entry h p.0 ss q t p.2) (ready_next h (cells l) (selectors_calls h.scope ss) n) p.2 in
-      let y : PlaceIs k l.types q t (selectors l (begun l x.name) ss).0 = i.leads in
-      let m : Layer = (selectors l (begun l x.name) ss).1 in
+      let begins : DesignatedIs k l.types p.0 (name_meaning l x.name) = begun_same k h l w.names x.name p.0 r p.1 in
+      let i = known.selected_is k h l w.names w.calls l p.0 (a_variable q t) (name_meaning l x.name) ss refl u begins (no_entry h p.0 ss q t p.2) (ready_next h (cells l) (selectors_calls h.scope ss) n) p.2 in
+      let y : PlaceIs k l.types q t (selectors l (name_meaning l x.name) ss).0 = i.leads in
+      let m : Layer = (selectors l (name_meaning l x.name) ss).1 in
       record { place_is = ap (λ d. (target_of m d).place) y.is; belongs = subst (λ (v : Target). TypeIs k l.types t v.value_type) (sym (ap (target_of m) y.is)) y.belongs }
 
   -- a function's own result
-  result_of_own : (l : Layer) (x : Identifier) (q : code.Place) (t : Ty) (b : Bool) (r : syntax.Routine) → Surroundings k h g l → is_own h x.name ≡ b → scopes.find x.name h.scope ≡ Some (scopes.routine_meaning r) → HasResult (h.layouts.meanings h.routine).result → then_form (result_begun h b) (λ d. Some d) ≡ Some (a_variable q t) → TargetIs k l q t (target_of l (begun l x.name))
+  result_of_own : (l : Layer) (x : Identifier) (q : code.Place) (t : Ty) (b : Bool) (r : syntax.Routine) → Surroundings k h g l → is_own h x.name ≡ b → scopes.find x.name h.scope ≡ Some (scopes.routine_meaning r) → HasResult (h.layouts.meanings h.routine).result → then_form (result_begun h b) (λ d. Some d) ≡ Some (a_variable q t) → TargetIs k l q t (target_of l (name_meaning l x.name))
   result_of_own l x q t false r w e me a f = absurd (cc)
   result_of_own l x q t true r w e me a f =
       let o : OwnResult k h l x.name = w.result x.name r e me a in
       let same : a_variable (code.place ((frame_here h).origins result_name) 0 code.no_indices) (result_type (h.layouts.meanings h.routine).result) ≡ a_variable q t = same_inside _ (a_variable q t) f in
-      let begins : begun l x.name ≡ values.a_routine o.number = ap begun_as o.there in
-      let target : target_of l (begun l x.name) ≡ (let z : Target = record { place = place_at (origin.Local o.result.slot); value_type = o.result.value_type } in z) =
+      let begins : name_meaning l x.name ≡ values.a_routine o.number = ap meaning_of o.there in
+      let target : target_of l (name_meaning l x.name) ≡ (let z : Target = record { place = place_at (origin.Local o.result.slot); value_type = o.result.value_type } in z) =
       ap (target_of l) begins ∙ ap (λ c. result_target c (layers.result_of l o.number)) o.own ∙ ap (result_target true) o.held in
       record {
         place_is = ap (λ (z : Target). z.place) target ∙ ap place_at (sym o.cell) ∙ place_inside _ q _ t same;
-        belongs = subst (λ u. TypeIs k l.types u (target_of l (begun l x.name)).value_type) (type_inside _ q _ t same) (subst (λ (z : Target). TypeIs k l.types (result_type (h.layouts.meanings h.routine).result) z.value_type) (sym target) o.belongs);
+        belongs = subst (λ u. TypeIs k l.types u (target_of l (name_meaning l x.name)).value_type) (type_inside _ q _ t same) (subst (λ (z : Target). TypeIs k l.types (result_type (h.layouts.meanings h.routine).result) z.value_type) (sym target) o.belongs);
       }
 
   pub own_target : (l : Layer) (x : Identifier) (ss : syntax.Selectors) (q : code.Place) (t : Ty) (m : Option scopes.Meaning) → Surroundings k h g l → scopes.find x.name h.scope ≡ m → IsTarget h m (syntax.designator x ss) → SelectorsUsed h ss → AreReady h (cells l) (selectors_calls h.scope ss) → designator_form h (syntax.designator x ss) ≡ Some (a_variable q t) →

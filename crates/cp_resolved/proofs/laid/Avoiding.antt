@@ -16,7 +16,7 @@ use Rattle.cp_check.specs.Expressions as expressions
 use Rattle.cp_check.specs.Names as names
 use Rattle.cp_check.specs.Operands.{quiet}
 use Rattle.cp_check.specs.Statements as statements
-use Rattle.cp_check.specs.Cases.{joined}
+use Rattle.cp_check.specs.Cases.{join_arms}
 use Rattle.cp_resolved.proofs.agreeing.Agreeing.{none_of_both as both_none}
 use Rattle.cp_resolved.proofs.declarations.Nameless.{IsSaid, SaysSome}
 
@@ -125,8 +125,8 @@ own_refused at n h = go (nat_eq n n) (eq-eqb n n refl) h
 -- ---- what is called
 
 module _ (s : Scopes) (w : Context) (heard : Heard s) (P : Name → Type 0) (own : (x : Name) → P x → (n : ℕ) × ((w.routine ≡ Some n) × (look x s ≡ Some (Some (meaning.Routine n))))) where
-  called_refused : (at name_at n : ℕ) (os : List Operand) (u : Use) → w.routine ≡ Some n → faults (calls.called s w at name_at true n os u) ≡ [] → ⊥
-  unfolding calls.called
+  called_refused : (at name_at n : ℕ) (os : List Operand) (u : Use) → w.routine ≡ Some n → faults (calls.check_routine_call s w at name_at true n os u) ≡ [] → ⊥
+  unfolding calls.check_routine_call
   called_refused at name_at n os u is h =
       let fs : calls.call_faults s w at name_at true n os ≡ [] = unless_none _ _ h in
       let after : _ ≡ [] = no_right (calls.fit_faults at (heading_at n s).parameters os) _ fs in
@@ -140,23 +140,23 @@ module _ (s : Scopes) (w : Context) (heard : Heard s) (P : Name → Type 0) (own
     where
       go : (o : Option ValueType) → faults (calls.function_of s w at name_at true n os u o) ≡ [] → ⊥
       go None k = let bad : check_fault.Rule at C5 ∷ [] ≡ [] = k in cc
-      go (Some t) k = called_refused at name_at n os u is (no_first (calls.called s w at name_at true n os u) (calls.with_result at t) k)
+      go (Some t) k = called_refused at name_at n os u is (no_first (calls.check_routine_call s w at name_at true n os u) (calls.with_result at t) k)
 
-  procedure_refused : (at name_at n : ℕ) (os : List Operand) (u : Use) → w.routine ≡ Some n → faults (statements.procedure_called s w at name_at true n os u) ≡ [] → ⊥
-  unfolding statements.procedure_called
+  procedure_refused : (at name_at n : ℕ) (os : List Operand) (u : Use) → w.routine ≡ Some n → faults (statements.check_procedure_call s w at name_at true n os u) ≡ [] → ⊥
+  unfolding statements.check_procedure_call
   procedure_refused at name_at n os u is h = go (heading_at n s).result h
     where
       go : (o : Option ValueType) → faults (statements.procedure_of s w at name_at true n os u o) ≡ [] → ⊥
       go (Some t) k = let bad : check_fault.Rule at C5 ∷ [] ≡ [] = k in cc
       go None k = called_refused at name_at n os u is k
 
-  own_designated : (i : Identifier) (n : ℕ) → look i.name s ≡ Some (Some (meaning.Routine n)) → expressions.designator s w (designator i no_selectors) ≡ Ok (names.designated i.at no_use (names_for.Routine n))
-  unfolding expressions.designator expressions.selectors names.begun names.visible
-  own_designated i n e = ap (λ o. names.found i.at o >>= names.unselected i.at >>= names.known i.at) e
+  own_designated : (i : Identifier) (n : ℕ) → look i.name s ≡ Some (Some (meaning.Routine n)) → expressions.designator s w (designator i no_selectors) ≡ Ok (names.designation i.at no_use (names_for.Routine n))
+  unfolding expressions.designator expressions.selectors names.meaning_of_name names.visible
+  own_designated i n e = ap (λ o. names.check_visible i.at o >>= names.designation_of i.at >>= names.check_selectors i.at) e
 
   value_refused : (at : ℕ) (d : DesignatedName) (os : List Operand) (n : ℕ) → d.named ≡ names_for.Routine n → w.routine ≡ Some n → faults (calls.value_of s w at (d, os)) ≡ [] → ⊥
   unfolding calls.value_of
-  value_refused at d os n e is h = function_refused at d.name_at n os d.uses is (subst (λ m. faults (calls.value_named s w at d os m) ≡ []) e h)
+  value_refused at d os n e is h = function_refused at d.name_at n os d.uses is (subst (λ m. faults (calls.value_by_name s w at d os m) ≡ []) e h)
 
   variable_refused : (at : ℕ) (d : DesignatedName) (n : ℕ) → d.named ≡ names_for.Routine n → w.routine ≡ Some n → faults (calls.variable_of s w at d) ≡ [] → ⊥
   variable_refused at d n e is h = go (calls.is_other_function s w d.named) not_other h
@@ -168,30 +168,30 @@ module _ (s : Scopes) (w : Context) (heard : Heard s) (P : Name → Type 0) (own
       not_other : calls.is_other_function s w d.named ≡ false
       not_other = ap (calls.is_other_function s w) e ∙ itself (is_some (heading_at n s).result) (ap (λ (o : Option ℕ). calls.is_own_of o n) is ∙ eq-eqb n n refl)
 
-      go : (b : Bool) → b ≡ false → faults (if b then Ok (calls.placed at types.Queue Function d.uses) else calls.value_of s w at (d, [])) ≡ [] → ⊥
+      go : (b : Bool) → b ≡ false → faults (if b then Ok (calls.operand_at at types.Queue Function d.uses) else calls.value_of s w at (d, [])) ≡ [] → ⊥
       go true k f = let bad : true ≡ false = k in cc
       go false k f = value_refused at d [] n e is f
 
   -- ---- expressions
 
-  call_avoided : (at : ℕ) (i : Identifier) (b : Bool) (es : Expressions) → faults (expressions.named_value s w b at (expressions.designator s w (designator i no_selectors)) (expressions.arguments s w [] 0 es)) ≡ [] → P i.name → ⊥
+  call_avoided : (at : ℕ) (i : Identifier) (b : Bool) (es : Expressions) → faults (expressions.value_of_name s w b at (expressions.designator s w (designator i no_selectors)) (expressions.arguments s w [] 0 es)) ≡ [] → P i.name → ⊥
   call_avoided at i b es h p =
       let o = own i.name p in
       go o.0 o.1.0 (own_designated i o.0 o.1.1) b h
     where
-      go : (n : ℕ) → w.routine ≡ Some n → expressions.designator s w (designator i no_selectors) ≡ Ok (names.designated i.at no_use (names_for.Routine n)) → (b : Bool) → faults (expressions.named_value s w b at (expressions.designator s w (designator i no_selectors)) (expressions.arguments s w [] 0 es)) ≡ [] → ⊥
-      go n is e true k = variable_refused at (names.designated i.at no_use (names_for.Routine n)) n refl is (subst (λ (d : Judged DesignatedName). faults (d >>= calls.variable_of s w at) ≡ []) e k)
+      go : (n : ℕ) → w.routine ≡ Some n → expressions.designator s w (designator i no_selectors) ≡ Ok (names.designation i.at no_use (names_for.Routine n)) → (b : Bool) → faults (expressions.value_of_name s w b at (expressions.designator s w (designator i no_selectors)) (expressions.arguments s w [] 0 es)) ≡ [] → ⊥
+      go n is e true k = variable_refused at (names.designation i.at no_use (names_for.Routine n)) n refl is (subst (λ (d : Judged DesignatedName). faults (d >>= calls.variable_of s w at) ≡ []) e k)
       go n is e false k =
           let parts = both_none (expressions.designator s w (designator i no_selectors)) (expressions.arguments s w [] 0 es) (no_first (both (expressions.designator s w (designator i no_selectors)) (expressions.arguments s w [] 0 es)) (calls.value_of s w at) k) in
           let os = loud_ok (expressions.arguments s w [] 0 es) (arguments_loud s w heard [] 0 es) parts.1 in
-          let k' : faults (both (Ok (names.designated i.at no_use (names_for.Routine n))) (expressions.arguments s w [] 0 es) >>= calls.value_of s w at) ≡ [] = subst (λ (d : Judged DesignatedName). faults (both d (expressions.arguments s w [] 0 es) >>= calls.value_of s w at) ≡ []) e k in
-          value_refused at (names.designated i.at no_use (names_for.Routine n)) os.0 n refl is (subst (λ (j : Judged (List Operand)). faults (both (Ok (names.designated i.at no_use (names_for.Routine n))) j >>= calls.value_of s w at) ≡ []) os.1 k')
+          let k' : faults (both (Ok (names.designation i.at no_use (names_for.Routine n))) (expressions.arguments s w [] 0 es) >>= calls.value_of s w at) ≡ [] = subst (λ (d : Judged DesignatedName). faults (both d (expressions.arguments s w [] 0 es) >>= calls.value_of s w at) ≡ []) e k in
+          value_refused at (names.designation i.at no_use (names_for.Routine n)) os.0 n refl is (subst (λ (j : Judged (List Operand)). faults (both (Ok (names.designation i.at no_use (names_for.Routine n))) j >>= calls.value_of s w at) ≡ []) os.1 k')
 
-  name_avoided : (at : ℕ) (i : Identifier) (ss : Selectors) (b : Bool) (es : Expressions) → faults (expressions.named_value s w b at (expressions.designator s w (designator i ss)) (expressions.arguments s w [] 0 es)) ≡ [] → AvoidsName P i ss
+  name_avoided : (at : ℕ) (i : Identifier) (ss : Selectors) (b : Bool) (es : Expressions) → faults (expressions.value_of_name s w b at (expressions.designator s w (designator i ss)) (expressions.arguments s w [] 0 es)) ≡ [] → AvoidsName P i ss
   name_avoided at i no_selectors b es h = call_avoided at i b es h
   name_avoided at i (more_selectors x ss) b es h = tt
 
-  named_parts : (b : Bool) (at : ℕ) (d : Judged DesignatedName) (os : Judged (List Operand)) → faults (expressions.named_value s w b at d os) ≡ [] → (faults d ≡ []) × (b ≡ false → faults os ≡ [])
+  named_parts : (b : Bool) (at : ℕ) (d : Judged DesignatedName) (os : Judged (List Operand)) → faults (expressions.value_of_name s w b at d os) ≡ [] → (faults d ≡ []) × (b ≡ false → faults os ≡ [])
   named_parts true at d os h = (no_first d (calls.variable_of s w at) h, λ e. absurd (let bad : true ≡ false = e in cc))
   named_parts false at d os h = let x = both_none d os (no_first (both d os) (calls.value_of s w at) h) in (x.0, λ e. x.1)
 
@@ -216,8 +216,8 @@ module _ (s : Scopes) (w : Context) (heard : Heard s) (P : Name → Type 0) (own
     terms_avoid : (at : ℕ) (ts : Terms) (j : Judged (Option Operand)) → faults (expressions.more_terms s w at j ts) ≡ [] → (faults j ≡ []) × AvoidTerms P ts
     terms_avoid at no_terms j h = (h, tt)
     terms_avoid at (more_terms a t ts) j h =
-        let x = terms_avoid at ts (both j (expressions.term_value s w false t) >>= expressions.added at a) h in
-        let y = both_none j (expressions.term_value s w false t) (no_first (both j (expressions.term_value s w false t)) (expressions.added at a) x.0) in
+        let x = terms_avoid at ts (both j (expressions.term_value s w false t) >>= expressions.sum_so_far at a) h in
+        let y = both_none j (expressions.term_value s w false t) (no_first (both j (expressions.term_value s w false t)) (expressions.sum_so_far at a) x.0) in
         (y.0, (term_avoids false t y.1, x.1))
 
     term_avoids : (v : Bool) (t : Term) → faults (expressions.term_value s w v t) ≡ [] → AvoidsTerm P t
@@ -228,18 +228,18 @@ module _ (s : Scopes) (w : Context) (heard : Heard s) (P : Name → Type 0) (own
     factors_avoid : (at : ℕ) (fs : Factors) (j : Judged (Option Operand)) → faults (expressions.more_factors s w at j fs) ≡ [] → (faults j ≡ []) × AvoidFactors P fs
     factors_avoid at no_factors j h = (h, tt)
     factors_avoid at (more_factors m f fs) j h =
-        let x = factors_avoid at fs (both j (expressions.factor s w false f) >>= expressions.multiplied at m) h in
-        let y = both_none j (expressions.factor s w false f) (no_first (both j (expressions.factor s w false f)) (expressions.multiplied at m) x.0) in
+        let x = factors_avoid at fs (both j (expressions.factor s w false f) >>= expressions.product_so_far at m) h in
+        let y = both_none j (expressions.factor s w false f) (no_first (both j (expressions.factor s w false f)) (expressions.product_so_far at m) x.0) in
         (y.0, (factor_avoids false f y.1, x.1))
 
     factor_avoids : (v : Bool) (f : Factor) → faults (expressions.factor s w v f) ≡ [] → AvoidsFactor P f
     factor_avoids v (named at (designator i ss) no_expressions) h =
         let x = named_parts (v && true) at (expressions.designator s w (designator i ss)) (Ok []) h in
-        ((name_avoided at i ss (v && true) no_expressions h, (selectors_avoid ss (names.begun s i) (no_first (expressions.selectors s w (names.begun s i) ss) (names.known i.at) x.0)).1), tt)
+        ((name_avoided at i ss (v && true) no_expressions h, (selectors_avoid ss (names.meaning_of_name s i) (no_first (expressions.selectors s w (names.meaning_of_name s i) ss) (names.check_selectors i.at) x.0)).1), tt)
     factor_avoids v (named at (designator i ss) (more_expressions e es)) h =
         let os : Judged (List Operand) = expressions.arguments s w [] 0 (more_expressions e es) in
         let x = named_parts (v && false) at (expressions.designator s w (designator i ss)) os h in
-        ((name_avoided at i ss (v && false) (more_expressions e es) h, (selectors_avoid ss (names.begun s i) (no_first (expressions.selectors s w (names.begun s i) ss) (names.known i.at) x.0)).1), arguments_avoid [] 0 (more_expressions e es) (x.1 (and_false v)))
+        ((name_avoided at i ss (v && false) (more_expressions e es) h, (selectors_avoid ss (names.meaning_of_name s i) (no_first (expressions.selectors s w (names.meaning_of_name s i) ss) (names.check_selectors i.at) x.0)).1), arguments_avoid [] 0 (more_expressions e es) (x.1 (and_false v)))
     factor_avoids v (group at e) h = expression_avoids false e (no_first (expressions.expression s w false e) _ h)
     factor_avoids v (negated at f) h = factor_avoids false f (no_first (expressions.factor s w false f) _ h)
     factor_avoids v (set_of at es) h = arguments_avoid [] 0 es (no_first (expressions.arguments s w [] 0 es) _ h)
@@ -253,7 +253,7 @@ module _ (s : Scopes) (w : Context) (heard : Heard s) (P : Name → Type 0) (own
         (z.0, (z.1, y.1))
 
     selector_avoids : (x : Selector) (j : Judged DesignatedName) → faults (expressions.selector s w j x) ≡ [] → (faults j ≡ []) × AvoidsSelector P x
-    selector_avoids (field i) j h = (no_first j (names.selected s i) h, tt)
+    selector_avoids (field i) j h = (no_first j (names.member_of s i) h, tt)
     selector_avoids (index e) j h =
         let x = both_none j (expressions.expression s w false e) (no_first (both j (expressions.expression s w false e)) (expressions.at_index s) h) in
         (x.0, expression_avoids false e x.1)
@@ -266,7 +266,7 @@ module _ (s : Scopes) (w : Context) (heard : Heard s) (P : Name → Type 0) (own
 
   selected_avoids : (i : Identifier) (ss : Selectors) → faults (expressions.designator s w (designator i ss)) ≡ [] → AvoidSelectors P ss
   unfolding expressions.designator
-  selected_avoids i ss h = (selectors_avoid ss (names.begun s i) (no_first (expressions.selectors s w (names.begun s i) ss) (names.known i.at) h)).1
+  selected_avoids i ss h = (selectors_avoid ss (names.meaning_of_name s i) (no_first (expressions.selectors s w (names.meaning_of_name s i) ss) (names.check_selectors i.at) h)).1
 
   designator_avoids : (d : Designator) → faults (expressions.designator s w d) ≡ [] → AvoidsDesignator P d
   designator_avoids (designator i ss) h = selected_avoids i ss h
@@ -304,16 +304,16 @@ module _ (s : Scopes) (w : Context) (heard : Heard s) (P : Name → Type 0) (own
       (designator_avoids s w heard P own d (no_first (expressions.designator s w d) (statements.with_target s w (statements.name_at d)) x.0), expression_avoids s w heard P own false e x.1)
 
   procedure_avoided : (at : ℕ) (i : Identifier) (es : Expressions) → faults (statements.call s w at (designator i no_selectors) es) ≡ [] → P i.name → ⊥
-  unfolding statements.call statements.invoked
+  unfolding statements.call statements.check_call
   procedure_avoided at i es h p =
       let o = own i.name p in
       let d : Judged DesignatedName = expressions.designator s w (designator i no_selectors) in
-      let ps : List Parameter = statements.parameters_named s (statements.number_of es) d in
+      let ps : List Parameter = statements.parameters_of_judged s (statements.number_of es) d in
       let os : Judged (List Operand) = expressions.arguments s w ps 0 es in
-      let parts = both_none d os (no_first (both d os) (statements.invoked s w at) h) in
+      let parts = both_none d os (no_first (both d os) (statements.check_call s w at) h) in
       let x = loud_ok os (arguments_loud s w heard ps 0 es) parts.1 in
-      let h' : faults (both d (Ok x.0) >>= statements.invoked s w at) ≡ [] = subst (λ (j : Judged (List Operand)). faults (both d j >>= statements.invoked s w at) ≡ []) x.1 h in
-      let h'' : faults (both (Ok (names.designated i.at no_use (names_for.Routine o.0))) (Ok x.0) >>= statements.invoked s w at) ≡ [] = subst (λ (j : Judged DesignatedName). faults (both j (Ok x.0) >>= statements.invoked s w at) ≡ []) (own_designated s w heard P own i o.0 o.1.1) h' in
+      let h' : faults (both d (Ok x.0) >>= statements.check_call s w at) ≡ [] = subst (λ (j : Judged (List Operand)). faults (both d j >>= statements.check_call s w at) ≡ []) x.1 h in
+      let h'' : faults (both (Ok (names.designation i.at no_use (names_for.Routine o.0))) (Ok x.0) >>= statements.check_call s w at) ≡ [] = subst (λ (j : Judged DesignatedName). faults (both j (Ok x.0) >>= statements.check_call s w at) ≡ []) (own_designated s w heard P own i o.0 o.1.1) h' in
       procedure_refused s w heard P own at i.at o.0 x.0 no_use o.1.0 h''
 
   invoked_name : (at : ℕ) (i : Identifier) (ss : Selectors) (es : Expressions) → faults (statements.call s w at (designator i ss) es) ≡ [] → AvoidsName P i ss
@@ -324,9 +324,9 @@ module _ (s : Scopes) (w : Context) (heard : Heard s) (P : Name → Type 0) (own
   unfolding statements.call
   invoke_avoids at (designator i ss) es h =
       let d : Judged DesignatedName = expressions.designator s w (designator i ss) in
-      let ps : List Parameter = statements.parameters_named s (statements.number_of es) d in
+      let ps : List Parameter = statements.parameters_of_judged s (statements.number_of es) d in
       let os : Judged (List Operand) = expressions.arguments s w ps 0 es in
-      let x = both_none d os (no_first (both d os) (statements.invoked s w at) h) in
+      let x = both_none d os (no_first (both d os) (statements.check_call s w at) h) in
       ((invoked_name at i ss es h, selected_avoids s w heard P own i ss x.0), arguments_avoid s w heard P own ps 0 es x.1)
 
   starts_avoid : (ts : List Start) (j : Judged Use) → faults (statements.starts s w j ts) ≡ [] → AvoidStarts P ts
@@ -337,7 +337,7 @@ module _ (s : Scopes) (w : Context) (heard : Heard s) (P : Name → Type 0) (own
       let y = both_none j (statements.start s w t) (no_first (both j (statements.start s w t)) statements.together x) in
       let d : Judged DesignatedName = expressions.designator s w t.target in
       let os : Judged (List Operand) = expressions.arguments s w [] 0 t.arguments in
-      let z = both_none d os (no_first (both d os) (statements.started s (statements.name_at t.target)) y.1) in
+      let z = both_none d os (no_first (both d os) (statements.check_start s (statements.name_at t.target)) y.1) in
       (designator_avoids s w heard P own t.target z.0, arguments_avoid s w heard P own [] 0 t.arguments z.1, starts_avoid ts (both j (statements.start s w t) >>= statements.together) h)
     where
       start_none : (us : List Start) (k : Judged Use) → faults (statements.starts s w k us) ≡ [] → faults k ≡ []
@@ -368,11 +368,11 @@ module _ (s : Scopes) (w : Context) (heard : Heard s) (P : Name → Type 0) (own
         let x = both_none (statements.statements s w (Ok no_use) ss) (expressions.expression s w false e) (no_first (both (statements.statements s w (Ok no_use) ss) (expressions.expression s w false e)) (statements.test_last at) h) in
         ((statements_avoid ss (Ok no_use) x.0).1, expression_avoids s w heard P own false e x.1)
     statement_avoids (for_do at i a d b t) h =
-        let first : Judged _ = both (names.begun s i) (expressions.expression s w false a) in
+        let first : Judged _ = both (names.meaning_of_name s i) (expressions.expression s w false a) in
         let second : Judged _ = both first (expressions.expression s w false b) in
         let x = both_none second (statements.statement s w t) (no_first (both second (statements.statement s w t)) (statements.count_over s w at i.at) h) in
         let y = both_none first (expressions.expression s w false b) x.0 in
-        let z = both_none (names.begun s i) (expressions.expression s w false a) y.0 in
+        let z = both_none (names.meaning_of_name s i) (expressions.expression s w false a) y.0 in
         (expression_avoids s w heard P own false a z.1, expression_avoids s w heard P own false b y.1, statement_avoids t x.1)
     statement_avoids (asserted at k e t) h =
         let x = both_none (statements.assertion s w e) (statements.statement s w t) (no_first (both (statements.assertion s w e) (statements.statement s w t)) statements.together h) in
@@ -385,8 +385,8 @@ module _ (s : Scopes) (w : Context) (heard : Heard s) (P : Name → Type 0) (own
     arms_avoid : (bs : Arms) (j : Judged (List Label × Use)) → faults (statements.arms s w j bs) ≡ [] → (faults j ≡ []) × AvoidArms P bs
     arms_avoid no_arms j h = (h, tt)
     arms_avoid (more_arms a bs) j h =
-        let x = arms_avoid bs (both j (statements.labelled s w a) >>= joined) h in
-        let y = both_none j (statements.labelled s w a) (no_first (both j (statements.labelled s w a)) joined x.0) in
+        let x = arms_avoid bs (both j (statements.labelled s w a) >>= join_arms) h in
+        let y = both_none j (statements.labelled s w a) (no_first (both j (statements.labelled s w a)) join_arms x.0) in
         (y.0, (arm_avoids a y.1, x.1))
 
     arm_avoids : (a : Arm) → faults (statements.labelled s w a) ≡ [] → AvoidsArm P a

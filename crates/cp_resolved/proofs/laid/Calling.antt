@@ -8,7 +8,7 @@ use Rattle.cp_slots.specs.Code.{ComponentPlace, Argument, Arm, Action, Item}
 use Rattle.cp_layout.specs.Values.{Designated, a_routine, an_entry, ordinal_of}
 use Rattle.cp_layout.specs.Layers as layers
 use Rattle.cp_layout.specs.Layers.{Layer, Frame, Pending, with_cell, with_room, frame_with, body_of, call_need, need_of, need_inside, item_need}
-use Rattle.cp_layout.specs.LaidExpressions.{expression, designator, selectors, selector, begun, element_selected, with_count}
+use Rattle.cp_layout.specs.LaidExpressions.{expression, designator, selectors, selector, name_meaning, element_of_designated, with_count}
 use Rattle.cp_resolved.proofs.names.Entries.{not_there, past_there}
 use Rattle.cp_resolved.proofs.laid.Fitting.{ListFits, list_longer, need_longer}
 use Rattle.cp_resolved.proofs.laid.Grown.{Grew, grew_trans, kept_grew}
@@ -241,9 +241,9 @@ frame_more f (Some v) = (refl, omega arith, omega arith)
 
 -- an item that is a call or a start, and the room for it
 pub call_step : (l : Layer) (at r : ℕ) (a : Action) (count : ℕ) → ((m : Layer) (routine need : ℕ) → CallFits m routine need r count → ActionFits m routine need a) → IsNoLoop a → r ≤ length l.routines → count ≤ l.arguments → Ground l
-    → Ran l (layers.added (with_room l r) at a (call_need l r))
+    → Ran l (layers.add_item (with_room l r) at a (call_need l r))
 call_step l at r a count fits plain le c g =
-    let m : Layer = layers.added (with_room l r) at a (call_need l r) in
+    let m : Layer = layers.add_item (with_room l r) at a (call_need l r) in
     let o : Option RoutineView = slice_get l.routines r in
     let f = frame_more l.frame o in
     let b : need_of l.items (body_of o) ≤ 2 * length l.items = need_step l r o refl g in
@@ -267,11 +267,11 @@ count_ran : (l : Layer) (n : ℕ) → Ran l (with_count l n)
 count_ran l n = record { kept = refl; extents = refl; room = omega arith; reference_room = omega arith; arguments = omega arith; more = []; pending = sym (append-nil l.pending); calls = tt }
 
 called_ran : (l : Layer) (at : ℕ) (c : ComponentPlace) (b : Bool) (r : ℕ) (as' : List Argument) → r ≤ length l.routines → length as' ≤ l.arguments → Ground l
-    → Ran l (layers.added (with_room (with_cell l) r) at (code.call r c b as' (Some (length l.frame.image))) (call_need (with_cell l) r))
+    → Ran l (layers.add_item (with_room (with_cell l) r) at (code.call r c b as' (Some (length l.frame.image))) (call_need (with_cell l) r))
 called_ran l at c b r as' le n g =
     let k : Layer = with_cell l in
     let a : Action = code.call r c b as' (Some (length l.frame.image)) in
-    ran_trans l k (layers.added (with_room k r) at a (call_need k r)) (cell_ran l) (call_step k at r a (length as') (λ m routine need h. h) tt le n (ground_kept l k refl g))
+    ran_trans l k (layers.add_item (with_room k r) at a (call_need k r)) (cell_ran l) (call_step k at r a (length as') (λ m routine need h. h) tt le n (ground_kept l k refl g))
 
 -- ---- designators
 
@@ -281,7 +281,7 @@ selector_there l d (syntax.field i) n h = field_there l d i.name n
 selector_there l d (syntax.index e) n h =
     let m : Layer = (expression l e).1 in
     let k : Kept l m = expression_kept l e in
-    designated_back l m (element_selected m d (ordinal_of (expression l e).0)) k (element_there m d (ordinal_of (expression l e).0) (named_kept l m k n))
+    designated_back l m (element_of_designated m d (ordinal_of (expression l e).0)) k (element_there m d (ordinal_of (expression l e).0) (named_kept l m k n))
 
 selectors_there : (l : Layer) (d : Designated) (ss : syntax.Selectors) → Named l → DesignatedIn l d → DesignatedIn l (selectors l d ss).0
 unfolding selectors
@@ -293,7 +293,7 @@ selectors_there l d (syntax.more_selectors s ss) n h =
 
 pub designator_there : (l : Layer) (d : syntax.Designator) → Named l → DesignatedIn l (designator l d).0
 unfolding designator
-designator_there l (syntax.designator i ss) n = selectors_there l (begun l i.name) ss n (begun_there l i.name n)
+designator_there l (syntax.designator i ss) n = selectors_there l (name_meaning l i.name) ss n (begun_there l i.name n)
 
 -- ---- expressions
 
@@ -320,7 +320,7 @@ ran_calls l g =
     record {
       callee = λ m d h b. callee_is l (designator m d).0 (designated_back l m (designator m d).0 h.kept (designator_there m d (named_kept l m h.kept g.named)));
       counts = λ m k h. ran_trans l m (with_count m k) h (count_ran m k);
-      call = λ m r at c b as' i e h. ran_trans l m (layers.added (with_room (with_cell m) r) at (code.call r c b as' (Some (length m.frame.image))) (call_need (with_cell m) r)) h (called_ran m at c b r as' (still_below l m r h i) e (ground_kept l m h.kept g));
+      call = λ m r at c b as' i e h. ran_trans l m (layers.add_item (with_room (with_cell m) r) at (code.call r c b as' (Some (length m.frame.image))) (call_need (with_cell m) r)) h (called_ran m at c b r as' (still_below l m r h i) e (ground_kept l m h.kept g));
       check = λ m r h b e. named_below l m r h (named_kept l m h.kept g.named) e;
     }
 

@@ -3,7 +3,7 @@ use Rattle.std.proofs.Common.{◌≡◌, ℕ, zero, suc, List, [], ◌∷◌, �
 use Rattle.cp_tree.specs.Syntax as syntax
 use Rattle.cp_slots.specs.Code as code
 use Rattle.cp_resolved.proofs.Words.{Each, Layer, nothing_laid, routine_in, Scope, seen_inside, nothing_declared, whole_laid}
-use Rattle.cp_layout.specs.LaidDeclarations.{heading, with_heading, opened, routine, routines, entered, system_groups, system, definition, system_definition, system_definitions, program_part, program_parts, program}
+use Rattle.cp_layout.specs.LaidDeclarations.{heading, with_heading, open_routine, routine, routines, enter_system, system_groups, system, definition, system_definition, system_definitions, program_part, program_parts, program}
 use Rattle.cp_meaning.specs.Systems.{Declared, definition_in, program_part_in, declared, program_system, own_meaning, system_in}
 use Rattle.cp_resolved.specs.Begun.{routine_begun, routines_begun, initial_begun, parameters_of, parts_begun, system_begun, definition_begun, definitions_begun, part_begun, program_parts_begun, all_begun}
 use Rattle.cp_resolved.specs.Openings.{Opening, routine_openings, parts_scope, initial_opening, definition_openings, definitions_openings, part_openings, parts_openings, openings_of}
@@ -81,7 +81,7 @@ module _ (Q : code.Item → Type 0) where
 
   begun_items : (l : Layer) (r : syntax.Routine) → (routine_begun l r).items ≡ l.items
   begun_items l r =
-      let x : Layer = (opened l r.name.name).1 in
+      let x : Layer = (open_routine l r.name.name).1 in
       let y = heading x r.name.name r.kind in
       ap (λ (j : Layer). j.items) (local_parts_declare (with_heading y.1 y.0) r.parts).same ∙ ap (λ (j : Layer). j.items) (heading_declares x r.name.name r.kind).same
 
@@ -94,8 +94,8 @@ module _ (Q : code.Item → Type 0) where
 
   parts_items : (l : Layer) (s : syntax.System) → (parts_begun l s).items ≡ l.items
   parts_items l s =
-      let y : Layer = (system_groups (entered l).1 [] s.parameters).1 in
-      ap (λ (j : Layer). j.items) (permanent_parts_declare y s.parts).same ∙ ap (λ (j : Layer). j.items) (system_groups_declare (entered l).1 [] s.parameters).same
+      let y : Layer = (system_groups (enter_system l).1 [] s.parameters).1 in
+      ap (λ (j : Layer). j.items) (permanent_parts_declare y s.parts).same ∙ ap (λ (j : Layer). j.items) (system_groups_declare (enter_system l).1 [] s.parameters).same
 
   definition_covers : (l : Layer) (d : Declared) (v : syntax.Definition) → EachAdds (definition_begun l v) (definition_openings d v) → All l.items → All (definition l v).1.items
   unfolding system

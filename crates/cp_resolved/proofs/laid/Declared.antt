@@ -8,7 +8,7 @@ use Rattle.cp_layout.specs.declared.layer.Content.TheVariants as content
 use Rattle.cp_symbols.specs.Kinds.{Compound, array, record_with, cells_of}
 use Rattle.cp_layout.specs.Kinds.{Fields, array_type}
 use Rattle.cp_layout.specs.Layers.{Layer, with_name}
-use Rattle.cp_layout.specs.LaidTypes.{named_type, with_constant, written_type, with_array_type, with_record_type}
+use Rattle.cp_layout.specs.LaidTypes.{type_of_name, with_constant, written_type, with_array_type, with_record_type}
 use Rattle.cp_layout.specs.LaidDeclarations.{Parameters, constants, cell_variable, variable_with, variables, local_at, permanent_parts, local_parts, var_parameter, heading, system_parameter, system_groups}
 use Rattle.cp_resolved.proofs.names.Entries.{last_or_before}
 use Rattle.cp_resolved.proofs.systems.Sized.{Resized, resized_same, resized_trans, resized_cells, resized_component, resized_type, FieldsFit, fields_resized, fields_of_fit}
@@ -46,7 +46,7 @@ name_declared l x m h n = record { same = refl; named = record { names = (h, n.n
 
 -- ---- types
 
-pub named_there : (l : Layer) (x : List ℕ) → Named l → IsType (length l.systems) (named_type l x)
+pub named_there : (l : Layer) (x : List ℕ) → Named l → IsType (length l.systems) (type_of_name l x)
 named_there l x n = latest_type (IsType (length l.systems)) (IsMeaning (length l.systems) (length l.routines)) (λ v i. i) tt x l.names n.names
 
 constant_declared : (l : Layer) (x : List ℕ) (b : CellBase) (z : ℤ) → Named l → Declared l (with_constant l x (meaning.Constant b z))

@@ -7,7 +7,7 @@ use Rattle.cp_symbols.specs.declared.kinds.CellBase.TheVariants as base
 use Rattle.cp_symbols.specs.Kinds.{cells_of, values_of}
 use Rattle.cp_layout.specs.Kinds.{Fields, no_fields}
 use Rattle.cp_layout.specs.Layers.{Names, find_type, with_name}
-use Rattle.cp_layout.specs.LaidTypes.{type_meant, named_type, with_constant, enumerated, enumeration_base, simple_type, range_of, fields_of_type, written_type, field_groups, field_group, with_array_type, with_record_type}
+use Rattle.cp_layout.specs.LaidTypes.{type_meant, type_of_name, with_constant, enumerate, enumeration_base, simple_type, range_of, fields_of_type, written_type, field_groups, field_group, with_array_type, with_record_type}
 use Rattle.cp_layout.specs.LaidDeclarations.{Parameters, constant, constants, type_definition, type_definitions, components_of, variable_with, variable, variables_of, variable_group, variables, with_local, local, locals_of, local_group, local_variables, permanent_part, permanent_parts, local_part, local_parts, constant_parameter, constant_parameters_of, constant_group, constant_groups, var_parameter, var_parameters_of, var_group, parameter_group, parameter_groups, heading, system_parameter, system_parameters_of, system_group, system_groups}
 
 -- ---- the latest type of a name
@@ -36,7 +36,7 @@ pub record TypeSteps (R : Layer → Layer → Type 0) (N : Layer → Type 0) (T 
   pub same : (l : Layer) → N l → R l l
   pub both : (l k m : Layer) → R l k → R k m → R l m
   pub after : (l m : Layer) → R l m → N m
-  pub named : (l : Layer) (x : List ℕ) → N l → T l (named_type l x)
+  pub named : (l : Layer) (x : List ℕ) → N l → T l (type_of_name l x)
   pub ordinal : (l : Layer) (r : CellRange) → T l (types.Ordinal r)
   pub set : (l : Layer) (r : CellRange) → T l (types.Set r)
   pub element : (l : Layer) (x : List ℕ) (b : CellBase) (z : ℤ) → N l → R l (with_constant l x (meaning.Constant b z))
@@ -91,17 +91,17 @@ module _ {R : Layer → Layer → Type 0} {N : Layer → Type 0} {T : Layer → 
   then_leads : (l k m : Layer) → R l k → (N k → R k m) → R l m
   then_leads l k m h f = s.both l k m h (f (s.after l k h))
 
-  enumerated_leads : (l : Layer) (b : CellBase) (n : ℕ) (is : List Identifier) → N l → R l (enumerated l b n is)
-  unfolding enumerated
+  enumerated_leads : (l : Layer) (b : CellBase) (n : ℕ) (is : List Identifier) → N l → R l (enumerate l b n is)
+  unfolding enumerate
   enumerated_leads l b n [] i = s.same l i
   enumerated_leads l b n (x ∷ xs) i =
       let k : Layer = with_constant l x.name (meaning.Constant b (as_integer n)) in
-      then_leads l k (enumerated k b (n + 1) xs) (s.element l x.name b (as_integer n) i) (enumerated_leads k b (n + 1) xs)
+      then_leads l k (enumerate k b (n + 1) xs) (s.element l x.name b (as_integer n) i) (enumerated_leads k b (n + 1) xs)
 
   simple_leads : (l : Layer) (t : syntax.Simple) → N l → Makes R T l (simple_type l t)
   unfolding simple_type
   simple_leads l (syntax.type_name at x) i = (s.same l i, s.named l x i)
-  simple_leads l (syntax.enumeration at is) i = (enumerated_leads l (enumeration_base (length l.constants) (length is)) 0 is i, s.ordinal (enumerated l (enumeration_base (length l.constants) (length is)) 0 is) _)
+  simple_leads l (syntax.enumeration at is) i = (enumerated_leads l (enumeration_base (length l.constants) (length is)) 0 is i, s.ordinal (enumerate l (enumeration_base (length l.constants) (length is)) 0 is) _)
   simple_leads l (syntax.subrange at c d) i = (s.same l i, s.ordinal l _)
 
   mutual
@@ -185,7 +185,7 @@ module _ {R : Layer → Layer → Type 0} {N : Layer → Type 0} {T : Layer → 
     pub constant_groups_lead : (l : Layer) (ps : Parameters) (gs : List syntax.Group) → N l → R l (constant_groups l ps gs).1
     unfolding constant_groups
     constant_groups_lead l ps [] i = s.same l i
-    constant_groups_lead l ps (g ∷ gs) i = let x = constant_group l ps g in then_leads l x.1 (constant_groups x.1 x.0 gs).1 (constant_parameters_lead l ps (named_type l g.type_name.name) g.names i) (constant_groups_lead x.1 x.0 gs)
+    constant_groups_lead l ps (g ∷ gs) i = let x = constant_group l ps g in then_leads l x.1 (constant_groups x.1 x.0 gs).1 (constant_parameters_lead l ps (type_of_name l g.type_name.name) g.names i) (constant_groups_lead x.1 x.0 gs)
 
     var_parameters_lead : (l : Layer) (ps : Parameters) (t : CellType) (is : List Identifier) → N l → R l (var_parameters_of l ps t is).1
     unfolding var_parameters_of
@@ -193,8 +193,8 @@ module _ {R : Layer → Layer → Type 0} {N : Layer → Type 0} {T : Layer → 
     var_parameters_lead l ps t (y ∷ ys) i = let x = var_parameter l ps y.name t in then_leads l x.1 (var_parameters_of x.1 x.0 t ys).1 (f.reference l ps y.name t i) (var_parameters_lead x.1 x.0 t ys)
 
     pub either_group_leads : (b : Bool) (l : Layer) (ps : Parameters) (g : syntax.Group) → N l → R l (if b then var_group l ps g else constant_group l ps g).1
-    either_group_leads true l ps g i = var_parameters_lead l ps (named_type l g.type_name.name) g.names i
-    either_group_leads false l ps g i = constant_parameters_lead l ps (named_type l g.type_name.name) g.names i
+    either_group_leads true l ps g i = var_parameters_lead l ps (type_of_name l g.type_name.name) g.names i
+    either_group_leads false l ps g i = constant_parameters_lead l ps (type_of_name l g.type_name.name) g.names i
 
     pub parameter_groups_lead : (l : Layer) (ps : Parameters) (gs : List syntax.ParameterGroup) → N l → R l (parameter_groups l ps gs).1
     unfolding parameter_groups
@@ -206,7 +206,7 @@ module _ {R : Layer → Layer → Type 0} {N : Layer → Type 0} {T : Layer → 
     heading_leads l x (syntax.procedure gs) i = parameter_groups_lead l [] gs i
     heading_leads l x (syntax.function gs y) i =
         let p = constant_groups l [] gs in
-        then_leads l p.1 (heading l x (syntax.function gs y)).1 (constant_groups_lead l [] gs i) (f.result p.1 (named_type p.1 y.name))
+        then_leads l p.1 (heading l x (syntax.function gs y)).1 (constant_groups_lead l [] gs i) (f.result p.1 (type_of_name p.1 y.name))
     heading_leads l x syntax.invariants i = s.same l i
 
   -- ---- permanent variables and the parameters of system types
@@ -252,5 +252,5 @@ module _ {R : Layer → Layer → Type 0} {N : Layer → Type 0} {T : Layer → 
     system_groups_lead l ps [] i = s.same l i
     system_groups_lead l ps (g ∷ gs) i =
         let x = system_group l ps g in
-        let t : CellType = named_type l g.type_name.name in
+        let t : CellType = type_of_name l g.type_name.name in
         then_leads l x.1 (system_groups x.1 x.0 gs).1 (system_parameters_lead l ps t g.names (s.named l g.type_name.name i) i) (system_groups_lead x.1 x.0 gs)

@@ -8,7 +8,7 @@ use Rattle.cp_symbols.specs.Kinds.{Field, Compound, array, record_with, Compound
 use Rattle.cp_layout.specs.Kinds.{array_type, Fields, with_field}
 use Rattle.cp_layout.specs.Layers.{Names, Layer, find_type, seen_inside, is_open, with_name, nothing_laid}
 use Rattle.cp_layout.specs.LaidTypes.{type_meant, with_constant, fields_of_type}
-use Rattle.cp_layout.specs.LaidDeclarations.{with_local, variable_with, permanent_parts, local, Parameters, var_parameter, heading, heading_with, body, with_new_frame, with_heading, opened, routine, routines, entered, system_parameter, system_groups, system, definition, system_definition, system_definitions, program_part, program_parts, program}
+use Rattle.cp_layout.specs.LaidDeclarations.{with_local, variable_with, permanent_parts, local, Parameters, var_parameter, heading, heading_with, body, with_new_frame, with_heading, open_routine, routine, routines, enter_system, system_parameter, system_groups, system, definition, system_definition, system_definitions, program_part, program_parts, program}
 use Rattle.cp_resolved.proofs.names.Entries.{last_or_before}
 use Rattle.cp_resolved.proofs.laid.Extends.{Longer, routine_extends, routine_names, system_extends}
 use Rattle.cp_resolved.proofs.laid.Grown.{body_grew}
@@ -135,7 +135,7 @@ body_types l b c = ap (λ (j : Layer). j.types) (body_grew l b.statements c).1
 
 routine_orderly : (l : Layer) (r : syntax.Routine) → Orderly l → Orderly (routine l r)
 routine_orderly l r o =
-    let x : Layer = (opened l r.name.name).1 in
+    let x : Layer = (open_routine l r.name.name).1 in
     let h = heading x r.name.name r.kind in
     let a : Orderly x = record { names = (tt, o.names); types = o.types } in
     let b : Orderly h.1 = (heading_leads orderly_types orderly_frames x r.name.name r.kind a).orderly in
@@ -164,7 +164,7 @@ inside_below n (d ∷ ds) h = go (is_open d.1) (inside_below n ds h.1)
 system_orderly : (l : Layer) (s : syntax.System) → Orderly l → Orderly (system l s).1
 unfolding system
 system_orderly l s o =
-    let x : Layer = (entered l).1 in
+    let x : Layer = (enter_system l).1 in
     let y : Parameters × Layer = system_groups x [] s.parameters in
     let a : Orderly x = record { names = inside_below (length l.types) l.names o.names; types = o.types } in
     let b : Orderly (system_begun l s) = routines_orderly (permanent_parts y.1 s.parts) s.routines (permanent_parts_lead orderly_types orderly_systems y.1 s.parts (system_groups_lead orderly_types orderly_systems x [] s.parameters a).orderly).orderly in

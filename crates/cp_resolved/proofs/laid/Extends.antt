@@ -7,7 +7,7 @@ use Rattle.cp_symbols.specs.declared.names.LayoutMeaning.TheVariants as meaning
 use Rattle.cp_symbols.specs.Symbols.{Noted}
 use Rattle.cp_layout.specs.Layers.{Names, Layer, Heading, Owned, Frame, no_frame, with_routine}
 use Rattle.cp_resolved.proofs.Words.{routine_begun, system_begun, Bool, true}
-use Rattle.cp_layout.specs.LaidDeclarations.{Parameters, heading, heading_with, body, with_new_frame, with_heading, opened, closed, routine, routines, initial_statement, entered, system_groups, permanent_parts, system, definition, system_definition, system_definitions, program_part, program_parts, constants, variables}
+use Rattle.cp_layout.specs.LaidDeclarations.{Parameters, heading, heading_with, body, with_new_frame, with_heading, open_routine, close, routine, routines, initial_statement, enter_system, system_groups, permanent_parts, system, definition, system_definition, system_definitions, program_part, program_parts, constants, variables}
 use Rattle.cp_resolved.proofs.laid.Grown.{Grew, body_grew}
 use Rattle.cp_resolved.proofs.laid.Declares.{Declares, heading_declares, local_parts_declare, permanent_parts_declare, system_groups_declare, type_declares, constants_declare, variables_declare}
 use Rattle.cp_resolved.specs.ItemsStand.{body_items}
@@ -126,7 +126,7 @@ initial_extends l ps b =
 
 pub begun_extends : (l : Layer) (r : syntax.Routine) → Extends l (routine_begun l r)
 begun_extends l r =
-    let x : Layer = (opened l r.name.name).1 in
+    let x : Layer = (open_routine l r.name.name).1 in
     let h : Heading × Layer = heading x r.name.name r.kind in
     let k : Layer = with_heading h.1 h.0 in
     extends_trans l h.1 (routine_begun l r) (extends_trans l x h.1 (extends_with l x.names l.owned no_frame x.noted) (declared_extends x h.1 (heading_declares x r.name.name r.kind)))
@@ -143,13 +143,13 @@ taken_off ns xs =
     let e : length (ns ++ xs) - length xs ≡ length ns = omega (arith, length-append ns xs) in
     rw e (drop-append_seam ns xs)
 
-closed_names : (l : Layer) (ns xs : Names) → l.names ≡ ns ++ xs → (closed l (length xs)).names ≡ xs
+closed_names : (l : Layer) (ns xs : Names) → l.names ≡ ns ++ xs → (close l (length xs)).names ≡ xs
 closed_names l ns xs h = rw h (taken_off ns xs)
 
 -- the names after a routine are its own name and those before it
 pub routine_names : (l : Layer) (r : syntax.Routine) → (routine l r).names ≡ (r.name.name, meaning.Routine (length l.routines)) ∷ l.names
 routine_names l r =
-    let x : Layer = (opened l r.name.name).1 in
+    let x : Layer = (open_routine l r.name.name).1 in
     let h : Heading × Layer = heading x r.name.name r.kind in
     let k : Layer = with_heading h.1 h.0 in
     let d : Declares x h.1 = heading_declares x r.name.name r.kind in
@@ -166,7 +166,7 @@ routines_extend l (r ∷ rs) = extends_trans l (routine l r) (routines (routine 
 
 pub system_begun_extends : (l : Layer) (s : syntax.System) → Extends l (system_begun l s)
 system_begun_extends l s =
-    let x : Layer = (entered l).1 in
+    let x : Layer = (enter_system l).1 in
     let y : Layer = (system_groups x [] s.parameters).1 in
     let z : Layer = permanent_parts y s.parts in
     let a : Extends x y = declared_extends x y (system_groups_declare x [] s.parameters) in
@@ -176,7 +176,7 @@ system_begun_extends l s =
 pub system_extends : (l : Layer) (s : syntax.System) → Extends l (system l s).1
 unfolding system
 system_extends l s =
-    let ps : Parameters = (system_groups (entered l).1 [] s.parameters).0 in
+    let ps : Parameters = (system_groups (enter_system l).1 [] s.parameters).0 in
     let k : Layer = system_begun l s in
     let m : Layer = initial_statement k ps s.body in
     let e : Extends l m = extends_trans l k m (system_begun_extends l s) (initial_extends k ps s.body) in

@@ -1,7 +1,7 @@
 -- The items of statements have what they need: lists that are there, with their control stack entries counted, callees, and room for their frames.
 use Rattle.std.proofs.Common.{◌≡◌, ℕ, ◌+◌, ◌*◌, ◌≤◌, max, List, [], ◌∷◌, ◌++◌, length, Option, Some, None, slice_get, refl, sym, ap, subst, ◌∙◌, ◌⊎◌, inl, inr, arith, length-append}
 use Rattle.cp_slots.specs.Code.{Action, Item}
-use Rattle.cp_layout.specs.Layers.{Layer, Pending, settled, without_pending, again, need_of, need_inside, pending_need}
+use Rattle.cp_layout.specs.Layers.{Layer, Pending, settle_items, without_pending, again, need_of, need_inside, pending_need}
 use Rattle.cp_resolved.proofs.laid.Calling.{ActionFits, InnerFits, PendingFits, AllFit, Onward, onward_trans, onward_items, onward_routines, action_onward, all_onward, inner_onward, Ran, ran_onward, ran_same, Ground, ground_kept, need_bounded}
 use Rattle.cp_resolved.proofs.laid.Fitting.{Nests, ListFits, list_wider, list_longer, need_longer}
 use Rattle.cp_resolved.proofs.laid.Grown.{kept_grew, settled_grew}
@@ -20,24 +20,24 @@ pub record Result (l : Layer) (x : Option ℕ × Layer) : Type 0 where
 -- ---- the items that are to come go into the tables
 
 module _ (P : Pending → Type 0) (j : Layer) (next : Option ℕ) (ground : Ground j) (items : ItemsFit j) (first : ListFits j.items (length j.routines) (need_of j.items next) next) (bound : (p : Pending) → P p → p.need ≤ 2 * length j.items + 2) (all : AllOf P j.pending) where
-  steps : Steps P (without_pending j) (need_of j.items next) j.pending (settled j next)
+  steps : Steps P (without_pending j) (need_of j.items next) j.pending (settle_items j next)
   steps = let le : need_of j.items next ≤ 2 * length j.items = need_bounded j.items (length j.routines) (need_of j.items next) next ground.bounded first in all_steps P (without_pending j) next bound first (omega (arith, le)) j.pending all
 
-  settled_onward : Onward j (settled j next).1
+  settled_onward : Onward j (settle_items j next).1
   settled_onward =
       record {
         grew = settled_grew j next;
         extents = ap (λ (k : Layer). k.frame.extents) steps.layer;
-        room = let e : (settled j next).1.frame.room ≡ j.frame.room = ap (λ (k : Layer). k.frame.room) steps.layer in omega (arith, e);
-        reference_room = let e : (settled j next).1.frame.reference_room ≡ j.frame.reference_room = ap (λ (k : Layer). k.frame.reference_room) steps.layer in omega (arith, e);
-        arguments = let e : (settled j next).1.arguments ≡ j.arguments = ap (λ (k : Layer). k.arguments) steps.layer in omega (arith, e);
+        room = let e : (settle_items j next).1.frame.room ≡ j.frame.room = ap (λ (k : Layer). k.frame.room) steps.layer in omega (arith, e);
+        reference_room = let e : (settle_items j next).1.frame.reference_room ≡ j.frame.reference_room = ap (λ (k : Layer). k.frame.reference_room) steps.layer in omega (arith, e);
+        arguments = let e : (settle_items j next).1.arguments ≡ j.arguments = ap (λ (k : Layer). k.arguments) steps.layer in omega (arith, e);
       }
 
-  made_bounded : (at : ℕ) (i : Item) → (slice_get j.items at ≡ Some i) ⊎ Made P (length j.routines) (need_of j.items next) (settled j next).1.items at i → i.need ≤ 2 * at + 2
+  made_bounded : (at : ℕ) (i : Item) → (slice_get j.items at ≡ Some i) ⊎ Made P (length j.routines) (need_of j.items next) (settle_items j next).1.items at i → i.need ≤ 2 * at + 2
   made_bounded at i (inl e) = ground.bounded at i e
   made_bounded at i (inr h) = h.bounded
 
-  settled_ground : Ground (settled j next).1
+  settled_ground : Ground (settle_items j next).1
   settled_ground =
       subst (λ (k : Layer). Ground k) (sym steps.layer) (record {
         named = record { names = ground.named.names; types = ground.named.types; systems = ground.named.systems };
@@ -45,11 +45,11 @@ module _ (P : Pending → Type 0) (j : Layer) (next : Option ℕ) (ground : Grou
         bounded = λ at i e. made_bounded at i (steps.made at i (ap (λ (is : List Item). slice_get is at) (ap (λ (k : Layer). k.items) steps.layer) ∙ e));
       })
 
-  module _ (holds : (p : Pending) → P p → ActionFits (settled j next).1 (length j.routines) (max (need_of j.items next) p.need) p.action × AgainFits (settled j next).1.items (length j.routines) (max (need_of j.items next) p.need) p.action) where
-    settled_item : (at : ℕ) (i : Item) → (slice_get j.items at ≡ Some i) ⊎ Made P (length j.routines) (need_of j.items next) (settled j next).1.items at i → ItemFits (settled j next).1 i
-    settled_item at i (inl e) = item_onward j (settled j next).1 i settled_onward (items at i e)
+  module _ (holds : (p : Pending) → P p → ActionFits (settle_items j next).1 (length j.routines) (max (need_of j.items next) p.need) p.action × AgainFits (settle_items j next).1.items (length j.routines) (max (need_of j.items next) p.need) p.action) where
+    settled_item : (at : ℕ) (i : Item) → (slice_get j.items at ≡ Some i) ⊎ Made P (length j.routines) (need_of j.items next) (settle_items j next).1.items at i → ItemFits (settle_items j next).1 i
+    settled_item at i (inl e) = item_onward j (settle_items j next).1 i settled_onward (items at i e)
     settled_item at i (inr h) =
-        let m : Layer = (settled j next).1 in
+        let m : Layer = (settle_items j next).1 in
         let rs : length m.routines ≡ length j.routines = ap (λ (k : Layer). length k.routines) steps.layer in
         let same : i.routine ≡ length j.routines = h.same in
         let f = holds h.from h.holds in
@@ -60,9 +60,9 @@ module _ (P : Pending → Type 0) (j : Layer) (next : Option ℕ) (ground : Grou
           again = rw (h.same, h.action) (again_wider m.items (length j.routines) (max (need_of j.items next) h.from.need) i.need h.from.action h.need f.1);
         }
 
-    settled_fitted : Fitted (settled j next).1 (settled j next).0
+    settled_fitted : Fitted (settle_items j next).1 (settle_items j next).0
     settled_fitted =
-        let m : Layer = (settled j next).1 in
+        let m : Layer = (settle_items j next).1 in
         record {
           ground = settled_ground;
           items = λ at i e. settled_item at i (steps.made at i e);
@@ -70,7 +70,7 @@ module _ (P : Pending → Type 0) (j : Layer) (next : Option ℕ) (ground : Grou
           first = rw (ap (λ (k : Layer). length k.routines) steps.layer) steps.first;
         }
 
-    settled_result : Result j (settled j next)
+    settled_result : Result j (settle_items j next)
     settled_result = record { onward = settled_onward; fitted = settled_fitted }
 
 -- ---- items that are no loops
@@ -91,7 +91,7 @@ ran_routines k j r = ap (λ (q : Layer). length q.routines) r.kept
 pub list_kept : (k j : Layer) (o : Option ℕ) → Kept k j → ListFits k.items (length k.routines) (need_of k.items o) o → ListFits j.items (length j.routines) (need_of j.items o) o
 list_kept k j o h f = subst (λ (q : Layer). ListFits q.items (length q.routines) (need_of q.items o) o) (sym h) f
 
-pub plain_settled : (k j : Layer) (next : Option ℕ) → Fitted k next → Ran k j → Result k (settled j next)
+pub plain_settled : (k j : Layer) (next : Option ℕ) → Fitted k next → Ran k j → Result k (settle_items j next)
 plain_settled k j next f r =
     let P : Pending → Type 0 = PendingFits j (length j.routines) in
     let g : Ground j = ground_kept k j r.kept f.ground in
@@ -100,9 +100,9 @@ plain_settled k j next f r =
     let ps : j.pending ≡ r.more = r.pending ∙ ap (λ (qs : List Pending). qs ++ r.more) f.pending in
     let all : AllOf P j.pending = subst (AllOf P) (sym ps) (plain_all j (length j.routines) r.more (subst (λ n. AllFit j n r.more) (sym (ran_routines k j r)) r.calls)) in
     let bound : (p : Pending) → P p → p.need ≤ 2 * length j.items + 2 = λ p h. h.bound in
-    let o : Onward j (settled j next).1 = settled_onward P j next g is first bound all in
-    let q : Result j (settled j next) = settled_result P j next g is first bound all (λ p h. (action_onward j (settled j next).1 (length j.routines) p.need (max (need_of j.items next) p.need) p.action (omega arith) o h.action, again_none (settled j next).1.items (length j.routines) (max (need_of j.items next) p.need) p.action h.plain)) in
-    record { onward = onward_trans k j (settled j next).1 (ran_onward k j r) o; fitted = q.fitted }
+    let o : Onward j (settle_items j next).1 = settled_onward P j next g is first bound all in
+    let q : Result j (settle_items j next) = settled_result P j next g is first bound all (λ p h. (action_onward j (settle_items j next).1 (length j.routines) p.need (max (need_of j.items next) p.need) p.action (omega arith) o h.action, again_none (settle_items j next).1.items (length j.routines) (max (need_of j.items next) p.need) p.action h.plain)) in
+    record { onward = onward_trans k j (settle_items j next).1 (ran_onward k j r) o; fitted = q.fitted }
 
 -- what is to come after the list stays a list in the longer tables
 pub moved : (l k : Layer) (next o : Option ℕ) → Onward l k → Fitted l next → Fitted k o → Fitted k next
@@ -119,10 +119,10 @@ pub alone : (l : Layer) (next : Option ℕ) → Fitted l next → Fitted l None
 alone l next f = record { ground = f.ground; items = f.items; pending = f.pending; first = tt }
 
 -- the lists inside a statement are done; its own item and the calls before it go into the tables
-pub own_settled : (l k j : Layer) (next o : Option ℕ) → Fitted l next → Onward l k → Fitted k o → Ran k j → Result l (settled j next)
+pub own_settled : (l k j : Layer) (next o : Option ℕ) → Fitted l next → Onward l k → Fitted k o → Ran k j → Result l (settle_items j next)
 own_settled l k j next o f w g r =
-    let q : Result k (settled j next) = plain_settled k j next (moved l k next o w f g) r in
-    record { onward = onward_trans l k (settled j next).1 w q.onward; fitted = q.fitted }
+    let q : Result k (settle_items j next) = plain_settled k j next (moved l k next o w f g) r in
+    record { onward = onward_trans l k (settle_items j next).1 w q.onward; fitted = q.fitted }
 
 -- ---- loops
 
@@ -184,34 +184,34 @@ module _ (k x : Layer) (next body : Option ℕ) (a : Action) (line : ℕ) (f : F
   loop_bounded p (inl h) = h.bound
   loop_bounded p (inr e) = rw e own_bounded
 
-  module _ (s : Steps (OfLoop after own) (without_pending after) (need_of after.items next) after.pending (settled after next)) (o : Onward after (settled after next).1) where
-    loop_again : Again (settled after next).1.items (length x.routines) (max (need_of x.items next) own.need) (again x)
+  module _ (s : Steps (OfLoop after own) (without_pending after) (need_of after.items next) after.pending (settle_items after next)) (o : Onward after (settle_items after next).1) where
+    loop_again : Again (settle_items after next).1.items (length x.routines) (max (need_of x.items next) own.need) (again x)
     loop_again =
         let n : ℕ = need_of x.items next in
         let len : length x.pending ≡ length r.more = ap (λ (qs : List Pending). length qs) loop_pending in
         let all : length after.pending ≡ length x.pending + 1 = length-append x.pending (own ∷ []) in
         let below : AreBelow own.need x.pending = below_more (pending_need x) own.need x.pending (omega arith) (below_need 0 x.pending) in
         let great : greatest n after.pending ≤ max n own.need = greatest_last n x.pending own below in
-        let need : need_of (settled after next).1.items (settled after next).0 ≡ greatest n after.pending = s.need in
+        let need : need_of (settle_items after next).1.items (settle_items after next).0 ≡ greatest n after.pending = s.need in
         record {
           place = length x.items + length x.pending;
           is_named = refl;
-          nests = first_nests (settled after next).1.items (length x.routines) (max n own.need) (length x.items + length x.pending) (settled after next).0 (s.place (length x.pending) (omega (arith, all))) s.first (omega (arith, need, great));
+          nests = first_nests (settle_items after next).1.items (length x.routines) (max n own.need) (length x.items + length x.pending) (settle_items after next).0 (s.place (length x.pending) (omega (arith, all))) s.first (omega (arith, need, great));
         }
 
-    loop_fits : (p : Pending) → OfLoop after own p → ActionFits (settled after next).1 (length x.routines) (max (need_of x.items next) p.need) p.action × AgainFits (settled after next).1.items (length x.routines) (max (need_of x.items next) p.need) p.action
-    loop_fits p (inl h) = (action_onward after (settled after next).1 (length x.routines) p.need (max (need_of x.items next) p.need) p.action (omega arith) o h.action, again_none (settled after next).1.items (length x.routines) (max (need_of x.items next) p.need) p.action h.plain)
+    loop_fits : (p : Pending) → OfLoop after own p → ActionFits (settle_items after next).1 (length x.routines) (max (need_of x.items next) p.need) p.action × AgainFits (settle_items after next).1.items (length x.routines) (max (need_of x.items next) p.need) p.action
+    loop_fits p (inl h) = (action_onward after (settle_items after next).1 (length x.routines) p.need (max (need_of x.items next) p.need) p.action (omega arith) o h.action, again_none (settle_items after next).1.items (length x.routines) (max (need_of x.items next) p.need) p.action h.plain)
     loop_fits p (inr e) =
         let need : ℕ = max (need_of x.items next) own.need in
         let inner : InnerFits x.items (length x.routines) own.need body = (list, omega arith) in
-        rw e (is_loop (settled after next).1 (length x.routines) need (rw (onward_items after (settled after next).1 o) (inner_onward x.items o.grew.0 (length x.routines) own.need need body (omega arith) inner)), begins (settled after next).1.items (length x.routines) need loop_again)
+        rw e (is_loop (settle_items after next).1 (length x.routines) need (rw (onward_items after (settle_items after next).1 o) (inner_onward x.items o.grew.0 (length x.routines) own.need need body (omega arith) inner)), begins (settle_items after next).1.items (length x.routines) need loop_again)
 
-  pub loop_settled : Result k (settled after next)
+  pub loop_settled : Result k (settle_items after next)
   loop_settled =
       let P : Pending → Type 0 = OfLoop after own in
       let is : ItemsFit after = items_onward k after (ran_items k x r) loop_onward f.items in
       let first = list_kept k after next loop_kept f.first in
       let s = steps P after next loop_ground is first loop_bounded loop_pendings in
-      let o : Onward after (settled after next).1 = settled_onward P after next loop_ground is first loop_bounded loop_pendings in
-      let q : Result after (settled after next) = settled_result P after next loop_ground is first loop_bounded loop_pendings (loop_fits s o) in
-      record { onward = onward_trans k after (settled after next).1 loop_onward o; fitted = q.fitted }
+      let o : Onward after (settle_items after next).1 = settled_onward P after next loop_ground is first loop_bounded loop_pendings in
+      let q : Result after (settle_items after next) = settled_result P after next loop_ground is first loop_bounded loop_pendings (loop_fits s o) in
+      record { onward = onward_trans k after (settle_items after next).1 loop_onward o; fitted = q.fitted }

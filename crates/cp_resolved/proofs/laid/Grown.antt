@@ -1,8 +1,8 @@
 -- What a statement leaves of the state: it appends items, and keeps names, types, headings and routines.
 use Rattle.std.proofs.Common.{◌≡◌, ℕ, List, [], ◌∷◌, ◌++◌, length, Option, ap, sym, ◌∙◌, refl, append_assoc}
-use Rattle.cp_layout.specs.LaidStatements.{checked}
+use Rattle.cp_layout.specs.LaidStatements.{check_invariants}
 use Rattle.cp_layout.specs.LaidDeclarations.{end_of_body}
-use Rattle.cp_resolved.proofs.Words.{Bool, max, Layer, Action, Pending, with_item, settled_all, settled, without_pending, added, need_of, with_cell, with_room, with_count, statements}
+use Rattle.cp_resolved.proofs.Words.{Bool, max, Layer, Action, Pending, with_item, add_items, settle_items, without_pending, add_item, need_of, with_cell, with_room, with_count, statements}
 use Rattle.std.proofs.lemmas.List.{append-nil}
 use Rattle.cp_tree.specs.Syntax as syntax
 use Rattle.cp_slots.specs.Code.{Item}
@@ -26,33 +26,33 @@ kept_grew l m h = ([], h ∙ ap (λ (is : List Item). (let j : Layer = record l 
 item_grew : (l : Layer) (p : Pending) (next : Option ℕ) → Grew l (with_item l p next)
 item_grew l p next = ((let i : Item = record { action = p.action; next = next; line = p.line; routine = length l.routines; need = max (need_of l.items next) p.need } in i) ∷ [], refl)
 
-all_grew : (l : Layer) (ps : List Pending) (next : Option ℕ) → Grew l (settled_all l ps next).1
+all_grew : (l : Layer) (ps : List Pending) (next : Option ℕ) → Grew l (add_items l ps next).1
 all_grew l [] next = kept_grew l l refl
 all_grew l (p ∷ ps) next =
-    let rest : Option ℕ × Layer = settled_all l ps next in
+    let rest : Option ℕ × Layer = add_items l ps next in
     grew_trans l rest.1 (with_item rest.1 p rest.0) (all_grew l ps next) (item_grew rest.1 p rest.0)
 
-pub settled_grew : (l : Layer) (next : Option ℕ) → Grew l (settled l next).1
-settled_grew l next = grew_trans l (without_pending l) (settled l next).1 (kept_grew l (without_pending l) refl) (all_grew (without_pending l) l.pending next)
+pub settled_grew : (l : Layer) (next : Option ℕ) → Grew l (settle_items l next).1
+settled_grew l next = grew_trans l (without_pending l) (settle_items l next).1 (kept_grew l (without_pending l) refl) (all_grew (without_pending l) l.pending next)
 
 -- ---- statements
 
 kept_after : (l k m : Layer) → Grew l k → Kept k m → Grew l m
 kept_after l k m h i = grew_trans l k m h (kept_grew k m i)
 
-added_after : (l m : Layer) (at : ℕ) (a : Action) (need : ℕ) → Grew l m → Grew l (added m at a need)
-added_after l m at a need h = kept_after l m (added m at a need) h refl
+added_after : (l m : Layer) (at : ℕ) (a : Action) (need : ℕ) → Grew l m → Grew l (add_item m at a need)
+added_after l m at a need h = kept_after l m (add_item m at a need) h refl
 
 grew_calls : (l : Layer) → CallSteps (Grew l) (λ r. Unit {0}) ⊥ (λ x. ⊥)
-grew_calls l = any_calls (Grew l) (λ m k h. kept_after l m (with_count m k) h refl) (λ m r at a need h. kept_after l m (added (with_room (with_cell m) r) at a need) h refl)
+grew_calls l = any_calls (Grew l) (λ m k h. kept_after l m (with_count m k) h refl) (λ m r at a need h. kept_after l m (add_item (with_room (with_cell m) r) at a need) h refl)
 
 grew_items : (l : Layer) → ItemSteps (Grew l) (λ r. Unit {0})
 grew_items l = any_items (Grew l) (λ m r h. kept_after l m (with_room m r) h refl) (added_after l)
 
 grew_lists : (l : Layer) → ListSteps (Grew l)
-grew_lists l = any_lists (Grew l) (added_after l) (λ m next h. grew_trans l m (settled m next).1 h (settled_grew m next))
+grew_lists l = any_lists (Grew l) (added_after l) (λ m next h. grew_trans l m (settle_items m next).1 h (settled_grew m next))
 
-pub checked_grew : (l : Layer) (at : ℕ) → Grew l (checked l at)
+pub checked_grew : (l : Layer) (at : ℕ) → Grew l (check_invariants l at)
 checked_grew l at = checked_walked (grew_calls l) (grew_items l) l at (kept_grew l l refl) never
 
 pub statements_grew : (l : Layer) (ss : syntax.Statements) (after : Option ℕ) → Grew l (statements l ss after).1

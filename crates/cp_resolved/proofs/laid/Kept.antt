@@ -1,9 +1,9 @@
 -- What an expression leaves of the state: it changes the frame, the items of its statement and the greatest number of arguments alone.
 use Rattle.std.proofs.Common.{◌≡◌, ℕ, List, ap, ◌∙◌, refl}
 use Rattle.cp_tree.specs.Syntax as syntax
-use Rattle.cp_resolved.proofs.Words.{Layer, Frame, Pending, added, with_cell, with_room, with_count}
+use Rattle.cp_resolved.proofs.Words.{Layer, Frame, Pending, add_item, with_cell, with_room, with_count}
 use Rattle.cp_layout.specs.LaidExpressions.{expression, sum, term, factor, arguments_from, designator, selector}
-use Rattle.cp_layout.specs.LaidStatements.{checked, checked_before}
+use Rattle.cp_layout.specs.LaidStatements.{check_invariants, check_before}
 use Rattle.cp_layout.specs.Values.{Designated}
 use Rattle.cp_symbols.specs.declared.names.PredeclaredRoutine.{PredeclaredRoutine}
 use Rattle.cp_resolved.proofs.laid.Walked.{CallSteps, ItemSteps, any_calls, any_items, checked_walked, before_walked, never, expression_walked, sum_walked, term_walked, factor_walked, arguments_walked, designator_walked, selector_walked}
@@ -18,7 +18,7 @@ pub kept_trans : (l k m : Layer) → Kept l k → Kept k m → Kept l m
 kept_trans l k m h i = i ∙ ap (λ (j : Layer). changed j m.frame m.pending m.arguments) h
 
 kept_calls : (l : Layer) → CallSteps (Kept l) (λ r. Unit {0}) ⊥ (λ x. ⊥)
-kept_calls l = any_calls (Kept l) (λ m k h. kept_trans l m (with_count m k) h refl) (λ m r at a need h. kept_trans l m (added (with_room (with_cell m) r) at a need) h refl)
+kept_calls l = any_calls (Kept l) (λ m k h. kept_trans l m (with_count m k) h refl) (λ m r at a need h. kept_trans l m (add_item (with_room (with_cell m) r) at a need) h refl)
 
 pub expression_kept : (l : Layer) (e : syntax.Expression) → Kept l (expression l e).1
 expression_kept l e = expression_walked (kept_calls l) l e refl never
@@ -44,10 +44,10 @@ selector_kept l d s = selector_walked (kept_calls l) l d s refl never
 -- ---- checks
 
 kept_items : (l : Layer) → ItemSteps (Kept l) (λ r. Unit {0})
-kept_items l = any_items (Kept l) (λ m r h. kept_trans l m (with_room m r) h refl) (λ m at a need h. kept_trans l m (added m at a need) h refl)
+kept_items l = any_items (Kept l) (λ m r h. kept_trans l m (with_room m r) h refl) (λ m at a need h. kept_trans l m (add_item m at a need) h refl)
 
-pub checked_kept : (l : Layer) (at : ℕ) → Kept l (checked l at)
+pub checked_kept : (l : Layer) (at : ℕ) → Kept l (check_invariants l at)
 checked_kept l at = checked_walked (kept_calls l) (kept_items l) l at refl never
 
-pub before_kept : (l : Layer) (at : ℕ) (q : PredeclaredRoutine) → Kept l (checked_before l at q)
+pub before_kept : (l : Layer) (at : ℕ) (q : PredeclaredRoutine) → Kept l (check_before l at q)
 before_kept l at q = before_walked (kept_calls l) (kept_items l) l at q refl never

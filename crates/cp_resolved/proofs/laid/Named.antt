@@ -8,7 +8,7 @@ use Rattle.cp_symbols.specs.Kinds.{Compound, array, record_with, Compounds, Fiel
 use Rattle.cp_layout.specs.Kinds.{array_of, as_array, field_of}
 use Rattle.cp_layout.specs.Values.{Designated, a_variable, a_contained, a_component, a_routine, an_entry}
 use Rattle.cp_layout.specs.Layers.{Names, find, seen_inside, with_open, is_open, Layer, Heading, System}
-use Rattle.cp_layout.specs.LaidExpressions.{begun_as, begun, entry_among, entry_in, entry_of, entry_found, field_found, field_selected, element_found, component_of_array, component_found, element_selected}
+use Rattle.cp_layout.specs.LaidExpressions.{meaning_of, name_meaning, entry_among, entry_in, entry_of, entry_found, field_found, field_of_designated, element_found, component_of_array, component_found, element_of_designated}
 use Rattle.cp_resolved.proofs.names.Entries.{there}
 
 -- ---- this many system types and routines
@@ -112,11 +112,11 @@ found s r x (d ∷ ds) h = go (bytes_eq d.0 x) (found s r x ds h.1)
     go true rest = h.0
     go false rest = rest
 
-begun_contained : (s r n : ℕ) (t : CellType) → IsType s t → IsDesignated s r (begun_as (Some (meaning.Contained n t)))
+begun_contained : (s r n : ℕ) (t : CellType) → IsType s t → IsDesignated s r (meaning_of (Some (meaning.Contained n t)))
 begun_contained s r n (types.System k) h = h
 begun_contained s r n _ h = tt
 
-begun_named : (s r : ℕ) (o : Option LayoutMeaning) → IsFound s r o → IsDesignated s r (begun_as o)
+begun_named : (s r : ℕ) (o : Option LayoutMeaning) → IsFound s r o → IsDesignated s r (meaning_of o)
 begun_named s r (Some (meaning.Contained n t)) h = begun_contained s r n t h
 begun_named s r (Some (meaning.Bound n k)) h = h
 begun_named s r (Some (meaning.Routine n)) h = h
@@ -125,7 +125,7 @@ begun_named s r _ h = tt
 abbrev pub DesignatedIn : Layer → Designated → Type 0
 DesignatedIn l d = IsDesignated (length l.systems) (length l.routines) d
 
-pub begun_there : (l : Layer) (x : List ℕ) → Named l → DesignatedIn l (begun l x)
+pub begun_there : (l : Layer) (x : List ℕ) → Named l → DesignatedIn l (name_meaning l x)
 begun_there l x h = begun_named (length l.systems) (length l.routines) (find x l.names) (found (length l.systems) (length l.routines) x l.names h.names)
 
 -- ---- selectors
@@ -160,7 +160,7 @@ field_designated : (s r : ℕ) (p : Place) (o : Option Field) → IsDesignated s
 field_designated s r p None = tt
 field_designated s r p (Some f) = tt
 
-pub field_there : (l : Layer) (d : Designated) (x : List ℕ) → Named l → DesignatedIn l (field_selected l d x)
+pub field_there : (l : Layer) (d : Designated) (x : List ℕ) → Named l → DesignatedIn l (field_of_designated l d x)
 field_there l (a_variable p t) x h = field_designated (length l.systems) (length l.routines) p (field_of l.types t x)
 field_there l (a_component c k) x h = entry_designated (length l.systems) (length l.routines) c (entry_of l k x) (entry_there (length l.routines) (slice_get l.systems k) l.headings x (h.systems k))
 field_there l _ x h = tt
@@ -192,7 +192,7 @@ element_designated : (s r : ℕ) (p : Place) (o : Option ArrayType) (e : Ordinal
 element_designated s r p None e = tt
 element_designated s r p (Some a) e = tt
 
-pub element_there : (l : Layer) (d : Designated) (e : OrdinalExpression) → Named l → DesignatedIn l (element_selected l d e)
+pub element_there : (l : Layer) (d : Designated) (e : OrdinalExpression) → Named l → DesignatedIn l (element_of_designated l d e)
 element_there l (a_variable p t) e h = element_designated (length l.systems) (length l.routines) p (array_of l.types t) e
 element_there l (a_contained n t) e h = component_found_there l n (array_of l.types t) e (array_there (length l.systems) l.types t h.types)
 element_there l _ e h = tt

@@ -2,7 +2,7 @@
 use Rattle.std.proofs.Common.{◌≡◌, ℕ, suc, ◌+◌, ◌*◌, ◌≤◌, min, max, List, [], ◌∷◌, ◌++◌, length, Option, Some, slice_get, refl, sym, ap, subst, ◌∙◌, ◌⊎◌, inl, inr, append_assoc, append-nil, arith, length-append}
 use Rattle.cp_slots.specs.Code as code
 use Rattle.cp_slots.specs.Code.{Action, Item}
-use Rattle.cp_resolved.proofs.Words.{most, Layer, Pending, with_item, settled_all, need_of, item_need}
+use Rattle.cp_resolved.proofs.Words.{most, Layer, Pending, with_item, add_items, need_of, item_need}
 use Rattle.cp_resolved.proofs.laid.Calling.{ActionFits, IsNoLoop, Onward, onward_items, onward_routines, action_onward, Ground}
 use Rattle.cp_resolved.proofs.names.Entries.{last_entry, last_or_before}
 use Rattle.cp_resolved.proofs.laid.Fitting.{Nests, ListFits, list_wider, list_longer}
@@ -151,6 +151,6 @@ module _ (P : Pending → Type 0) (l : Layer) (next : Option ℕ) (bound : (p : 
           old (inr g) = inr (made_longer P (length l.routines) (need_of l.items next) x.1.items (record { action = p.action; next = x.0; line = p.line; routine = length x.1.routines; need = max (need_of x.1.items x.0) p.need } ∷ []) at j g)
       go at j (inr e) here = inr (rw (e.0, e.1) here)
 
-  pub all_steps : (ps : List Pending) → AllOf P ps → Steps P l (need_of l.items next) ps (settled_all l ps next)
+  pub all_steps : (ps : List Pending) → AllOf P ps → Steps P l (need_of l.items next) ps (add_items l ps next)
   all_steps [] h = record { new = []; layer = ap (λ (js : List Item). (let k : Layer = record l { items = js } in k)) (sym (append-nil l.items)); count = refl; first = first; need = refl; place = λ k e. absurd (omega (arith, e)); made = λ at i e. inl e }
-  all_steps (p ∷ ps) h = one_step p ps (settled_all l ps next) h.0 h.1 (all_steps ps h.1)
+  all_steps (p ∷ ps) h = one_step p ps (add_items l ps next) h.0 h.1 (all_steps ps h.1)

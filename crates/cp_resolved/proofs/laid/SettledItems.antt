@@ -1,7 +1,7 @@
 -- Once the items of a statement are in the tables, each call stands in one, followed by the next, and the statement's own item comes last.
 use Rattle.std.proofs.Common.{append_assoc, append-nil, Bool, None, ◌≡◌, ◌+◌, ◌<◌, max, ℕ, suc, List, [], ◌∷◌, ◌++◌, length, Option, Some, slice_get, slice_index, refl, sym, ap, subst, ◌∙◌, arith, length-append}
 use Rattle.cp_slots.specs.Code as code
-use Rattle.cp_resolved.proofs.Words.{Layer, Pending, need_of, added, without_pending, settled_all, settled, temporary, Item, function_call, Here, AreHeld, designator_calls, expressions_calls}
+use Rattle.cp_resolved.proofs.Words.{Layer, Pending, need_of, add_item, without_pending, add_items, settle_items, temporary, Item, function_call, Here, AreHeld, designator_calls, expressions_calls}
 use Rattle.cp_tree.specs.Syntax as syntax
 use Rattle.cp_meaning.specs.State.{statement_item}
 use Rattle.cp_resolved.specs.ItemsStand.{ItemIs, AreItems}
@@ -11,26 +11,26 @@ use Rattle.cp_resolved.proofs.items.Going.{CallPending, PendingAre, Goes}
 
 -- ---- what is left of a state
 
-pub all_frame : (l : Layer) (ps : List Pending) (next : Option ℕ) → (settled_all l ps next).1.frame ≡ l.frame
+pub all_frame : (l : Layer) (ps : List Pending) (next : Option ℕ) → (add_items l ps next).1.frame ≡ l.frame
 all_frame l [] next = refl
 all_frame l (p ∷ ps) next = all_frame l ps next
 
-pub all_pending : (l : Layer) (ps : List Pending) (next : Option ℕ) → (settled_all l ps next).1.pending ≡ l.pending
+pub all_pending : (l : Layer) (ps : List Pending) (next : Option ℕ) → (add_items l ps next).1.pending ≡ l.pending
 all_pending l [] next = refl
 all_pending l (p ∷ ps) next = all_pending l ps next
 
 abbrev pub made : Layer → Pending → Option ℕ → code.Item
 made l p next = record { action = p.action; next = next; line = p.line; routine = length l.routines; need = max (need_of l.items next) p.need }
 
-pub all_many : (l : Layer) (ps : List Pending) (next : Option ℕ) → length (settled_all l ps next).1.items ≡ length l.items + length ps
+pub all_many : (l : Layer) (ps : List Pending) (next : Option ℕ) → length (add_items l ps next).1.items ≡ length l.items + length ps
 all_many l [] next = omega arith
 all_many l (p ∷ ps) next =
-    let rest : Option ℕ × Layer = settled_all l ps next in
+    let rest : Option ℕ × Layer = add_items l ps next in
     let e : length (rest.1.items ++ made rest.1 p rest.0 ∷ []) ≡ length rest.1.items + 1 = length-append rest.1.items (made rest.1 p rest.0 ∷ []) in
     omega (arith, e, all_many l ps next)
 
 -- the first of the items has the greatest number
-pub first_number : (l : Layer) (ps : List Pending) (own : Pending) (next : Option ℕ) → (settled_all l (ps ++ own ∷ []) next).0 ≡ Some (length l.items + length ps)
+pub first_number : (l : Layer) (ps : List Pending) (own : Pending) (next : Option ℕ) → (add_items l (ps ++ own ∷ []) next).0 ≡ Some (length l.items + length ps)
 first_number l [] own next = ap (λ n. Some n) (let e : length l.items ≡ length l.items + 0 = omega arith in e)
 first_number l (p ∷ ps) own next =
     let e : length l.items + length (ps ++ own ∷ []) ≡ length l.items + suc (length ps) = omega (arith, length-append ps (own ∷ [])) in
@@ -45,18 +45,18 @@ module _ (g : Ground) (h : Here) where
   pub holds_first : (is more : List code.Item) → Holds (is ++ more) → Holds is
   holds_first is more b n i e = b n i (still_there is more n i e)
 
-  holds_tail : (l : Layer) (ps tail : List Pending) (next : Option ℕ) → Holds (settled_all l (ps ++ tail) next).1.items → Holds (settled_all l tail next).1.items
+  holds_tail : (l : Layer) (ps tail : List Pending) (next : Option ℕ) → Holds (add_items l (ps ++ tail) next).1.items → Holds (add_items l tail next).1.items
   holds_tail l [] tail next b = b
   holds_tail l (p ∷ ps) tail next b =
-      let rest : Option ℕ × Layer = settled_all l (ps ++ tail) next in
+      let rest : Option ℕ × Layer = add_items l (ps ++ tail) next in
       holds_tail l ps tail next (holds_first rest.1.items (made rest.1 p rest.0 ∷ []) b)
 
   -- ---- calls, and a statement's own item
 
-  calls_settled : (l : Layer) (ps tail : List Pending) (is : List Item) (next : Option ℕ) → PendingAre g.lines h ps is → Holds (settled_all l (ps ++ tail) next).1.items → CallsAre g h (settled_all l (ps ++ tail) next).0 is (settled_all l tail next).0
+  calls_settled : (l : Layer) (ps tail : List Pending) (is : List Item) (next : Option ℕ) → PendingAre g.lines h ps is → Holds (add_items l (ps ++ tail) next).1.items → CallsAre g h (add_items l (ps ++ tail) next).0 is (add_items l tail next).0
   calls_settled l [] tail [] next a b = refl
   calls_settled l (p ∷ ps) tail (function_call at d es ∷ is) next a b =
-      let rest : Option ℕ × Layer = settled_all l (ps ++ tail) next in
+      let rest : Option ℕ × Layer = add_items l (ps ++ tail) next in
       let i : code.Item = made rest.1 p rest.0 in
       let w : ItemIs g (length rest.1.items) i = b (length rest.1.items) i (last_entry rest.1.items i) in
       let c : CallPending g.lines h at d es p = a.0 in
@@ -78,7 +78,7 @@ module _ (g : Ground) (h : Here) where
     pub calls : CallsAre g h first is (Some number)
     pub item : ItemAt g number at next a
 
-  settle : (l : Layer) (new : List Pending) (own : Pending) (is : List Item) (at : ℕ) (next : Option ℕ) → PendingAre g.lines h new is → own.line ≡ slice_index g.lines at → Holds (settled_all l (new ++ own ∷ []) next).1.items → Led (settled_all l (new ++ own ∷ []) next).0 is at own.action next
+  settle : (l : Layer) (new : List Pending) (own : Pending) (is : List Item) (at : ℕ) (next : Option ℕ) → PendingAre g.lines h new is → own.line ≡ slice_index g.lines at → Holds (add_items l (new ++ own ∷ []) next).1.items → Led (add_items l (new ++ own ∷ []) next).0 is at own.action next
   settle l new own is at next a e b =
       let i : code.Item = made l own next in
       let w : ItemIs g (length l.items) i = holds_tail l new (own ∷ []) next b (length l.items) i (last_entry l.items i) in
@@ -86,14 +86,14 @@ module _ (g : Ground) (h : Here) where
 
   -- a statement whose last item is its own
   abbrev pub ended : Layer → ℕ → code.Action → ℕ → Option ℕ → Option ℕ × Layer
-  ended m at a need next = settled (added m at a need) next
+  ended m at a need next = settle_items (add_item m at a need) next
 
   pub finish : (l m : Layer) (is : List Item) (at : ℕ) (a : code.Action) (need : ℕ) (next : Option ℕ) → l.pending ≡ [] → Goes g.lines h l m is → m.lines ≡ g.lines → Holds (ended m at a need next).1.items → Led (ended m at a need next).0 is at a next
   finish l m is at a need next none i ls b =
       let own : Pending = record { action = a; line = slice_index m.lines at; need = need } in
-      let z : Layer = without_pending (added m at a need) in
+      let z : Layer = without_pending (add_item m at a need) in
       let e : m.pending ++ own ∷ [] ≡ i.new ++ own ∷ [] = ap (λ ps. ps ++ own ∷ []) (i.pending ∙ ap (λ ps. ps ++ i.new) none) in
-      subst (λ ps. Led (settled_all z ps next).0 is at a next) (sym e) (settle z i.new own is at next i.stand (ap (λ ls. slice_index ls at) ls) (subst (λ ps. Holds (settled_all z ps next).1.items) e b))
+      subst (λ ps. Led (add_items z ps next).0 is at a next) (sym e) (settle z i.new own is at next i.stand (ap (λ ls. slice_index ls at) ls) (subst (λ ps. Holds (add_items z ps next).1.items) e b))
 
   -- ---- checks
 
@@ -124,10 +124,10 @@ module _ (g : Ground) (h : Here) where
   pub checks_none : (l : Layer) → ChecksGo l l []
   checks_none l = record { image = refl; new = []; pending = sym (append-nil l.pending); stand = tt }
 
-  checks_settled : (l : Layer) (ps tail : List Pending) (cs : List Item) (next : Option ℕ) → ChecksPending ps cs → Holds (settled_all l (ps ++ tail) next).1.items → ChecksAre g h (settled_all l (ps ++ tail) next).0 cs (settled_all l tail next).0
+  checks_settled : (l : Layer) (ps tail : List Pending) (cs : List Item) (next : Option ℕ) → ChecksPending ps cs → Holds (add_items l (ps ++ tail) next).1.items → ChecksAre g h (add_items l (ps ++ tail) next).0 cs (add_items l tail next).0
   checks_settled l [] tail [] next a b = refl
   checks_settled l (p ∷ ps) tail (statement_item (syntax.invoke at d es) ∷ cs) next a b =
-      let rest : Option ℕ × Layer = settled_all l (ps ++ tail) next in
+      let rest : Option ℕ × Layer = add_items l (ps ++ tail) next in
       let i : code.Item = made rest.1 p rest.0 in
       let w : ItemIs g (length rest.1.items) i = b (length rest.1.items) i (last_entry rest.1.items i) in
       let c : CheckPending at d es p = a.0 in
@@ -151,15 +151,15 @@ module _ (g : Ground) (h : Here) where
     pub checks : ChecksAre g h check cs (Some number)
     pub item : ItemAt g number at next a
 
-  settle_checked : (l : Layer) (new checks : List Pending) (own : Pending) (is cs : List Item) (at : ℕ) (next : Option ℕ) → PendingAre g.lines h new is → ChecksPending checks cs → own.line ≡ slice_index g.lines at → Holds (settled_all l (new ++ (checks ++ own ∷ [])) next).1.items →
-      LedChecked (settled_all l (new ++ (checks ++ own ∷ [])) next).0 is cs at own.action next
+  settle_checked : (l : Layer) (new checks : List Pending) (own : Pending) (is cs : List Item) (at : ℕ) (next : Option ℕ) → PendingAre g.lines h new is → ChecksPending checks cs → own.line ≡ slice_index g.lines at → Holds (add_items l (new ++ (checks ++ own ∷ [])) next).1.items →
+      LedChecked (add_items l (new ++ (checks ++ own ∷ [])) next).0 is cs at own.action next
   settle_checked l new checks own is cs at next a c e b =
       let i : code.Item = made l own next in
-      let before : Holds (settled_all l (checks ++ own ∷ []) next).1.items = holds_tail l new (checks ++ own ∷ []) next b in
+      let before : Holds (add_items l (checks ++ own ∷ []) next).1.items = holds_tail l new (checks ++ own ∷ []) next b in
       let w : ItemIs g (length l.items) i = holds_tail l checks (own ∷ []) next before (length l.items) i (last_entry l.items i) in
       record {
         number = length l.items;
-        check = (settled_all l (checks ++ own ∷ []) next).0;
+        check = (add_items l (checks ++ own ∷ []) next).0;
         calls = calls_settled l new (checks ++ own ∷ []) is next a b;
         checks = checks_settled l checks (own ∷ []) cs next c before;
         item = record { place = w.inside; action = w.action; follows = w.follows; line = w.line ∙ e };
@@ -168,22 +168,22 @@ module _ (g : Ground) (h : Here) where
   pub finish_checked : (l m o : Layer) (is cs : List Item) (at : ℕ) (a : code.Action) (need : ℕ) (next : Option ℕ) → l.pending ≡ [] → Goes g.lines h l m is → ChecksGo m o cs → o.lines ≡ g.lines → Holds (ended o at a need next).1.items → LedChecked (ended o at a need next).0 is cs at a next
   finish_checked l m o is cs at a need next none i c ls b =
       let own : Pending = record { action = a; line = slice_index o.lines at; need = need } in
-      let z : Layer = without_pending (added o at a need) in
+      let z : Layer = without_pending (add_item o at a need) in
       let e : o.pending ++ own ∷ [] ≡ i.new ++ (c.new ++ own ∷ []) = ap (λ ps. ps ++ own ∷ []) (c.pending ∙ ap (λ ps. ps ++ c.new) (i.pending ∙ ap (λ ps. ps ++ i.new) none)) ∙ append_assoc i.new c.new (own ∷ []) in
-      subst (λ ps. LedChecked (settled_all z ps next).0 is cs at a next) (sym e) (settle_checked z i.new c.new own is cs at next i.stand c.stand (ap (λ ls. slice_index ls at) ls) (subst (λ ps. Holds (settled_all z ps next).1.items) e b))
+      subst (λ ps. LedChecked (add_items z ps next).0 is cs at a next) (sym e) (settle_checked z i.new c.new own is cs at next i.stand c.stand (ap (λ ls. slice_index ls at) ls) (subst (λ ps. Holds (add_items z ps next).1.items) e b))
 
   -- checks alone, at the end of a body
-  pub checks_end : (l m : Layer) (cs : List Item) → l.pending ≡ [] → ChecksGo l m cs → Holds (settled m None).1.items → ChecksAre g h (settled m None).0 cs None
+  pub checks_end : (l m : Layer) (cs : List Item) → l.pending ≡ [] → ChecksGo l m cs → Holds (settle_items m None).1.items → ChecksAre g h (settle_items m None).0 cs None
   checks_end l m cs none c b =
       let z : Layer = without_pending m in
       let e : m.pending ≡ c.new ++ [] = c.pending ∙ ap (λ ps. ps ++ c.new) none ∙ sym (append-nil c.new) in
-      subst (λ ps. ChecksAre g h (settled_all z ps None).0 cs None) (sym e) (checks_settled z c.new [] cs None c.stand (subst (λ ps. Holds (settled_all z ps None).1.items) e b))
+      subst (λ ps. ChecksAre g h (add_items z ps None).0 cs None) (sym e) (checks_settled z c.new [] cs None c.stand (subst (λ ps. Holds (add_items z ps None).1.items) e b))
 
   -- a loop begins again at its first item, whose number is a word
   pub again_first : (l m : Layer) (is : List Item) (at : ℕ) (a : code.Action) (need : ℕ) (next : Option ℕ) → l.pending ≡ [] → Goes g.lines h l m is → Holds (ended m at a need next).1.items → ((ended m at a need next).0 ≡ Some (length m.items + length m.pending)) × (length m.items + length m.pending < length g.tables.items)
   again_first l m is at a need next none i b =
       let own : Pending = record { action = a; line = slice_index m.lines at; need = need } in
-      let z : Layer = without_pending (added m at a need) in
+      let z : Layer = without_pending (add_item m at a need) in
       let many : length (ended m at a need next).1.items ≡ length m.items + length (m.pending ++ own ∷ []) = all_many z (m.pending ++ own ∷ []) next in
       let low : length m.items + length m.pending < length (ended m at a need next).1.items = omega (arith, many, length-append m.pending (own ∷ [])) in
       let at' : (x : code.Item) × (slice_get (ended m at a need next).1.items (length m.items + length m.pending) ≡ Some x) = there (ended m at a need next).1.items (length m.items + length m.pending) low in

@@ -7,7 +7,7 @@ use Rattle.cp_symbols.specs.declared.names.LayoutMeaning.TheVariants as meaning
 use Rattle.cp_slots.specs.Code as code
 use Rattle.cp_slots.specs.Code.{Action, Item}
 use Rattle.cp_layout.specs.Layers.{Layer, Frame, Heading, Owned, System, need_of, nothing_laid, routine_of, with_routine}
-use Rattle.cp_layout.specs.LaidDeclarations.{Parameters, body, opened, closed, routine_inside, routine, routines, with_heading, with_new_frame, heading_with, initial_statement, heading, local_parts, permanent_parts, system_groups, entered, left, system_of, system_inside, system, constants, variables, definition, type_named, system_definition, system_definitions, program_part, program_parts, program}
+use Rattle.cp_layout.specs.LaidDeclarations.{Parameters, body, open_routine, close, routine_inside, routine, routines, with_heading, with_new_frame, heading_with, initial_statement, heading, local_parts, permanent_parts, system_groups, enter_system, leave_system, system_of, system_inside, system, constants, variables, definition, with_type_name, system_definition, system_definitions, program_part, program_parts, program}
 use Rattle.cp_resolved.proofs.laid.Calling.{ActionFits, CallFits, Calls, RoomFits, onward_routines, Ground}
 use Rattle.cp_resolved.proofs.laid.Declared.{Declared, declared_same, then_declared, Typed, name_declared, constants_declared, written_typed, variables_declared, permanent_declared, local_parts_declared, heading_declared, system_groups_declared}
 use Rattle.cp_resolved.proofs.names.Entries.{there, not_there, still_there, last_entry, last_or_before}
@@ -215,10 +215,10 @@ heading_added l h n = record { same = refl; named = record { names = n.names; ty
 pub frame_new : (l : Layer) → Named l → Declared l (with_new_frame l)
 frame_new l n = record { same = refl; named = record { names = n.names; types = n.types; systems = n.systems }; owned = step_same l.owned; sizes = resized_same l _ refl refl refl refl }
 
-pub names_closed : (l : Layer) (n : ℕ) → Named l → Declared l (closed l n)
+pub names_closed : (l : Layer) (n : ℕ) → Named l → Declared l (close l n)
 names_closed l n h = record { same = refl; named = record { names = names_dropped (length l.systems) (length l.routines) (length l.names - n) l.names h.names; types = h.types; systems = h.systems }; owned = step_same l.owned; sizes = resized_same l _ refl refl refl refl }
 
-pub routine_opened : (l : Layer) (x : List ℕ) → Named l → Declared l (opened l x).1
+pub routine_opened : (l : Layer) (x : List ℕ) → Named l → Declared l (open_routine l x).1
 routine_opened l x n = record { same = refl; named = record { names = (omega arith, n.names); types = n.types; systems = n.systems }; owned = step_same l.owned; sizes = resized_same l _ refl refl refl refl }
 
 pub inside_laid : (l : Layer) (r : Routine) → Whole l → Laid l (routine_inside l r)
@@ -234,11 +234,11 @@ inside_laid l r w =
 
 pub routine_laid : (l : Layer) (r : Routine) → Whole l → Laid l (routine l r)
 routine_laid l r w =
-    let x = opened l r.name.name in
+    let x = open_routine l r.name.name in
     let a : Laid l x.1 = declared_laid l x.1 (routine_opened l r.name.name w.ground.named) w in
     let k : Layer = routine_inside x.1 r in
     let b : Laid l k = then_laid l x.1 k a (inside_laid x.1 r a.whole) in
-    then_laid l k (closed k x.0) b (declared_laid k (closed k x.0) (names_closed k x.0 b.whole.ground.named) b.whole)
+    then_laid l k (close k x.0) b (declared_laid k (close k x.0) (names_closed k x.0 b.whole.ground.named) b.whole)
 
 pub routines_laid : (l : Layer) (rs : List Routine) → Whole l → Laid l (routines l rs)
 unfolding routines
@@ -312,7 +312,7 @@ left_outside : (m : Layer) (s : System) (n : ℕ) (r : RoutineView) → m.owned.
 left_outside m s n r le (inl i) = record { system = i.system; there = still_there m.systems (s ∷ []) r.system i.system i.there; own = i.own }
 left_outside m s n r le (inr i) = let a : r.own ≤ m.owned.cells = i.1 in record { system = s; there = rw i.0 (last_entry m.systems s); own = omega (arith, a, le) }
 
-left_owning : (l m : Layer) (kind : SystemKind) (first initial : ℕ) → Owning l → Owning m → Last m initial (length m.systems) 0 → Owning (left m (entered l).0 kind first initial).1
+left_owning : (l m : Layer) (kind : SystemKind) (first initial : ℕ) → Owning l → Owning m → Last m initial (length m.systems) 0 → Owning (leave_system m (enter_system l).0 kind first initial).1
 left_owning l m kind first initial o h last =
     let s : System = system_of kind m.owned first initial in
     record {
@@ -321,11 +321,11 @@ left_owning l m kind first initial o h last =
       routines = λ n r e. inl (left_outside m s n r (omega arith) (h.routines n r e));
     }
   where
-    go : (k : ℕ) (t : System) → (slice_get m.systems k ≡ Some t) ⊎ ((k ≡ length m.systems) × (t ≡ system_of kind m.owned first initial)) → SystemIs (left m (entered l).0 kind first initial).1 k t
+    go : (k : ℕ) (t : System) → (slice_get m.systems k ≡ Some t) ⊎ ((k ≡ length m.systems) × (t ≡ system_of kind m.owned first initial)) → SystemIs (leave_system m (enter_system l).0 kind first initial).1 k t
     go k t (inl e) = let i = h.systems k t e in record { routine = i.routine; there = i.there; same = i.same; references = i.references; owned = i.owned }
     go k t (inr e) = rw (e.0, e.1) (record { routine = last.routine; there = last.there; same = last.system; references = last.references; owned = h.owned })
 
-left_sized : (l m : Layer) (kind : SystemKind) (first initial : ℕ) → Sized l → Laid l m → Sized (left m (entered l).0 kind first initial).1
+left_sized : (l m : Layer) (kind : SystemKind) (first initial : ℕ) → Sized l → Laid l m → Sized (leave_system m (enter_system l).0 kind first initial).1
 left_sized l m kind first initial z h =
     record {
       types = h.whole.sized.types;
@@ -337,10 +337,10 @@ left_sized l m kind first initial z h =
     go k s (inl e) = h.whole.sized.systems k s e
     go k s (inr e) = rw e.1 h.whole.sized.owned
 
-left_laid : (l m : Layer) (kind : SystemKind) (first initial : ℕ) → Named l → Owning l → Sized l → Laid l m → initial < length m.routines → Last m initial (length m.systems) 0 → SystemLaid (left m (entered l).0 kind first initial)
+left_laid : (l m : Layer) (kind : SystemKind) (first initial : ℕ) → Named l → Owning l → Sized l → Laid l m → initial < length m.routines → Last m initial (length m.systems) 0 → SystemLaid (leave_system m (enter_system l).0 kind first initial)
 left_laid l m kind first initial n own z h lt last =
     let s : System = system_of kind m.owned first initial in
-    let k : Layer = (left m (entered l).0 kind first initial).1 in
+    let k : Layer = (leave_system m (enter_system l).0 kind first initial).1 in
     let more : length (m.systems ++ s ∷ []) ≡ length m.systems + 1 = length-append m.systems (s ∷ []) in
     let less : length l.systems ≡ length m.systems = ap (λ (ss : List System). length ss) (sym h.later.systems) in
     let le : length l.systems ≤ length (m.systems ++ s ∷ []) = omega (arith, more, less) in
@@ -353,11 +353,11 @@ left_laid l m kind first initial n own z h lt last =
       outside = λ i r e. left_outside m s i r (omega arith) (h.whole.owning.routines i r e);
     }
 
-pub system_entered : (l : Layer) → Outside l → Whole l → Laid l (entered l).1
+pub system_entered : (l : Layer) → Outside l → Whole l → Laid l (enter_system l).1
 system_entered l o w =
     let n = w.ground.named in
     let h = w.owning in
-    let k : Layer = (entered l).1 in
+    let k : Layer = (enter_system l).1 in
     record {
       later = record { systems = refl; routines = omega arith; more = []; types = sym (append-nil l.types) };
       whole = whole_around l k (record { names = names_inside (length l.systems) (length l.routines) l.names n.names; types = n.types; systems = n.systems }) (record {
@@ -370,7 +370,7 @@ system_entered l o w =
 pub system_laid : (l : Layer) (s : syntax.System) → Whole l → Outside l → SystemLaid (system l s)
 unfolding system
 system_laid l s w out =
-    let o = entered l in
+    let o = enter_system l in
     let x = system_groups o.1 [] s.parameters in
     let h : Laid l o.1 = system_entered l out w in
     let a : Declared o.1 x.1 = system_groups_declared o.1 [] s.parameters h.whole.ground.named in
@@ -389,10 +389,10 @@ pub definition_laid : (l : Layer) (d : Definition) → Whole l → Outside l →
 definition_laid l (syntax.type_definition t) w o = let h : Typed l (written_type l t) = written_typed l t w.ground.named in record { whole = whole_declared l (written_type l t).1 h.declared w; is = h.is; outside = outside_declared l (written_type l t).1 h.declared o }
 definition_laid l (syntax.system_definition s) w o = system_laid l s w o
 
-pub named_laid : (x : List ℕ) (t : CellType × Layer) → SystemLaid t → Whole (type_named x t) × Outside (type_named x t)
+pub named_laid : (x : List ℕ) (t : CellType × Layer) → SystemLaid t → Whole (with_type_name x t) × Outside (with_type_name x t)
 named_laid x t h =
     let d = name_declared t.1 x (meaning.Kind t.0) h.is h.whole.ground.named in
-    (whole_declared t.1 (type_named x t) d h.whole, outside_declared t.1 (type_named x t) d h.outside)
+    (whole_declared t.1 (with_type_name x t) d h.whole, outside_declared t.1 (with_type_name x t) d h.outside)
 
 pub definitions_laid : (l : Layer) (ds : List SystemDefinition) → Whole l → Outside l → Whole (system_definitions l ds) × Outside (system_definitions l ds)
 unfolding system_definitions

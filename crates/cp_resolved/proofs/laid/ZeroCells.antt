@@ -3,7 +3,7 @@ use Rattle.std.proofs.Common.{◌≡◌, ℕ, ℤ, pos, List, [], ◌∷◌, ◌
 use Rattle.cp_resolved.proofs.Words.{Bool, RoutineView}
 use Rattle.cp_layout.specs.LaidDeclarations.{end_of_body}
 use Rattle.cp_tree.specs.Syntax as syntax
-use Rattle.cp_layout.specs.Layers.{Layer, Frame, Pending, with_cell, frame_with, settled_all, without_pending}
+use Rattle.cp_layout.specs.Layers.{Layer, Frame, Pending, with_cell, frame_with, add_items, without_pending}
 use Rattle.cp_resolved.proofs.laid.Walked.{CallSteps, ItemSteps, ListSteps, any_calls, any_items, any_lists, never, ended_walked, body_walked}
 use Rattle.cp_resolved.specs.ItemsStand.{body_items}
 
@@ -38,7 +38,7 @@ room_zeroed : (g : Frame) (o : Option RoutineView) {f : Frame} → Zeroed f g �
 room_zeroed g None h = h
 room_zeroed g (Some r) h = record { zeros = h.zeros; are = h.are; image = h.image; extents = h.extents }
 
-all_zeroed : (l m : Layer) (ps : List Pending) (next : Option ℕ) → Zeros l m → Zeros l (settled_all m ps next).1
+all_zeroed : (l m : Layer) (ps : List Pending) (next : Option ℕ) → Zeros l m → Zeros l (add_items m ps next).1
 all_zeroed l m [] next h = h
 all_zeroed l m (p ∷ ps) next h = all_zeroed l m ps next h
 

@@ -2,7 +2,7 @@
 use Rattle.std.proofs.Common.{◌≡◌, ◌≤◌, ℕ, zero, suc, List, [], ◌∷◌, ◌++◌, Some, None, slice_get, refl, subst, arith}
 use Rattle.cp_resolved.proofs.Words.{none-some, same_Some, Layer, nothing_laid, no_frame, written_type, whole_laid, true}
 use Rattle.cp_tree.specs.Syntax as syntax
-use Rattle.cp_layout.specs.LaidDeclarations.{Parameters, heading_with, with_new_frame, entered, system_groups, body, initial_statement, routine, routines, system, type_named, definition, system_definition, system_definitions, program_part, program_parts, program}
+use Rattle.cp_layout.specs.LaidDeclarations.{Parameters, heading_with, with_new_frame, enter_system, system_groups, body, initial_statement, routine, routines, system, with_type_name, definition, system_definition, system_definitions, program_part, program_parts, program}
 use Rattle.cp_resolved.specs.Begun.{routine_begun, routines_begun, initial_begun, parameters_of, parts_begun, system_begun, definition_begun, definitions_begun, part_begun, program_parts_begun, all_begun}
 use Rattle.cp_resolved.proofs.laid.Declares.{type_declares, permanent_parts_declare, system_groups_declare}
 use Rattle.cp_resolved.proofs.laid.Extends.{longer_trans, Extends, extends_trans, extends_with, extends_same, declared_extends, heading_extends, body_extends, begun_extends, program_part_extends}
@@ -48,7 +48,7 @@ routines_chain l (r ∷ rs) = (begun_extends l r, chain_after (routine_begun l r
 
 parts_extend : (l : Layer) (s : syntax.System) → Extends l (parts_begun l s)
 parts_extend l s =
-    let x : Layer = (entered l).1 in
+    let x : Layer = (enter_system l).1 in
     let y : Layer = (system_groups x [] s.parameters).1 in
     let a : Extends x y = declared_extends x y (system_groups_declare x [] s.parameters) in
     let b : Extends l y = record { lines = a.lines; types = a.types; constants = a.constants; items = a.items; headings = a.headings; routines = a.routines; systems = a.systems } in
@@ -89,13 +89,13 @@ chain_then : (l k m : Layer) (xs : List Layer) → Chain l xs k → Extends k m 
 chain_then l k m [] h e = extends_trans l k m h e
 chain_then l k m (x ∷ xs) h e = (h.0, chain_then x k m xs h.1 e)
 
-definition_chain : (l : Layer) (n : syntax.SystemDefinition) (v : syntax.Definition) → Chain l (definition_begun l v) (type_named n.name.name (definition l v))
+definition_chain : (l : Layer) (n : syntax.SystemDefinition) (v : syntax.Definition) → Chain l (definition_begun l v) (with_type_name n.name.name (definition l v))
 definition_chain l n (syntax.type_definition t) =
     let x : Layer = (written_type l t).1 in
-    extends_trans l x (type_named n.name.name (written_type l t)) (declared_extends l x (type_declares l t)) (extends_with x _ x.owned x.frame _)
+    extends_trans l x (with_type_name n.name.name (written_type l t)) (declared_extends l x (type_declares l t)) (extends_with x _ x.owned x.frame _)
 definition_chain l n (syntax.system_definition s) =
     let x : Layer = (system l s).1 in
-    chain_then l x (type_named n.name.name (system l s)) (definition_begun l (syntax.system_definition s)) (system_chain l s) (extends_with x _ x.owned x.frame _)
+    chain_then l x (with_type_name n.name.name (system l s)) (definition_begun l (syntax.system_definition s)) (system_chain l s) (extends_with x _ x.owned x.frame _)
 
 definitions_chain : (l : Layer) (ns : List syntax.SystemDefinition) → Chain l (definitions_begun l ns) (system_definitions l ns)
 unfolding system_definitions

@@ -1,6 +1,6 @@
 -- What is laid out of the headings of routines: each has its result, and each routine of a system type is found among its entries.
 use Rattle.std.proofs.Common.{◌≡◌, ◌+◌, ◌<◌, ◌≤◌, ℕ, suc, Bool, true, false, ◌&&◌, if◌then◌else◌, nat_le, nat_lt, List, [], ◌∷◌, ◌++◌, length, Option, Some, None, slice_get, refl, sym, ap, subst, ◌∙◌, inl, inr, arith, append_assoc}
-use Rattle.cp_resolved.proofs.Words.{◌⊎◌, bytes_eq, none-some, bytes_eq-Decides, FunctionResult, Compounds, entry_among, heading, with_heading, opened, routine, routines}
+use Rattle.cp_resolved.proofs.Words.{◌⊎◌, bytes_eq, none-some, bytes_eq-Decides, FunctionResult, Compounds, entry_among, heading, with_heading, open_routine, routine, routines}
 use Rattle.cp_resolved.proofs.Words.{constant_groups, Name, same_name, Ty, Scope, routine_meaning, find, since, routine_in, with_routines, routine_begun, Numbering}
 use Rattle.cp_resolved.proofs.Words.{InStep, with_routine, routine_openings, AreOpened, ResultsAre, IsNoneOf, AreOnce}
 use Rattle.std.proofs.lemmas.Bool.{le-leb, lt-leb, lt-ltb}
@@ -20,11 +20,11 @@ use Rattle.cp_resolved.proofs.names.StepsOfTypes.{named_type_same}
 
 -- the heading of a routine
 abbrev pub heading_of : Layer → syntax.Routine → Heading
-heading_of l r = (heading (opened l r.name.name).1 r.name.name r.kind).0
+heading_of l r = (heading (open_routine l r.name.name).1 r.name.name r.kind).0
 
 pub begun_headings : (l : Layer) (r : syntax.Routine) → (routine_begun l r).headings ≡ l.headings ++ heading_of l r ∷ []
 begun_headings l r =
-    let x : Layer = (opened l r.name.name).1 in
+    let x : Layer = (open_routine l r.name.name).1 in
     let h = heading x r.name.name r.kind in
     ap (λ (j : Layer). j.headings) (local_parts_declare (with_heading h.1 h.0) r.parts).same ∙ ap (λ (j : Layer). j.headings ++ h.0 ∷ []) (heading_declares x r.name.name r.kind).same
 
@@ -55,7 +55,7 @@ AreNamed (h ∷ hs) [] = ⊥
 
 pub headings_named : (l : Layer) (rs : List syntax.Routine) → AreNamed (headings_of l rs) rs
 headings_named l [] = tt
-headings_named l (r ∷ rs) = (heading_name (opened l r.name.name).1 r.name.name r.kind, headings_named (routine l r) rs)
+headings_named l (r ∷ rs) = (heading_name (open_routine l r.name.name).1 r.name.name r.kind, headings_named (routine l r) rs)
 
 pub headings_count : (l : Layer) (rs : List syntax.Routine) → length (headings_of l rs) ≡ length rs
 headings_count l [] = refl
@@ -132,7 +132,7 @@ module _ (k : Numbering) (s : System) (more : List Heading) (y : Name) where
   EntryOr hs n before after = ((find y after ≡ find y before) × (since y after ≡ since y before)) ⊎ IsEntry hs n after
 
   first_entry : (h : Heading) (hs : List Heading) (n : ℕ) (sc : Scope) (r : syntax.Routine) (rs : List syntax.Routine) → s.first ≤ n → n < s.initial → h.name ≡ r.name.name → same_name y r.name.name ≡ true → IsNoneOf r.name.name rs → k.routines n ≡ routine_in (with_routine sc r) r → IsEntry (h ∷ hs) n (with_routines (with_routine sc r) rs)
-  first_entry h hs n sc r rs low high named same none opened =
+  first_entry h hs n sc r rs low high named same none open_routine =
       let e : y ≡ r.name.name = (bytes_eq-Decides y r.name.name).0 same in
       let t : bytes_eq h.name y ≡ true = bytes_turned h.name y ∙ ap (same_name y) named ∙ same in
       let others = none_found y r.name.name (with_routine sc r) rs e none in
@@ -144,7 +144,7 @@ module _ (k : Numbering) (s : System) (more : List Heading) (y : Name) where
             ∙ ap (λ b. if b && bytes_eq h.name y then Some n else entry_among s (hs ++ more) (n + 1) y) (lt-ltb n s.initial high)
             ∙ ap (λ b. if b then Some n else entry_among s (hs ++ more) (n + 1) y) t;
         found = others.0 ∙ ap (λ b. if b then Some (routine_meaning r) else find y sc) same;
-        same = opened ∙ ap (λ sc. routine_in sc r) (sym (others.1 ∙ here));
+        same = open_routine ∙ ap (λ sc. routine_in sc r) (sym (others.1 ∙ here));
         below = omega arith;
       }
 
@@ -164,13 +164,13 @@ module _ (k : Numbering) (s : System) (more : List Heading) (y : Name) where
       inr (record { number = e.number; routine = e.routine; there = passed_entry h hs n t ∙ e.there; found = e.found; same = e.same; below = omega (arith, low) })
 
   pub entries_found : (owner : ℕ) (hs : List Heading) (n : ℕ) (sc : Scope) (rs : List syntax.Routine) → s.first ≤ n → n + length rs ≤ s.initial → AreNamed hs rs → AreOnce rs → AreOpened k.routines n (routine_openings owner sc rs) → EntryOr hs n sc (with_routines sc rs)
-  entries_found owner [] n sc [] low high named once opened = inl (refl, refl)
-  entries_found owner (h ∷ hs) n sc (r ∷ rs) low high named once opened =
+  entries_found owner [] n sc [] low high named once open_routine = inl (refl, refl)
+  entries_found owner (h ∷ hs) n sc (r ∷ rs) low high named once open_routine =
       let e : suc n ≡ n + 1 = omega arith in
-      let next : AreOpened k.routines (n + 1) (routine_openings owner (with_routine sc r) rs) = subst (λ m. AreOpened k.routines m (routine_openings owner (with_routine sc r) rs)) e opened.1 in
+      let next : AreOpened k.routines (n + 1) (routine_openings owner (with_routine sc r) rs) = subst (λ m. AreOpened k.routines m (routine_openings owner (with_routine sc r) rs)) e open_routine.1 in
       go (same_name y r.name.name) refl (entries_found owner hs (n + 1) (with_routine sc r) rs (omega (arith, low)) (omega (arith, high)) named.1 once.1 next)
     where
       go : (b : Bool) → same_name y r.name.name ≡ b → EntryOr hs (n + 1) (with_routine sc r) (with_routines (with_routine sc r) rs) → EntryOr (h ∷ hs) n sc (with_routines (with_routine sc r) rs)
-      go true w rest = inr (first_entry h hs n sc r rs low (omega (arith, high)) named.0 w once.0 opened.0)
+      go true w rest = inr (first_entry h hs n sc r rs low (omega (arith, high)) named.0 w once.0 open_routine.0)
       go false w rest = later_entry h hs n sc r (with_routines (with_routine sc r) rs) named.0 w rest
-  entries_found owner _ n sc _ low high named once opened = absurd named
+  entries_found owner _ n sc _ low high named once open_routine = absurd named

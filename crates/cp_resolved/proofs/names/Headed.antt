@@ -1,6 +1,6 @@
 -- Where the statements of each routine begin, its heading has its parameters, and the routines that are visible belong to its system type.
 use Rattle.std.proofs.Common.{◌≡◌, ◌+◌, ℕ, suc, Bool, true, false, if◌then◌else◌, List, [], ◌∷◌, ◌++◌, length, Option, Some, None, slice_get, refl, sym, ap, subst, ◌∙◌, arith}
-use Rattle.cp_resolved.proofs.Words.{bytes_eq, none-some, same_Some, Identifier, CellType, LayoutMeaning, named_type, Name, Scope, routine_in, system_of}
+use Rattle.cp_resolved.proofs.Words.{bytes_eq, none-some, same_Some, Identifier, CellType, LayoutMeaning, type_of_name, Name, Scope, routine_in, system_of}
 use Rattle.cp_resolved.proofs.Words.{routine_begun, routines_begun, parts_begun, IsDistinctRoutine, AreValues, each_in, in_routine, ParametersAre, Numbering}
 use Rattle.cp_resolved.proofs.Words.{InStep, Opening, with_routine, routine_openings, AreOpened, Each, IsSmallRoutine, AreNumbered}
 use Rattle.cp_tree.specs.Syntax as syntax
@@ -8,7 +8,7 @@ use Rattle.cp_symbols.specs.declared.kinds.CellType.TheVariants as types
 use Rattle.cp_symbols.specs.declared.names.LayoutMeaning.TheVariants as meaning
 use Rattle.cp_layout.specs.Layers as layers
 use Rattle.cp_layout.specs.Layers.{Names, Layer, Heading, System, is_open, seen_inside, outermost, nothing_laid}
-use Rattle.cp_layout.specs.LaidDeclarations.{Parameters, heading, with_heading, opened, routine, routines, entered, system_parameter, system_parameters_of, system_group, system_groups, program_parts}
+use Rattle.cp_layout.specs.LaidDeclarations.{Parameters, heading, with_heading, open_routine, routine, routines, enter_system, system_parameter, system_parameters_of, system_group, system_groups, program_parts}
 use Rattle.cp_resolved.proofs.names.Entries.{last_entry}
 use Rattle.cp_resolved.proofs.names.EntriesKnown.{heading_of, begun_headings}
 use Rattle.cp_resolved.proofs.laid.Extends.{routine_names}
@@ -101,9 +101,9 @@ module _ (k : Numbering) (p : syntax.Program) (os : List Opening) (all : List La
   owned_added : (w : ℕ) (x : List ℕ) (m : LayoutMeaning) (ns : Names) → IsNoRoutine m → AreOwned w ns → AreOwned w ((x, m) ∷ ns)
   owned_added w x m ns h g = (plain_owned w m h, g)
 
-  begun_owned : (w : ℕ) (l : Layer) (r : syntax.Routine) → AreOwned w (opened l r.name.name).1.names → AreOwned w (routine_begun l r).names
+  begun_owned : (w : ℕ) (l : Layer) (r : syntax.Routine) → AreOwned w (open_routine l r.name.name).1.names → AreOwned w (routine_begun l r).names
   begun_owned w l r h =
-      let x : Layer = (opened l r.name.name).1 in
+      let x : Layer = (open_routine l r.name.name).1 in
       let y = heading x r.name.name r.kind in
       kept.local_parts_keep (AreOwned w) IsNoRoutine (owned_added w) (λ b z. tt) (λ v. tt) (λ o v i. tt) (with_heading y.1 y.0) r.parts
       (kept.heading_keep (AreOwned w) IsNoRoutine (owned_added w) (λ b z. tt) (λ v. tt) (λ o v i. tt) x r.name.name r.kind h)
@@ -133,11 +133,11 @@ module _ (k : Numbering) (p : syntax.Program) (os : List Opening) (all : List La
   groups_owned : (w : ℕ) (l : Layer) (ps : Parameters) (gs : List syntax.Group) → AreOwned w l.names → AreOwned w (system_groups l ps gs).1.names
   unfolding system_groups
   groups_owned w l ps [] h = h
-  groups_owned w l ps (g ∷ gs) h = groups_owned w (system_group l ps g).1 (system_group l ps g).0 gs (parameters_owned w l ps (named_type l g.type_name.name) g.names h)
+  groups_owned w l ps (g ∷ gs) h = groups_owned w (system_group l ps g).1 (system_group l ps g).0 gs (parameters_owned w l ps (type_of_name l g.type_name.name) g.names h)
 
   pub parts_owned : (w : ℕ) (l : Layer) (s : syntax.System) → AreOwned w (parts_begun l s).names
   parts_owned w l s =
-      kept.permanent_parts_keep (AreOwned w) IsNoRoutine (owned_added w) (λ b z. tt) (λ v. tt) (λ n v. tt) (λ n v. tt) (system_groups (entered l).1 [] s.parameters).1 s.parts (groups_owned w (entered l).1 [] s.parameters (inside_owned w l.names))
+      kept.permanent_parts_keep (AreOwned w) IsNoRoutine (owned_added w) (λ b z. tt) (λ v. tt) (λ n v. tt) (λ n v. tt) (system_groups (enter_system l).1 [] s.parameters).1 s.parts (groups_owned w (enter_system l).1 [] s.parameters (inside_owned w l.names))
 
   -- nor is there one among the declarations of the program
   outer_owned : (w : ℕ) (ns : Names) → Each (λ d. IsNoRoutine d.1) ns → AreOwned w ns
@@ -163,7 +163,7 @@ module _ (k : Numbering) (p : syntax.Program) (os : List Opening) (all : List La
     pub headed : AreHeaded (length l.routines) (routines_begun l rs) (routine_openings owner s rs)
     pub names : AreOwned owner (routines l rs).names
 
-  routine_headed : (l : Layer) (s : Scope) (owner : ℕ) (r : syntax.Routine) → IsDistinctRoutine r → k.routines (length l.routines) ≡ routine_in (with_routine s r) r → InStep k l.types l.names s → length l.headings ≡ length l.routines → AreOwned owner (opened l r.name.name).1.names →
+  routine_headed : (l : Layer) (s : Scope) (owner : ℕ) (r : syntax.Routine) → IsDistinctRoutine r → k.routines (length l.routines) ≡ routine_in (with_routine s r) r → InStep k l.types l.names s → length l.headings ≡ length l.routines → AreOwned owner (open_routine l r.name.name).1.names →
       Headed (routine_begun l r) (record { meaning = routine_in (with_routine s r) r; owner = owner; name = Some r.name.name })
   routine_headed l s owner r distinct o i c h =
       let b : Layer = routine_begun l r in
@@ -183,7 +183,7 @@ module _ (k : Numbering) (p : syntax.Program) (os : List Opening) (all : List La
       let m : Layer = routine l r in
       let a : Reached k l m (with_routine s r) (in_routine r) = routine_reached k l s r small.0 (numbered_left k (length l.constants) (in_routine r) (each_in in_routine rs) n) o.0 i in
       let rest : List Opening = routine_openings owner (with_routine s r) rs in
-      let named : AreOwned owner (opened l r.name.name).1.names = (record { opening = record { meaning = routine_in (with_routine s r) r; owner = owner; name = Some r.name.name }; there = at.0; owner = refl; routine = tt }, h) in
+      let named : AreOwned owner (open_routine l r.name.name).1.names = (record { opening = record { meaning = routine_in (with_routine s r) r; owner = owner; name = Some r.name.name }; there = at.0; owner = refl; routine = tt }, h) in
       let after : RoutinesHeaded m (with_routine s r) owner rs =
       routines_headed m (with_routine s r) owner rs small.1 distinct.1 (numbered_after k l.constants m.constants (in_routine r) (each_in in_routine rs) a.constants n) (subst (λ j. AreOpened k.routines j rest) (sym (routine_count l r)) o.1) (subst (λ j. AreAt os j rest) (sym (routine_count l r)) at.1) a.names (routine_even k p l r c)
       (subst (AreOwned owner) (sym (routine_names l r)) named) in

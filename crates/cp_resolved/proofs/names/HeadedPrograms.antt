@@ -6,7 +6,7 @@ use Rattle.cp_resolved.proofs.Words.{nothing_declared, Each, IsSmallSystem, IsSm
 use Rattle.cp_tree.specs.Syntax as syntax
 use Rattle.cp_layout.specs.Layers.{Layer, Heading, System, nothing_laid}
 use Rattle.cp_layout.specs.LaidDeclarations as laid
-use Rattle.cp_layout.specs.LaidDeclarations.{Parameters, heading_with, with_new_frame, with_heading, routines, initial_statement, system, type_named, definition, system_definition, system_definitions, program_part, program_parts, constants, variables, program}
+use Rattle.cp_layout.specs.LaidDeclarations.{Parameters, heading_with, with_new_frame, with_heading, routines, initial_statement, system, with_type_name, definition, system_definition, system_definitions, program_part, program_parts, constants, variables, program}
 use Rattle.cp_meaning.specs.Systems.{SystemMeaning, system_in, Declared, definition_in, definitions_in, program_part_in, program_parts_in, declared, program_system, own_meaning, or_own, system_of}
 use Rattle.cp_resolved.specs.Begun.{routines_begun, initial_begun, parameters_of, parts_begun, system_begun, definition_begun, definitions_begun, part_begun, program_parts_begun, all_begun}
 use Rattle.cp_resolved.specs.Enumerations.{Enumerated, each_in, in_part, in_routine, in_definition, in_program_part, enumerations_of}
@@ -159,7 +159,7 @@ module _ (k : Numbering) (p : syntax.Program) (os : List Opening) (all : List La
       }
 
   definition_headed : (l : Layer) (d : Declared) (n : syntax.SystemDefinition) (v : syntax.Definition) → IsSmallDefinition v → IsFitDefinition d v → IsDistinctDefinition v → AreNumbered k.firsts (length l.constants) (in_definition v) → AreOpened k.routines (length l.routines) (definition_openings d v) → AreAt os (length l.routines) (definition_openings d v) → Standing k l d →
-      length l.headings ≡ length l.routines → AreSpans 0 l.systems → IsFirst k p (definition_in d n v).systems → (before rest : List Layer) → all ≡ before ++ (definition_parts l v ++ rest) → length before ≡ length d.systems → DefinedHeaded l (type_named n.name.name (definition l v)) (definition_begun l v) (definition_openings d v)
+      length l.headings ≡ length l.routines → AreSpans 0 l.systems → IsFirst k p (definition_in d n v).systems → (before rest : List Layer) → all ≡ before ++ (definition_parts l v ++ rest) → length before ≡ length d.systems → DefinedHeaded l (with_type_name n.name.name (definition l v)) (definition_begun l v) (definition_openings d v)
   definition_headed l d n (syntax.type_definition t) h f distinct e o at i c spans w before rest place len =
       let a = declared_headed l (written_type l t).1 (type_declares l t) spans c in
       record { headed = tt; spans = a.spans; even = a.even }

@@ -1,6 +1,6 @@
 -- Where the statements of a routine begin, each of its parameters is visible, at the slot that its heading has.
 use Rattle.cp_resolved.proofs.Words.{◌≡◌, ℕ, Bool, true, false, if◌then◌else◌, List, [], ◌∷◌, ◌++◌, length, Some, refl, sym, ap, subst, ◌∙◌, append_assoc, Identifier}
-use Rattle.cp_resolved.proofs.Words.{PlaceOrigin, CellType, LayoutMeaning, Compounds, named_type, Name, same_name, Ty, Scope, local_variable, routine_begun, PassedBy}
+use Rattle.cp_resolved.proofs.Words.{PlaceOrigin, CellType, LayoutMeaning, Compounds, type_of_name, Name, same_name, Ty, Scope, local_variable, routine_begun, PassedBy}
 use Rattle.cp_resolved.proofs.Words.{slot_of, with_routine, Each, itself, Parameter, Heading, names_of, parameters_named, with_group, with_groups, with_parameter_groups}
 use Rattle.cp_resolved.proofs.Words.{type_named, routine_in, IsOther, AreDistinct, all_names, part_names, kind_names, IsDistinctRoutine, IsNoComponent, AreValues}
 use Rattle.std.proofs.lemmas.List.{append-nil}
@@ -11,7 +11,7 @@ use Rattle.cp_layout.specs.declared.layer.Passing.TheVariants as passing
 use Rattle.cp_layout.specs.declared.layer.ParameterLayout as code_parameter
 use Rattle.cp_symbols.specs.declared.names.LayoutMeaning.TheVariants as meaning
 use Rattle.cp_layout.specs.Layers.{Names, Layer, find}
-use Rattle.cp_layout.specs.LaidDeclarations.{Parameters, value_parameter, constant_parameter, constant_parameters_of, constant_group, constant_groups, reference_parameter, var_parameter, var_parameters_of, var_group, parameter_group, parameter_groups, heading, with_heading, opened}
+use Rattle.cp_layout.specs.LaidDeclarations.{Parameters, value_parameter, constant_parameter, constant_parameters_of, constant_group, constant_groups, reference_parameter, var_parameter, var_parameters_of, var_group, parameter_group, parameter_groups, heading, with_heading, open_routine}
 use Rattle.cp_meaning.specs.Types as named
 use Rattle.cp_meaning.specs.Scopes as scopes
 use Rattle.cp_meaning.specs.Declarations as meant
@@ -184,7 +184,7 @@ module _ (k : Numbering) where
   groups_found l ps h [] i o beside distinct f = f
   groups_found l ps h (g ∷ gs) i o beside distinct f =
       let t : Ty = type_named h.scope g.type_name.name in
-      let v : CellType = named_type l g.type_name.name in
+      let v : CellType = type_of_name l g.type_name.name in
       let new : List Parameter = parameters_named (names_of g.names) t false in
       let rest : List Name = all_names (λ (g : syntax.Group). names_of g.names) gs in
       let x : Parameters × Layer = constant_group l ps g in
@@ -198,13 +198,13 @@ module _ (k : Numbering) where
       (groups_found x.1 x.0 j gs (constant_groups_reached k l h ps (g ∷ []) i).names o apart (distinct_right (names_of g.names) rest distinct) (subst (λ ts. AreFound ts x.1.names j.parameters x.0) (sym same) one))
 
   group_types : (b : Bool) (l : Layer) (ps : Parameters) (g : syntax.Group) → (if b then var_group l ps g else constant_group l ps g).1.types ≡ l.types
-  group_types true l ps g = references_types l ps (named_type l g.type_name.name) g.names
-  group_types false l ps g = constants_types l ps (named_type l g.type_name.name) g.names
+  group_types true l ps g = references_types l ps (type_of_name l g.type_name.name) g.names
+  group_types false l ps g = constants_types l ps (type_of_name l g.type_name.name) g.names
 
   group_found : (b : Bool) (l : Layer) (ps : Parameters) (h : Heading) (g : syntax.Group) → InStep k l.types l.names h.scope → AreValues (parameters_named (names_of g.names) (type_named h.scope g.type_name.name) b) → AreBeside h.parameters (names_of g.names) → AreDistinct (names_of g.names) → AreFound l.types l.names h.parameters ps →
       AreFound l.types (if b then var_group l ps g else constant_group l ps g).1.names (with_group local_variable b h g).parameters (if b then var_group l ps g else constant_group l ps g).0
-  group_found true l ps h g i o beside distinct f = references_found l ps h.parameters (type_named h.scope g.type_name.name) (named_type l g.type_name.name) g.names beside distinct f
-  group_found false l ps h g i o beside distinct f = constants_found l ps h.parameters (type_named h.scope g.type_name.name) (named_type l g.type_name.name) g.names o (named_type_same k l h.scope g.type_name.name i) beside distinct f
+  group_found true l ps h g i o beside distinct f = references_found l ps h.parameters (type_named h.scope g.type_name.name) (type_of_name l g.type_name.name) g.names beside distinct f
+  group_found false l ps h g i o beside distinct f = constants_found l ps h.parameters (type_named h.scope g.type_name.name) (type_of_name l g.type_name.name) g.names o (named_type_same k l h.scope g.type_name.name i) beside distinct f
 
   var_groups_found : (l : Layer) (ps : Parameters) (h : Heading) (gs : List syntax.ParameterGroup) → InStep k l.types l.names h.scope → AreValues (with_parameter_groups h gs).parameters → AreBeside h.parameters (all_names (λ g. names_of g.group.names) gs) → AreDistinct (all_names (λ g. names_of g.group.names) gs) → AreFound l.types l.names h.parameters ps →
       AreFound l.types (parameter_groups l ps gs).1.names (with_parameter_groups h gs).parameters (parameter_groups l ps gs).0
@@ -279,10 +279,10 @@ module _ (k : Numbering) where
   heading_types l x syntax.invariants = refl
 
   -- where the statements of a routine begin
-  pub begun_found : (l : Layer) (s : Scope) (r : syntax.Routine) → InStep k l.types (opened l r.name.name).1.names (with_routine s r) → AreValues (routine_in (with_routine s r) r).parameters → IsDistinctRoutine r →
+  pub begun_found : (l : Layer) (s : Scope) (r : syntax.Routine) → InStep k l.types (open_routine l r.name.name).1.names (with_routine s r) → AreValues (routine_in (with_routine s r) r).parameters → IsDistinctRoutine r →
       AreFound (routine_begun l r).types (routine_begun l r).names (routine_in (with_routine s r) r).parameters (heading_of l r).parameters
   begun_found l s r i o distinct =
-      let x : Layer = (opened l r.name.name).1 in
+      let x : Layer = (open_routine l r.name.name).1 in
       let y = heading x r.name.name r.kind in
       let qs : List Parameter = (routine_in (with_routine s r) r).parameters in
       let j : Layer = with_heading y.1 y.0 in

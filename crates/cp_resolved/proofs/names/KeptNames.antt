@@ -4,15 +4,15 @@ use Rattle.cp_resolved.proofs.Words.{Identifier, PlaceOrigin, CellBase, CellType
 use Rattle.cp_tree.specs.Syntax as syntax
 use Rattle.cp_slots.specs.declared.place.PlaceOrigin.TheVariants as origin
 use Rattle.cp_symbols.specs.declared.names.LayoutMeaning.TheVariants as meaning
-use Rattle.cp_layout.specs.LaidTypes.{constant_of, named_type, with_constant, simple_type, enumerated, enumeration_base, written_type, field_groups, field_group}
+use Rattle.cp_layout.specs.LaidTypes.{constant_of, type_of_name, with_constant, simple_type, enumerate, enumeration_base, written_type, field_groups, field_group}
 use Rattle.cp_layout.specs.LaidDeclarations.{constant, constants, type_definition, type_definitions, components_of, variable, variable_with, variables_of, variable_group, variables, local, locals_of, local_group, local_variables, permanent_part, permanent_parts, local_part, local_parts, Parameters, constant_parameter, constant_parameters_of, constant_group, constant_groups, var_parameter, var_parameters_of, var_group, parameter_group, parameter_groups, heading, system, definition, system_definition, system_definitions, program_part, program_parts}
 use Rattle.cp_resolved.proofs.laid.Extends.{system_names}
 
 module _ (Q : Names → Type 0) (A : LayoutMeaning → Type 0) (add : (x : List ℕ) (m : LayoutMeaning) (ns : Names) → A m → Q ns → Q ((x, m) ∷ ns)) (constant_may : (b : CellBase) (z : ℤ) → A (meaning.Constant b z)) (kind_may : (v : CellType) → A (meaning.Kind v)) where
   -- ---- constants and types
 
-  enumerated_keep : (l : Layer) (b : CellBase) (n : ℕ) (is : List Identifier) → Q l.names → Q (enumerated l b n is).names
-  unfolding enumerated
+  enumerated_keep : (l : Layer) (b : CellBase) (n : ℕ) (is : List Identifier) → Q l.names → Q (enumerate l b n is).names
+  unfolding enumerate
   enumerated_keep l b n [] h = h
   enumerated_keep l b n (i ∷ is) h = enumerated_keep (with_constant l i.name (meaning.Constant b (as_integer n))) b (n + 1) is (add i.name _ l.names (constant_may b (as_integer n)) h)
 
@@ -83,11 +83,11 @@ module _ (Q : Names → Type 0) (A : LayoutMeaning → Type 0) (add : (x : List 
     constant_groups_keep : (l : Layer) (ps : Parameters) (gs : List syntax.Group) → Q l.names → Q (constant_groups l ps gs).1.names
     unfolding constant_groups
     constant_groups_keep l ps [] h = h
-    constant_groups_keep l ps (g ∷ gs) h = constant_groups_keep (constant_group l ps g).1 (constant_group l ps g).0 gs (constant_parameters_keep l ps (named_type l g.type_name.name) g.names h)
+    constant_groups_keep l ps (g ∷ gs) h = constant_groups_keep (constant_group l ps g).1 (constant_group l ps g).0 gs (constant_parameters_keep l ps (type_of_name l g.type_name.name) g.names h)
 
     either_group_keep : (b : Bool) (l : Layer) (ps : Parameters) (g : syntax.Group) → Q l.names → Q (if b then var_group l ps g else constant_group l ps g).1.names
-    either_group_keep true l ps g h = var_parameters_keep l ps (named_type l g.type_name.name) g.names h
-    either_group_keep false l ps g h = constant_parameters_keep l ps (named_type l g.type_name.name) g.names h
+    either_group_keep true l ps g h = var_parameters_keep l ps (type_of_name l g.type_name.name) g.names h
+    either_group_keep false l ps g h = constant_parameters_keep l ps (type_of_name l g.type_name.name) g.names h
 
     parameter_groups_keep : (l : Layer) (ps : Parameters) (gs : List syntax.ParameterGroup) → Q l.names → Q (parameter_groups l ps gs).1.names
     unfolding parameter_groups

@@ -6,7 +6,7 @@ use Rattle.cp_resolved.proofs.Words.{initial_meaning, ResultsAre, Numbering, InS
 use Rattle.cp_tree.specs.Syntax as syntax
 use Rattle.cp_symbols.specs.declared.names.LayoutMeaning.TheVariants as meaning
 use Rattle.cp_layout.specs.Layers.{Layer, Heading, System}
-use Rattle.cp_layout.specs.LaidDeclarations.{Parameters, heading, heading_with, body, with_heading, opened, routine, routines, entered, system_groups}
+use Rattle.cp_layout.specs.LaidDeclarations.{Parameters, heading, heading_with, body, with_heading, open_routine, routine, routines, enter_system, system_groups}
 use Rattle.cp_meaning.specs.Scopes as scopes
 use Rattle.cp_meaning.specs.Declarations as meant
 use Rattle.cp_meaning.specs.Declarations.{RoutineMeaning, routine_in, Block, names_of, with_names, types_in, type_in, part_in, parts_in, with_group, with_groups, type_named as named_type}
@@ -80,12 +80,12 @@ named_moved l m ns et es le n =
       systems = subst (λ ss. AreSystems (length m.routines) ss) (sym es) systems;
     }
 
-opened_named : (l : Layer) (x : List ℕ) → Named l → Named (opened l x).1
+opened_named : (l : Layer) (x : List ℕ) → Named l → Named (open_routine l x).1
 opened_named l x n = record { names = (omega arith, n.names); types = n.types; systems = n.systems }
 
 begun_named : (l : Layer) (r : syntax.Routine) → Named l → Named (routine_begun l r)
 begun_named l r n =
-    let x : Layer = (opened l r.name.name).1 in
+    let x : Layer = (open_routine l r.name.name).1 in
     let h = heading x r.name.name r.kind in
     let a : Named h.1 = (heading_declared x r.name.name r.kind (opened_named l r.name.name n)).named in
     let b : Named (with_heading h.1 h.0) = record { names = a.names; types = a.types; systems = a.systems } in
@@ -165,7 +165,7 @@ module _ (k : Numbering) (p : syntax.Program) where
 
   begun_headings_are : (l : Layer) (s : Scope) (r : syntax.Routine) → InStep k l.types l.names s → Opens l s r → length l.headings ≡ length l.routines → HeadingsAre k l.types l.headings → HeadingsAre k (routine_begun l r).types (routine_begun l r).headings
   begun_headings_are l s r i o c h =
-      let x : Layer = (opened l r.name.name).1 in
+      let x : Layer = (open_routine l r.name.name).1 in
       let y : Heading × Layer = heading x r.name.name r.kind in
       let j : Layer = with_heading y.1 y.0 in
       let d : Declares x y.1 = heading_declares x r.name.name r.kind in
@@ -236,19 +236,19 @@ module _ (k : Numbering) (p : syntax.Program) where
 
   parts_named : (l : Layer) (d : syntax.System) → Named l → Named (parts_begun l d)
   parts_named l d n =
-      let o : Layer = (entered l).1 in
+      let o : Layer = (enter_system l).1 in
       let a : Named o = record { names = names_inside (length l.systems) (length l.routines) l.names n.names; types = n.types; systems = n.systems } in
       (permanent_declared (system_groups o [] d.parameters).1 d.parts (system_groups_declared o [] d.parameters a).named).named
 
   pub parts_headings : (l : Layer) (d : syntax.System) → (parts_begun l d).headings ≡ l.headings
   parts_headings l d =
-      let o : Layer = (entered l).1 in
+      let o : Layer = (enter_system l).1 in
       ap (λ (j : Layer). j.headings) (permanent_parts_declare (system_groups o [] d.parameters).1 d.parts).same ∙ ap (λ (j : Layer). j.headings) (system_groups_declare o [] d.parameters).same
 
   -- where the routines of a system type begin
   pub parts_know : (l : Layer) (d : syntax.System) → Knowing l → Knowing (parts_begun l d)
   parts_know l d h =
-      let o : Layer = (entered l).1 in
+      let o : Layer = (enter_system l).1 in
       let y : Layer = (system_groups o [] d.parameters).1 in
       let a : Declares o y = system_groups_declare o [] d.parameters in
       let b : Declares y (parts_begun l d) = permanent_parts_declare y d.parts in

@@ -7,7 +7,7 @@ use Rattle.cp_resolved.proofs.Words.{initial_meaning, Enumerated, each_in, in_pa
 use Rattle.cp_tree.specs.Syntax as syntax
 use Rattle.cp_symbols.specs.declared.names.LayoutMeaning.TheVariants as meaning
 use Rattle.cp_layout.specs.Layers.{Layer, Heading, System, nothing_laid, with_name}
-use Rattle.cp_layout.specs.LaidDeclarations.{heading_with, routine, routines, initial_statement, system_of, system, type_named, system_definition, system_definitions, program_part, program_parts, constants, variables, definition}
+use Rattle.cp_layout.specs.LaidDeclarations.{heading_with, routine, routines, initial_statement, system_of, system, with_type_name, system_definition, system_definitions, program_part, program_parts, constants, variables, definition}
 use Rattle.cp_meaning.specs.Systems as systems
 use Rattle.cp_meaning.specs.Systems.{SystemMeaning, system_in, with_routines, own_meaning, or_own, Declared, definition_in, definitions_in, program_part_in, program_parts_in}
 use Rattle.cp_resolved.specs.Openings.{Opening, with_routine, routine_openings, parts_scope, initial_opening, definition_openings, definitions_openings, part_openings, parts_openings, AreOpened}
@@ -198,7 +198,7 @@ module _ (k : Numbering) (p : syntax.Program) where
       ap (λ o. or_own (own_meaning (systems.declared p) p) o) e
 
   definition_knows : (l : Layer) (d : Declared) (n : syntax.SystemDefinition) (v : syntax.Definition) → IsSmallDefinition v → IsFitDefinition d v → IsOnceDefinition v → AreNumbered k.firsts (length l.constants) (in_definition v) → AreOpened k.routines (length l.routines) (definition_openings d v) → Standing k l d →
-      length l.headings ≡ length l.routines → IsFirst (definition_in d n v).systems → Knowing k p l → Knowing k p (type_named n.name.name (definition l v))
+      length l.headings ≡ length l.routines → IsFirst (definition_in d n v).systems → Knowing k p l → Knowing k p (with_type_name n.name.name (definition l v))
   definition_knows l d n (syntax.type_definition t) h f once e o i c w a =
       let x : declared_parts.Typed l (written_type l t) = declared_parts.written_typed l t a.named in
       name_known (written_type l t).1 n.name.name (meaning.Kind (written_type l t).0) x.is (declares_know k p l (written_type l t).1 (type_declares l t) x.declared.named a)

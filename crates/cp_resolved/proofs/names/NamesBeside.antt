@@ -4,7 +4,7 @@ use Rattle.cp_resolved.proofs.Words.{Identifier, CellBase, CellType, Contained, 
 use Rattle.cp_tree.specs.Syntax as syntax
 use Rattle.cp_symbols.specs.declared.names.LayoutMeaning.TheVariants as meaning
 use Rattle.cp_layout.specs.Layers.{Names, Layer, find}
-use Rattle.cp_layout.specs.LaidTypes.{with_constant, enumerated, enumeration_base, simple_type, written_type, field_groups, field_group}
+use Rattle.cp_layout.specs.LaidTypes.{with_constant, enumerate, enumeration_base, simple_type, written_type, field_groups, field_group}
 use Rattle.cp_layout.specs.LaidDeclarations.{constant, constants, type_definition, type_definitions, components_of, variable, variable_with, variables_of, variable_group, variables, local, locals_of, local_group, local_variables, permanent_part, permanent_parts, local_part, local_parts}
 use Rattle.cp_resolved.specs.Distinct.{IsOther, all_names, simple_names, type_names, groups_names, part_names}
 use Rattle.cp_resolved.proofs.agreeing.AgreeingWritten.{each_left, each_right}
@@ -25,8 +25,8 @@ find_past x n m ns h = ap (λ (b : Bool). if b then Some m else find x ns) (byte
 
 -- ---- constants and types
 
-enumerated_beside : (l : Layer) (b : CellBase) (n : ℕ) (is : List Identifier) → Beside (names_of is) l (enumerated l b n is)
-unfolding enumerated
+enumerated_beside : (l : Layer) (b : CellBase) (n : ℕ) (is : List Identifier) → Beside (names_of is) l (enumerate l b n is)
+unfolding enumerate
 enumerated_beside l b n [] x h = refl
 enumerated_beside l b n (i ∷ is) x h = enumerated_beside (with_constant l i.name (meaning.Constant b (as_integer n))) b (n + 1) is x h.1 ∙ find_past x i.name (meaning.Constant b (as_integer n)) l.names h.0
 

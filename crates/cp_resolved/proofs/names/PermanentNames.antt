@@ -1,7 +1,7 @@
 -- Inside a routine the variables and components of the system type that are visible are those that stand before its routines. What is handed over to
 -- a system type has the name of a parameter, and no component that it contains has one.
 use Rattle.std.proofs.Common.{◌≡◌, ℕ, Bool, true, false, ◌||◌, if◌then◌else◌, List, [], ◌∷◌, ◌++◌, length, Option, Some, None, refl, sym, ap, subst, ◌∙◌, inl, inr, append_assoc}
-use Rattle.cp_resolved.proofs.Words.{◌⊎◌, bytes_eq, same_Some, bytes_eq-Decides, Identifier, PlaceOrigin, CellType, Contained, LayoutMeaning, named_type, written_type}
+use Rattle.cp_resolved.proofs.Words.{◌⊎◌, bytes_eq, same_Some, bytes_eq-Decides, Identifier, PlaceOrigin, CellType, Contained, LayoutMeaning, type_of_name, written_type}
 use Rattle.cp_resolved.proofs.Words.{Ty, Scope, permanent_variable, Name, same_name, routine_begun, parts_begun, IsInFrame, is_parameter, AreOthers, Each}
 use Rattle.std.proofs.lemmas.List.{append-nil}
 use Rattle.cp_tree.specs.Syntax as syntax
@@ -9,7 +9,7 @@ use Rattle.cp_slots.specs.declared.place.PlaceOrigin.TheVariants as origin
 use Rattle.cp_symbols.specs.declared.kinds.CellType.TheVariants as types
 use Rattle.cp_symbols.specs.declared.names.LayoutMeaning.TheVariants as meaning
 use Rattle.cp_layout.specs.Layers.{Names, Layer, find, is_open, seen_inside, outermost, nothing_laid}
-use Rattle.cp_layout.specs.LaidDeclarations.{components_of, variable, variable_with, variables_of, variable_group, variables, permanent_part, permanent_parts, Parameters, heading, with_heading, opened, routine, routines, entered, system_parameter, system_parameters_of, system_group, system_groups, program_parts}
+use Rattle.cp_layout.specs.LaidDeclarations.{components_of, variable, variable_with, variables_of, variable_group, variables, permanent_part, permanent_parts, Parameters, heading, with_heading, open_routine, routine, routines, enter_system, system_parameter, system_parameters_of, system_group, system_groups, program_parts}
 use Rattle.cp_meaning.specs.Declarations as meant
 use Rattle.cp_meaning.specs.Declarations.{Variable, Block, Parameter, names_of, with_group, with_groups, parameters_named, named_variables, type_in, with_names, type_named, variables_in, part_in, parts_in}
 use Rattle.cp_resolved.proofs.laid.Extends.{routine_names}
@@ -60,7 +60,7 @@ in_frame_other _ v h i = i
 
 pub under_routine : (outer : Names) (l : Layer) (r : syntax.Routine) → Under outer l.names → Under outer (routine_begun l r).names
 under_routine outer l r u =
-    let x : Layer = (opened l r.name.name).1 in
+    let x : Layer = (open_routine l r.name.name).1 in
     let h = heading x r.name.name r.kind in
     let a : Under outer x.names = under_added outer r.name.name (meaning.Routine (length l.routines)) l.names (λ i. i) u in
     let b : Under outer h.1.names = kept.heading_keep (Under outer) IsOther (under_added outer) (λ b z i. i) (λ v i. i) in_frame_other x r.name.name r.kind a in
@@ -102,7 +102,7 @@ routine_inside n i e = cc
 pub own_number : (l : Layer) (r : syntax.Routine) (x : Name) → same_name x r.name.name ≡ true → OnlyRoutine (length l.routines) x (routine_begun l r).names
 own_number l r x same =
     let n : ℕ = length l.routines in
-    let y : Layer = (opened l r.name.name).1 in
+    let y : Layer = (open_routine l r.name.name).1 in
     let h = heading y r.name.name r.kind in
     let t : bytes_eq r.name.name x ≡ true = same_turned x r.name.name same in
     let first : OnlyRoutine n x y.names = λ i e. routine_inside n i (same_Some (meaning.Routine n) (meaning.Routine i) (sym (ap (λ b. if b then Some (meaning.Routine n) else find x l.names) t) ∙ e)) in
@@ -194,14 +194,14 @@ unfolding system_groups
 groups_bound h l ps [] u = u
 groups_bound h l ps (g ∷ gs) u =
     let x : Parameters × Layer = system_group l ps g in
-    groups_bound (with_group permanent_variable false h g) x.1 x.0 gs (parameters_bound h.parameters l ps (type_named h.scope g.type_name.name) false (named_type l g.type_name.name) g.names u)
+    groups_bound (with_group permanent_variable false h g) x.1 x.0 gs (parameters_bound h.parameters l ps (type_named h.scope g.type_name.name) false (type_of_name l g.type_name.name) g.names u)
 
 pub parts_bound : (s : Scope) (l : Layer) (d : syntax.System) → BoundIn (with_groups permanent_variable (record { parameters = []; scope = s }) d.parameters).parameters (parts_begun l d).names
 parts_bound s l d =
     let h : meant.Heading = record { parameters = []; scope = s } in
     let qs : List Parameter = (with_groups permanent_variable h d.parameters).parameters in
-    let a : BoundIn [] (entered l).1.names = λ x n k e. absurd (let w : false ≡ true = open_found x (meaning.Bound n k) l.names e in cc) in
-    kept.permanent_parts_keep (BoundIn qs) IsUnbound (bound_added qs) (λ b z. tt) (λ v. tt) (λ n v. tt) (λ n v. tt) (system_groups (entered l).1 [] d.parameters).1 d.parts (groups_bound h (entered l).1 [] d.parameters a)
+    let a : BoundIn [] (enter_system l).1.names = λ x n k e. absurd (let w : false ≡ true = open_found x (meaning.Bound n k) l.names e in cc) in
+    kept.permanent_parts_keep (BoundIn qs) IsUnbound (bound_added qs) (λ b z. tt) (λ v. tt) (λ n v. tt) (λ n v. tt) (system_groups (enter_system l).1 [] d.parameters).1 d.parts (groups_bound h (enter_system l).1 [] d.parameters a)
 
 -- ---- components that are contained
 
@@ -291,7 +291,7 @@ parameters_contained l ps v (i ∷ is) u = parameters_contained (system_paramete
 groups_contained : (l : Layer) (ps : Parameters) (gs : List syntax.Group) → ContainedIn [] l.names → ContainedIn [] (system_groups l ps gs).1.names
 unfolding system_groups
 groups_contained l ps [] u = u
-groups_contained l ps (g ∷ gs) u = groups_contained (system_group l ps g).1 (system_group l ps g).0 gs (parameters_contained l ps (named_type l g.type_name.name) g.names u)
+groups_contained l ps (g ∷ gs) u = groups_contained (system_group l ps g).1 (system_group l ps g).0 gs (parameters_contained l ps (type_of_name l g.type_name.name) g.names u)
 
 other_name : (x : Name) (qs : List Parameter) (vs : List Variable) → AreOthers qs vs → is_variable x vs ≡ true → is_parameter x qs ≡ false
 other_name x qs [] h e = absurd (let w : false ≡ true = e in cc)
@@ -306,7 +306,7 @@ FirstsApart qs ns = (x : List ℕ) (n : ℕ) (v : CellType) → find x ns ≡ So
 
 pub parts_first : (qs : List Parameter) (b : Block) (l : Layer) (d : syntax.System) → b.variables ≡ [] → AreOthers qs (parts_in permanent_variable b d.parts).variables → FirstsApart qs (parts_begun l d).names
 parts_first qs b l d none h x n v e =
-    let a : ContainedIn [] (entered l).1.names = λ x n k e. absurd (let w : false ≡ true = open_found x (meaning.Contained n k) l.names e in cc) in
-    let y : Layer = (system_groups (entered l).1 [] d.parameters).1 in
-    let c : ContainedIn b.variables y.names = subst (λ vs. ContainedIn vs y.names) (sym none) (groups_contained (entered l).1 [] d.parameters a) in
+    let a : ContainedIn [] (enter_system l).1.names = λ x n k e. absurd (let w : false ≡ true = open_found x (meaning.Contained n k) l.names e in cc) in
+    let y : Layer = (system_groups (enter_system l).1 [] d.parameters).1 in
+    let c : ContainedIn b.variables y.names = subst (λ vs. ContainedIn vs y.names) (sym none) (groups_contained (enter_system l).1 [] d.parameters a) in
     other_name x qs (parts_in permanent_variable b d.parts).variables h (parts_contained b y d.parts c x n v e)

@@ -1,6 +1,6 @@
 -- Where names are in step with a scope of limited types, each variable begins with at most 8,192 cells. It does so where fewer names stand too.
 use Rattle.std.proofs.Common.{ℕ, ◌≤◌, Bool, true, false, if◌then◌else◌, List, [], ◌∷◌, ◌++◌, length, Some, sym, ap, subst, ◌⊎◌, inl, inr, arith, le_trans}
-use Rattle.cp_resolved.proofs.Words.{bytes_eq, CellType, LayoutMeaning, Compounds, least, Names, Layer, find_type, named_type, type_meant, Ty, Scope, Each}
+use Rattle.cp_resolved.proofs.Words.{bytes_eq, CellType, LayoutMeaning, Compounds, least, Names, Layer, find_type, type_of_name, type_meant, Ty, Scope, Each}
 use Rattle.cp_symbols.specs.declared.names.LayoutMeaning.TheVariants as meaning
 use Rattle.cp_meaning.specs.Scopes as scopes
 use Rattle.cp_resolved.specs.InStep.{Numbering, TypeIs, CellsAre, PartsAre, BoundIs, MeaningIs, InStep}
@@ -80,5 +80,5 @@ type_small ts x ((n, meaning.Bound i s) ∷ ds) h = type_small ts x ds h.1
 type_small ts x ((n, meaning.Routine i) ∷ ds) h = type_small ts x ds h.1
 type_small ts x ((n, meaning.Predeclared q) ∷ ds) h = type_small ts x ds h.1
 
-pub named_small : (l : Layer) (x : List ℕ) → SmallNames l → IsSmallIn l.types (named_type l x)
+pub named_small : (l : Layer) (x : List ℕ) → SmallNames l → IsSmallIn l.types (type_of_name l x)
 named_small l x h = type_small l.types x l.names h

@@ -193,12 +193,12 @@ module _ (k : Numbering) where
   constant_groups_reached l h ps (g ∷ gs) i =
       let x : Parameters × Layer = constant_group l ps g in
       let j : Heading = meant.with_group scopes.local_variable false h g in
-      let a : Reached l x.1 j.scope [] = constant_parameters_reached l h.scope ps (meant.type_named h.scope g.type_name.name) (laid.named_type l g.type_name.name) g.names (named_type_same k l h.scope g.type_name.name i) i in
+      let a : Reached l x.1 j.scope [] = constant_parameters_reached l h.scope ps (meant.type_named h.scope g.type_name.name) (laid.type_of_name l g.type_name.name) g.names (named_type_same k l h.scope g.type_name.name i) i in
       reached_trans l x.1 (constant_groups x.1 x.0 gs).1 j.scope (meant.with_groups scopes.local_variable j gs).scope [] [] a (constant_groups_reached x.1 j x.0 gs a.names)
 
   pub either_group_reached : (b c : Bool) (l : Layer) (h : Heading) (ps : Parameters) (g : syntax.Group) → InStep k l.types l.names h.scope → Reached l (if b then var_group l ps g else constant_group l ps g).1 (meant.with_group scopes.local_variable c h g).scope []
-  either_group_reached true c l h ps g i = var_parameters_reached l h.scope ps (meant.type_named h.scope g.type_name.name) (laid.named_type l g.type_name.name) g.names (named_type_same k l h.scope g.type_name.name i) i
-  either_group_reached false c l h ps g i = constant_parameters_reached l h.scope ps (meant.type_named h.scope g.type_name.name) (laid.named_type l g.type_name.name) g.names (named_type_same k l h.scope g.type_name.name i) i
+  either_group_reached true c l h ps g i = var_parameters_reached l h.scope ps (meant.type_named h.scope g.type_name.name) (laid.type_of_name l g.type_name.name) g.names (named_type_same k l h.scope g.type_name.name i) i
+  either_group_reached false c l h ps g i = constant_parameters_reached l h.scope ps (meant.type_named h.scope g.type_name.name) (laid.type_of_name l g.type_name.name) g.names (named_type_same k l h.scope g.type_name.name i) i
 
   pub parameter_groups_reached : (l : Layer) (h : Heading) (ps : Parameters) (gs : List syntax.ParameterGroup) → InStep k l.types l.names h.scope → Reached l (parameter_groups l ps gs).1 (meant.with_parameter_groups h gs).scope []
   unfolding parameter_groups
@@ -250,5 +250,5 @@ module _ (k : Numbering) where
   system_groups_reached l h ps (g ∷ gs) f i =
       let x : Parameters × Layer = system_group l ps g in
       let j : Heading = meant.with_group scopes.permanent_variable false h g in
-      let a : Reached l x.1 j.scope [] = system_parameters_reached l h.scope ps (meant.type_named h.scope g.type_name.name) (laid.named_type l g.type_name.name) g.names f.0 (named_type_same k l h.scope g.type_name.name i) i in
+      let a : Reached l x.1 j.scope [] = system_parameters_reached l h.scope ps (meant.type_named h.scope g.type_name.name) (laid.type_of_name l g.type_name.name) g.names f.0 (named_type_same k l h.scope g.type_name.name i) i in
       reached_trans l x.1 (system_groups x.1 x.0 gs).1 j.scope (meant.with_groups scopes.permanent_variable j gs).scope [] [] a (system_groups_reached x.1 j x.0 gs f.1 a.names)

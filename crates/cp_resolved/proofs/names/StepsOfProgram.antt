@@ -5,7 +5,7 @@ use Rattle.cp_resolved.proofs.Words.{IsSmallProgramPart, IsSmallProgram, AreNumb
 use Rattle.std.proofs.lemmas.List.{append-nil}
 use Rattle.cp_tree.specs.Syntax as syntax
 use Rattle.cp_symbols.specs.declared.kinds.CellType.TheVariants as types
-use Rattle.cp_layout.specs.LaidDeclarations.{heading_with, with_new_frame, with_heading, routines, initial_statement, entered, system_groups, permanent_parts, system, type_named, definition, system_definition, system_definitions, program_part, program_parts, constants, variables, program}
+use Rattle.cp_layout.specs.LaidDeclarations.{heading_with, with_new_frame, with_heading, routines, initial_statement, enter_system, system_groups, permanent_parts, system, with_type_name, definition, system_definition, system_definitions, program_part, program_parts, constants, variables, program}
 use Rattle.cp_meaning.specs.Scopes as scopes
 use Rattle.cp_meaning.specs.Declarations as meant
 use Rattle.cp_meaning.specs.Systems.{Declared, definition_in, definitions_in, program_part_in, program_parts_in, declared, program_system, own_meaning, system_in}
@@ -46,14 +46,14 @@ module _ (k : Numbering) where
   pub system_count : (l : Layer) (s : syntax.System) → length (system l s).1.routines ≡ length l.routines + (length s.routines + 1)
   unfolding system
   system_count l s =
-      let z : Layer = permanent_parts (system_groups (entered l).1 [] s.parameters).1 s.parts in
+      let z : Layer = permanent_parts (system_groups (enter_system l).1 [] s.parameters).1 s.parts in
       let e : suc (length l.routines + length s.routines) ≡ length l.routines + (length s.routines + 1) = omega arith in
-      body_count (with_heading (with_new_frame (system_begun l s)) (heading_with [] (system_groups (entered l).1 [] s.parameters).0 None)) s.body true ∙ ap suc (routines_count z s.routines) ∙ ap (λ rs. suc (length rs + length s.routines)) (groups_routines l s) ∙ e
+      body_count (with_heading (with_new_frame (system_begun l s)) (heading_with [] (system_groups (enter_system l).1 [] s.parameters).0 None)) s.body true ∙ ap suc (routines_count z s.routines) ∙ ap (λ rs. suc (length rs + length s.routines)) (groups_routines l s) ∙ e
 
-  pub initial_systems : (l : Layer) (s : syntax.System) → (initial_statement (system_begun l s) (system_groups (entered l).1 [] s.parameters).0 s.body).systems ≡ l.systems
+  pub initial_systems : (l : Layer) (s : syntax.System) → (initial_statement (system_begun l s) (system_groups (enter_system l).1 [] s.parameters).0 s.body).systems ≡ l.systems
   initial_systems l s =
-      let z : Layer = permanent_parts (system_groups (entered l).1 [] s.parameters).1 s.parts in
-      body_systems (with_heading (with_new_frame (system_begun l s)) (heading_with [] (system_groups (entered l).1 [] s.parameters).0 None)) s.body true ∙ routines_systems z s.routines ∙ groups_systems l s
+      let z : Layer = permanent_parts (system_groups (enter_system l).1 [] s.parameters).1 s.parts in
+      body_systems (with_heading (with_new_frame (system_begun l s)) (heading_with [] (system_groups (enter_system l).1 [] s.parameters).0 None)) s.body true ∙ routines_systems z s.routines ∙ groups_systems l s
 
   system_number : (l : Layer) (s : syntax.System) → (system l s).0 ≡ types.System (length l.systems)
   unfolding system
@@ -62,11 +62,11 @@ module _ (k : Numbering) where
   system_systems : (l : Layer) (s : syntax.System) → length (system l s).1.systems ≡ suc (length l.systems)
   unfolding system
   system_systems l s =
-      let m : Layer = initial_statement (system_begun l s) (system_groups (entered l).1 [] s.parameters).0 s.body in
+      let m : Layer = initial_statement (system_begun l s) (system_groups (enter_system l).1 [] s.parameters).0 s.body in
       one_longer m.systems _ ∙ ap (λ ss. suc (length ss)) (initial_systems l s)
 
   pub definition_stood : (l : Layer) (d : Declared) (n : syntax.SystemDefinition) (v : syntax.Definition) → IsSmallDefinition v → IsFitDefinition d v → AreNumbered k.firsts (length l.constants) (in_definition v) → AreOpened k.routines (length l.routines) (definition_openings d v) → Standing l d →
-      Stood l (type_named n.name.name (definition l v)) (definition_in d n v) (in_definition v) (length (definition_openings d v))
+      Stood l (with_type_name n.name.name (definition l v)) (definition_in d n v) (in_definition v) (length (definition_openings d v))
   definition_stood l d n (syntax.type_definition t) h f e o i =
       let w : Written k l (written_type l t) (meant.type_in d.scope t) (in_type t) = type_written k l d.scope t h e i.names in
       let x : Declares l (written_type l t).1 = type_declares l t in

@@ -6,7 +6,7 @@ use Rattle.cp_symbols.specs.declared.names.LayoutMeaning.TheVariants as meaning
 use Rattle.cp_layout.specs.Layers.{Names, Layer, Heading, routine_of}
 use Rattle.cp_resolved.proofs.Words.{Scope, routine_in, with_routines, system_in, Enumerated, each_in, in_part, in_routine, in_system, names_among, Numbering, Bool, true}
 use Rattle.cp_resolved.proofs.Words.{InStep, AreOuter, Opening, with_routine, routine_openings, parts_scope, AreOpened, routine_begun, parts_begun, system_begun}
-use Rattle.cp_layout.specs.LaidDeclarations.{heading, heading_with, body, with_new_frame, with_heading, opened, routine, routines, entered, system_groups, permanent_parts, system}
+use Rattle.cp_layout.specs.LaidDeclarations.{heading, heading_with, body, with_new_frame, with_heading, open_routine, routine, routines, enter_system, system_groups, permanent_parts, system}
 use Rattle.cp_meaning.specs.Scopes as scopes
 use Rattle.cp_meaning.specs.Declarations as meant
 use Rattle.cp_resolved.specs.Small.{Each, IsSmallPart, IsSmallRoutine, IsSmallSystem, AreNumbered, AreParameters}
@@ -22,13 +22,13 @@ use Rattle.cp_resolved.specs.ItemsStand.{body_items}
 
 pub begun_routines : (l : Layer) (r : syntax.Routine) → (routine_begun l r).routines ≡ l.routines
 begun_routines l r =
-    let x : Layer = (opened l r.name.name).1 in
+    let x : Layer = (open_routine l r.name.name).1 in
     let h : Heading × Layer = heading x r.name.name r.kind in
     ap (λ (j : Layer). j.routines) (local_parts_declare (with_heading h.1 h.0) r.parts).same ∙ ap (λ (j : Layer). j.routines) (heading_declares x r.name.name r.kind).same
 
 pub begun_systems : (l : Layer) (r : syntax.Routine) → (routine_begun l r).systems ≡ l.systems
 begun_systems l r =
-    let x : Layer = (opened l r.name.name).1 in
+    let x : Layer = (open_routine l r.name.name).1 in
     let h : Heading × Layer = heading x r.name.name r.kind in
     ap (λ (j : Layer). j.systems) (local_parts_declare (with_heading h.1 h.0) r.parts).same ∙ ap (λ (j : Layer). j.systems) (heading_declares x r.name.name r.kind).same
 
@@ -80,15 +80,15 @@ opened_right f n (o ∷ os) ps h =
     let e : suc n + length os ≡ n + suc (length os) = omega arith in
     subst (λ m. AreOpened f m ps) e (opened_right f (suc n) os ps h.1)
 
-pub groups_routines : (l : Layer) (s : syntax.System) → (permanent_parts (system_groups (entered l).1 [] s.parameters).1 s.parts).routines ≡ l.routines
+pub groups_routines : (l : Layer) (s : syntax.System) → (permanent_parts (system_groups (enter_system l).1 [] s.parameters).1 s.parts).routines ≡ l.routines
 groups_routines l s =
-    let y : Layer = (system_groups (entered l).1 [] s.parameters).1 in
-    ap (λ (j : Layer). j.routines) (permanent_parts_declare y s.parts).same ∙ ap (λ (j : Layer). j.routines) (system_groups_declare (entered l).1 [] s.parameters).same
+    let y : Layer = (system_groups (enter_system l).1 [] s.parameters).1 in
+    ap (λ (j : Layer). j.routines) (permanent_parts_declare y s.parts).same ∙ ap (λ (j : Layer). j.routines) (system_groups_declare (enter_system l).1 [] s.parameters).same
 
-pub groups_systems : (l : Layer) (s : syntax.System) → (permanent_parts (system_groups (entered l).1 [] s.parameters).1 s.parts).systems ≡ l.systems
+pub groups_systems : (l : Layer) (s : syntax.System) → (permanent_parts (system_groups (enter_system l).1 [] s.parameters).1 s.parts).systems ≡ l.systems
 groups_systems l s =
-    let y : Layer = (system_groups (entered l).1 [] s.parameters).1 in
-    ap (λ (j : Layer). j.systems) (permanent_parts_declare y s.parts).same ∙ ap (λ (j : Layer). j.systems) (system_groups_declare (entered l).1 [] s.parameters).same
+    let y : Layer = (system_groups (enter_system l).1 [] s.parameters).1 in
+    ap (λ (j : Layer). j.systems) (permanent_parts_declare y s.parts).same ∙ ap (λ (j : Layer). j.systems) (system_groups_declare (enter_system l).1 [] s.parameters).same
 
 -- ---- routines
 
@@ -97,7 +97,7 @@ module _ (k : Numbering) where
   pub begun_reached : (l : Layer) (s : Scope) (r : syntax.Routine) → IsSmallRoutine r → AreNumbered k.firsts (length l.constants) (in_routine r) → k.routines (length l.routines) ≡ routine_in (with_routine s r) r → InStep k l.types l.names s →
       Reached k l (routine_begun l r) (routine_in (with_routine s r) r).scope (in_routine r)
   begun_reached l s r h n e i =
-      let x : Layer = (opened l r.name.name).1 in
+      let x : Layer = (open_routine l r.name.name).1 in
       let y : Heading × Layer = heading x r.name.name r.kind in
       let j : Layer = with_heading y.1 y.0 in
       let t : Scope = with_routine s r in
@@ -137,7 +137,7 @@ module _ (k : Numbering) where
   pub parts_begun_reached : (l : Layer) (s : Scope) (d : syntax.System) → Each IsSmallPart d.parts → AreParameters (record { parameters = []; scope = scopes.seen_inside s }) d.parameters → AreOuter s →
       AreNumbered k.firsts (length l.constants) (each_in in_part d.parts) → InStep k l.types l.names s → Reached k l (parts_begun l d) (parts_scope (scopes.seen_inside s) d) (each_in in_part d.parts)
   parts_begun_reached l s d h f g n i =
-      let x : Layer = (entered l).1 in
+      let x : Layer = (enter_system l).1 in
       let y : Layer = (system_groups x [] d.parameters).1 in
       let u : Scope = scopes.seen_inside s in
       let v : Scope = (meant.with_groups scopes.permanent_variable (record { parameters = []; scope = u }) d.parameters).scope in
@@ -172,5 +172,5 @@ module _ (k : Numbering) where
       let b : InStep k (l.types ++ x.types.0) l.names s = names_grown k l.types x.types.0 l.names s i in
       record {
         names = subst (λ ts. InStep k ts l.names s) (sym x.types.1) b;
-        constants = body_constants (with_heading (with_new_frame (system_begun l d)) (heading_with [] (system_groups (entered l).1 [] d.parameters).0 None)) d.body true ∙ a.constants;
+        constants = body_constants (with_heading (with_new_frame (system_begun l d)) (heading_with [] (system_groups (enter_system l).1 [] d.parameters).0 None)) d.body true ∙ a.constants;
       }

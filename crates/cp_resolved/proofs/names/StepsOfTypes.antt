@@ -17,7 +17,7 @@ use Rattle.cp_symbols.specs.Kinds.{Compounds, Compound, Field, array, record_wit
 use Rattle.cp_layout.specs.Kinds.{Fields, array_type}
 use Rattle.cp_layout.specs.Layers as layers
 use Rattle.cp_layout.specs.LaidTypes as laid
-use Rattle.cp_layout.specs.LaidTypes.{opposite_number, signed_number, with_constant, enumerated, enumeration_base, first_constant, simple_type, written_type, field_groups, field_group, fields_of_type}
+use Rattle.cp_layout.specs.LaidTypes.{opposite_number, number_with_sign, with_constant, enumerate, enumeration_base, first_constant, simple_type, written_type, field_groups, field_group, fields_of_type}
 use Rattle.cp_meaning.specs.Types as named
 use Rattle.cp_meaning.specs.Scopes as scopes
 use Rattle.cp_meaning.specs.Declarations as meant
@@ -48,7 +48,7 @@ zero_signed : (o : Option Sign) → meant.signed o (pos 0) ≡ pos 0
 zero_signed (Some sign.Plus) = refl
 zero_signed _ = refl
 
-sign_same : (o : Option Sign) (z : ℤ) → IsSmall z → (signed_number o z ≡ meant.signed o z) × IsSmall (meant.signed o z)
+sign_same : (o : Option Sign) (z : ℤ) → IsSmall z → (number_with_sign o z ≡ meant.signed o z) × IsSmall (meant.signed o z)
 sign_same (Some sign.Minus) z h = opposite z h
 sign_same _ z h = (refl, h)
 
@@ -82,7 +82,7 @@ module _ (k : Numbering) where
 
   kind_same : (ts : Compounds) (ds : Names) (s : Scope) (c : ConstantKind) → IsSmallConstant c → InStep k ts ds s → ConstantIs (laid.constant_of_kind ds c) (meant.constant_of_kind s c)
   kind_same ts ds s (constant_kind.Number o n) h i =
-      (ap (λ z. (base.Integer, signed_number o z)) (small_natural n h) ∙ ap (λ z. (base.Integer, z)) (sign_same o (pos n) h).0, (sign_same o (pos n) h).1)
+      (ap (λ z. (base.Integer, number_with_sign o z)) (small_natural n h) ∙ ap (λ z. (base.Integer, z)) (sign_same o (pos n) h).0, (sign_same o (pos n) h).1)
   kind_same ts ds s (constant_kind.Name o x) h i = name_same ts o (layers.find x.name ds) (scopes.find x.name s) (scopes.since x.name s) (found_in k ts x.name ds s i)
   kind_same ts ds s (constant_kind.Character c) h i = (refl, omega (arith, h))
 
@@ -122,19 +122,19 @@ module _ (k : Numbering) where
   latest_same ts x ((n, m) ∷ ds) ((y, scopes.routine_meaning r) ∷ es) h = passed ts es x n m (meaning.Routine h.1.0) ds h.1.1 refl (latest_same ts x ds es h.2)
   latest_same ts x ((n, m) ∷ ds) ((y, scopes.standard_meaning q) ∷ es) h = passed ts es x n m (meaning.Predeclared (predeclared_as q)) ds h.1 refl (latest_same ts x ds es h.2)
 
-  pub named_type_same : (l : Layer) (s : Scope) (x : List ℕ) → InStep k l.types l.names s → TypeIs k l.types (meant.type_named s x) (laid.named_type l x)
+  pub named_type_same : (l : Layer) (s : Scope) (x : List ℕ) → InStep k l.types l.names s → TypeIs k l.types (meant.type_named s x) (laid.type_of_name l x)
   named_type_same l s x h = latest_same l.types x l.names s h
 
   -- ---- enumerations
 
   -- the constants have the numbers from n on
   record Counted (l : Layer) (b : CellBase) (n : ℕ) (is : List Identifier) (s : Scope) : Type 0 where
-    names : InStep k l.types (enumerated l b n is).names s
-    types : (enumerated l b n is).types ≡ l.types
-    constants : (enumerated l b n is).constants ≡ l.constants ++ map (λ i. i.name) is
+    names : InStep k l.types (enumerate l b n is).names s
+    types : (enumerate l b n is).types ≡ l.types
+    constants : (enumerate l b n is).constants ≡ l.constants ++ map (λ i. i.name) is
 
   counted : (l : Layer) (s : Scope) (c : named.Base) (n : ℕ) (is : List Identifier) → n + length is ≤ 32768 → InStep k l.types l.names s → Counted l (base_of k c) n is (meant.with_constants c n (map (λ i. i.name) is) s)
-  unfolding enumerated
+  unfolding enumerate
   counted l s c n [] h i = record { names = i; types = refl; constants = sym (append-nil l.constants) }
   counted l s c n (x ∷ xs) h i =
       let m : Layer = with_constant l x.name (meaning.Constant (base_of k c) (as_integer n)) in
@@ -169,14 +169,14 @@ module _ (k : Numbering) where
       ∙ ap (λ n. base.Enumeration (k.firsts at) (pos (n - 1))) (sym (length-map is (λ i. i.name)))
 
   enumeration_written : (l : Layer) (s : Scope) (at : ℕ) (is : List Identifier) (b : CellBase) → b ≡ base_of k (named.enumerated at (map (λ i. i.name) is)) → length is ≤ 32768 → InStep k l.types l.names s →
-      Written l (symbol_kinds.values_of b, enumerated l b 0 is) (meant.simple_in s (syntax.enumeration at is)) ((let e : Enumerated = record { at = at; names = is } in e) ∷ [])
+      Written l (symbol_kinds.values_of b, enumerate l b 0 is) (meant.simple_in s (syntax.enumeration at is)) ((let e : Enumerated = record { at = at; names = is } in e) ∷ [])
   enumeration_written l s at is b e j h =
       let c : named.Base = named.enumerated at (map (λ i. i.name) is) in
       let w : Counted l (base_of k c) 0 is (meant.with_constants c 0 (map (λ i. i.name) is) s) = counted l s c 0 is (let z : 0 + length is ≤ 32768 = omega (arith, j) in z) h in
-      subst (λ b. Written l (symbol_kinds.values_of b, enumerated l b 0 is) (meant.simple_in s (syntax.enumeration at is)) ((let e : Enumerated = record { at = at; names = is } in e) ∷ [])) (sym e)
+      subst (λ b. Written l (symbol_kinds.values_of b, enumerate l b 0 is) (meant.simple_in s (syntax.enumeration at is)) ((let e : Enumerated = record { at = at; names = is } in e) ∷ [])) (sym e)
       (record {
         belongs = ap (λ n. types.Ordinal (record { base = base_of k c; low = pos 0; high = pos (n - 1) })) (length-map is (λ i. i.name));
-        names = subst (λ ts. InStep k ts (enumerated l (base_of k c) 0 is).names (meant.with_constants c 0 (map (λ i. i.name) is) s)) (sym w.types) w.names;
+        names = subst (λ ts. InStep k ts (enumerate l (base_of k c) 0 is).names (meant.with_constants c 0 (map (λ i. i.name) is) s)) (sym w.types) w.names;
         constants = w.constants ∙ ap (λ xs. l.constants ++ xs) (sym (append-nil (map (λ i. i.name) is)));
       })
 

@@ -1,6 +1,6 @@
 -- Where the routines of a system type begin, each of its parameters has the slot that the heading of its initial statement has.
 use Rattle.cp_resolved.proofs.Words.{◌≡◌, ℕ, false, List, [], ◌∷◌, ◌++◌, Some, refl, sym, ap, subst, ◌∙◌, append_assoc, Identifier, CellType, LayoutMeaning, Compounds}
-use Rattle.cp_resolved.proofs.Words.{named_type, Name, same_name, Ty, Scope, permanent_variable, seen_inside, system_in, parameters_of, parts_begun, PassedBy}
+use Rattle.cp_resolved.proofs.Words.{type_of_name, Name, same_name, Ty, Scope, permanent_variable, seen_inside, system_in, parameters_of, parts_begun, PassedBy}
 use Rattle.cp_resolved.proofs.Words.{ParametersAre, Each, AreParameters, slot_in, Parameter, Heading, names_of, parameters_named, with_group, with_groups, type_named}
 use Rattle.std.proofs.lemmas.List.{append-nil}
 use Rattle.cp_tree.specs.Syntax as syntax
@@ -9,7 +9,7 @@ use Rattle.cp_symbols.specs.declared.kinds.CellType.TheVariants as types
 use Rattle.cp_layout.specs.declared.layer.ParameterLayout as code_parameter
 use Rattle.cp_symbols.specs.declared.names.LayoutMeaning.TheVariants as meaning
 use Rattle.cp_layout.specs.Layers.{Names, Layer, find}
-use Rattle.cp_layout.specs.LaidDeclarations.{Parameters, value_parameter, cell_parameter, passed_component, system_parameter, system_parameters_of, system_group, system_groups, entered, permanent_parts}
+use Rattle.cp_layout.specs.LaidDeclarations.{Parameters, value_parameter, cell_parameter, parameter_for_component, system_parameter, system_parameters_of, system_group, system_groups, enter_system, permanent_parts}
 use Rattle.cp_meaning.specs.Types as named
 use Rattle.cp_resolved.specs.Distinct.{IsOther, AreDistinct, all_names, part_names, parameter_names, AreApart, IsNoComponent}
 use Rattle.cp_resolved.specs.InStep.{Numbering, range_on, TypeIs, InStep, AreOuter}
@@ -71,7 +71,7 @@ module _ (k : Numbering) where
   one_more l ps qs x (named.array_over r t) v h e f = subst (OneMore l ps qs x (named.array_over r t)) (sym h.is) (cell_more l ps qs x (named.array_over r t) (types.Array h.number) tt (subst (TypeIs k l.types (named.array_over r t)) h.is h) e f)
   one_more l ps qs x (named.record_with us) v h e f = subst (OneMore l ps qs x (named.record_with us)) (sym h.is) (cell_more l ps qs x (named.record_with us) (types.Record h.number) tt (subst (TypeIs k l.types (named.record_with us)) h.is h) e f)
   one_more l ps qs x (named.component_of n) v h e f =
-      subst (OneMore l ps qs x (named.component_of n)) (sym h) (one_slot l.types l.names qs ps (record { name = x; ty = named.component_of n; is_var = false }) (passed_component l.owned.cells) (meaning.Bound l.owned.cells n) refl refl e f)
+      subst (OneMore l ps qs x (named.component_of n)) (sym h) (one_slot l.types l.names qs ps (record { name = x; ty = named.component_of n; is_var = false }) (parameter_for_component l.owned.cells) (meaning.Bound l.owned.cells n) refl refl e f)
 
   -- ---- groups
 
@@ -87,7 +87,7 @@ module _ (k : Numbering) where
   groups_types : (l : Layer) (ps : Parameters) (gs : List syntax.Group) → (system_groups l ps gs).1.types ≡ l.types
   unfolding system_groups
   groups_types l ps [] = refl
-  groups_types l ps (g ∷ gs) = groups_types (system_group l ps g).1 (system_group l ps g).0 gs ∙ parameters_types l ps (named_type l g.type_name.name) g.names
+  groups_types l ps (g ∷ gs) = groups_types (system_group l ps g).1 (system_group l ps g).0 gs ∙ parameters_types l ps (type_of_name l g.type_name.name) g.names
 
   parameters_found : (l : Layer) (ps : Parameters) (qs : List Parameter) (t : Ty) (v : CellType) (is : List Identifier) → TypeIs k l.types t v → AreBeside qs (names_of is) → AreDistinct (names_of is) → Slots l.types l.names qs ps →
       Slots l.types (system_parameters_of l ps v is).1.names (qs ++ parameters_named (names_of is) t false) (system_parameters_of l ps v is).0
@@ -109,7 +109,7 @@ module _ (k : Numbering) where
   groups_found l ps h [] o i beside distinct f = f
   groups_found l ps h (g ∷ gs) o i beside distinct f =
       let t : Ty = type_named h.scope g.type_name.name in
-      let v : CellType = named_type l g.type_name.name in
+      let v : CellType = type_of_name l g.type_name.name in
       let new : List Parameter = parameters_named (names_of g.names) t false in
       let rest : List Name = all_names (λ (g : syntax.Group). names_of g.names) gs in
       let x : Parameters × Layer = system_group l ps g in
@@ -129,7 +129,7 @@ module _ (k : Numbering) where
   pub parts_found : (l : Layer) (s : Scope) (d : syntax.System) → AreParameters (record { parameters = []; scope = seen_inside s }) d.parameters → AreOuter s → InStep k l.types l.names s → AreApart (parameter_names d) d.parts →
       ParametersAre k (parts_begun l d).types (slots_in (parts_begun l d).names) (system_in (seen_inside s) d).parameters (parameters_of l d)
   parts_found l s d o g i apart =
-      let x : Layer = (entered l).1 in
+      let x : Layer = (enter_system l).1 in
       let u : Heading = record { parameters = []; scope = seen_inside s } in
       let y : Parameters × Layer = system_groups x [] d.parameters in
       let z : Layer = permanent_parts y.1 d.parts in

@@ -1,6 +1,6 @@
 -- In a program that breaks no rule no routine calls itself.
 use Rattle.std.proofs.Common.{◌≡◌, ℕ, ◌+◌, ◌≤◌, ◌∙◌, Bool, true, false, if◌then◌else◌, List, [], ◌∷◌, ◌++◌, length, Option, Some, None, Ok, Err, is_some, refl, sym, ap, subst, arith}
-use Rattle.cp_resolved.proofs.Words.{bytes_eq, bytes_eq-Decides, SystemKind, Identifier, ValueType, Use, no_use, Judged, ◌>>=◌, faults, Context, Step, as_declared}
+use Rattle.cp_resolved.proofs.Words.{bytes_eq, bytes_eq-Decides, SystemKind, Identifier, ValueType, Use, no_use, Judged, ◌>>=◌, faults, Context, Step, meaning_or_none}
 use Rattle.cp_resolved.proofs.Words.{to_kind, reserve_name, part_steps, Loud, Heard, Each, parts_kept, written_kept, last_is}
 use Rattle.cp_tree.specs.Syntax as syntax
 use Rattle.cp_tree.specs.Syntax.{Routine, Body, System, Definition, SystemDefinition, ProgramPart, Tree}
@@ -13,7 +13,7 @@ use Rattle.cp_check.specs.Headings as headings
 use Rattle.cp_check.specs.Routines as routines
 use Rattle.cp_check.specs.Systems as systems
 use Rattle.cp_check.specs.Statements.{statements}
-use Rattle.cp_check.specs.Faults.{declarations, program_context, opened as checked_opened, faults_of}
+use Rattle.cp_check.specs.Faults.{declarations, program_context, open_routine as checked_opened, faults_of}
 use Rattle.cp_lawful.proofs.Classes as classes
 use Rattle.cp_lawful.proofs.Once.{no_left, no_right, no_first, none_before, inside_sound, defined_sound, declarations_sound, parts_sound, uses_sound as limits_sound}
 use Rattle.cp_lawful.proofs.Told as told
@@ -23,7 +23,7 @@ use Rattle.cp_symbols.specs.declared.names.LayoutMeaning.TheVariants as meaning
 use Rattle.cp_layout.specs.Layers as layers
 use Rattle.cp_layout.specs.Layers.{Layer, Pending, find, seen_inside, with_open, nothing_laid}
 use Rattle.cp_layout.specs.LaidDeclarations as lays
-use Rattle.cp_layout.specs.LaidDeclarations.{body, Parameters, heading, heading_with, with_heading, with_new_frame, opened, local_parts, permanent_parts, system_groups, entered, initial_statement, definition, system, system_definition, system_definitions, program_part, program_parts, program}
+use Rattle.cp_layout.specs.LaidDeclarations.{body, Parameters, heading, heading_with, with_heading, with_new_frame, open_routine, local_parts, permanent_parts, system_groups, enter_system, initial_statement, definition, system, system_definition, system_definitions, program_part, program_parts, program}
 use Rattle.cp_tree.specs.Spelling.{is_nameless}
 use Rattle.cp_resolved.proofs.declarations.NamedRoutines.{IsApartBy, IsRoutine}
 use Rattle.cp_resolved.proofs.declarations.Nameless.{IsKnownBy, EachIn, EachInPart, EachRoutine}
@@ -103,8 +103,8 @@ not_inside x c e = go c.is_sealed
     go false = e
 
 -- a routine's name in the scope around
-known_outside : (r : Routine) (j : Judged (Option ValueType)) (s before : Scopes) → Loud j → faults j ≡ [] → s.outer ≡ before.outer ++ sealed false before.inner ∷ [] → is_some (scopes.find r.name.name before.inner.names) ≡ false → look_outer r.name.name (headings.announced_of r j s).outer ≡ Some (Some (checked_meaning.Routine r.name.at))
-unfolding headings.announced add_around keep
+known_outside : (r : Routine) (j : Judged (Option ValueType)) (s before : Scopes) → Loud j → faults j ≡ [] → s.outer ≡ before.outer ++ sealed false before.inner ∷ [] → is_some (scopes.find r.name.name before.inner.names) ≡ false → look_outer r.name.name (headings.announce_judged r j s).outer ≡ Some (Some (checked_meaning.Routine r.name.at))
+unfolding headings.announce add_around keep
 known_outside r (Ok t) s before loud none outer new =
     let m : Option checked.Meaning = Some (checked_meaning.Routine r.name.at) in
     let around : last_of s.outer ≡ (let a : Around = record { outer = before.outer; inner = sealed false before.inner } in a) = ap last_of outer ∙ last_is before.outer (sealed false before.inner) in
@@ -113,8 +113,8 @@ known_outside r (Ok t) s before loud none outer new =
 known_outside r (Err []) s before loud none outer new = absurd loud
 known_outside r (Err (f ∷ fs)) s before loud none outer new = absurd (let bad : f ∷ fs ≡ [] = none in cc)
 
-pub announced_names : (r : Routine) (j : Judged (Option ValueType)) (s : Scopes) → (headings.announced_of r j s).inner.names ≡ s.inner.names
-unfolding headings.announced add_around keep
+pub announced_names : (r : Routine) (j : Judged (Option ValueType)) (s : Scopes) → (headings.announce_judged r j s).inner.names ≡ s.inner.names
+unfolding headings.announce add_around keep
 announced_names r (Ok t) s = refl
 announced_names r (Err fs) s = refl
 
@@ -122,13 +122,13 @@ entered_outer : (s : Scopes) → (enter false s).outer ≡ s.outer ++ sealed fal
 unfolding enter
 entered_outer s = refl
 
-heading_scopes : (k : Option SystemKind) (r : Routine) (d : Step) → (headings.heading k r d).scopes ≡ (headings.written (enter false d.scopes) r.kind).scopes
+heading_scopes : (k : Option SystemKind) (r : Routine) (d : Step) → (headings.heading k r d).scopes ≡ (headings.parameters_and_result (enter false d.scopes) r.kind).scopes
 unfolding headings.heading
 heading_scopes k r d = refl
 
 name_sound : (k : Option SystemKind) (r : Routine) (d : Step) → faults (headings.heading k r d).result ≡ [] → d.faults ≡ []
 unfolding headings.heading
-name_sound k r d e = none_before d.faults (headings.written (enter false d.scopes) r.kind).result (no_first (headings.after_faults d.faults (headings.written (enter false d.scopes) r.kind).result) (headings.ruled k r) e)
+name_sound k r d e = none_before d.faults (headings.parameters_and_result (enter false d.scopes) r.kind).result (no_first (headings.after_faults d.faults (headings.parameters_and_result (enter false d.scopes) r.kind).result) (headings.check_heading k r) e)
 
 nothing_entered : (s : Scopes) (y : List ℕ) → scopes.find y (enter false s).inner.names ≡ None
 unfolding enter
@@ -136,19 +136,19 @@ nothing_entered s y = refl
 
 -- under its own name alone the routine is known in its statements
 own_named : (k : Option SystemKind) (l : Layer) (s : Scopes) (r : Routine) → IsNew l →
-    (y : List ℕ) → find y (local_parts (with_heading (heading (opened l r.name.name).1 r.name.name r.kind).1 (heading (opened l r.name.name).1 r.name.name r.kind).0) r.parts).names ≡ Some (meaning.Routine (length l.routines)) → y ≡ r.name.name
+    (y : List ℕ) → find y (local_parts (with_heading (heading (open_routine l r.name.name).1 r.name.name r.kind).1 (heading (open_routine l r.name.name).1 r.name.name r.kind).0) r.parts).names ≡ Some (meaning.Routine (length l.routines)) → y ≡ r.name.name
 own_named k l s r new y e =
     let n : ℕ = length l.routines in
     let d : Step = reserve_name s r.name in
     let g : headings.Headed = headings.heading k r d in
-    let known : Scopes = headings.announced_of r g.result g.scopes in
+    let known : Scopes = headings.announce_judged r g.result g.scopes in
     let after : Scopes = (part_steps spot.Other known r.parts).scopes in
     let Q : List ℕ → Type 0 = λ z. z ≡ r.name.name in
-    let x : Layer = (opened l r.name.name).1 in
+    let x : Layer = (open_routine l r.name.name).1 in
     let h = heading x r.name.name r.kind in
     let begun : Inside Q n x.names (enter false d.scopes) = λ z. first z in
-    let headed : Inside Q n h.1.names (headings.written (enter false d.scopes) r.kind).scopes = heading_inside Q n x (enter false d.scopes) r.name.name r.kind begun in
-    let there : Inside Q n h.1.names known = moved Q n h.1.names (headings.written (enter false d.scopes) r.kind).scopes known (announced_names r g.result g.scopes ∙ ap (λ (u : Scopes). u.inner.names) (heading_scopes k r d)) headed in
+    let headed : Inside Q n h.1.names (headings.parameters_and_result (enter false d.scopes) r.kind).scopes = heading_inside Q n x (enter false d.scopes) r.name.name r.kind begun in
+    let there : Inside Q n h.1.names known = moved Q n h.1.names (headings.parameters_and_result (enter false d.scopes) r.kind).scopes known (announced_names r g.result g.scopes ∙ ap (λ (u : Scopes). u.inner.names) (heading_scopes k r d)) headed in
     let last : Inside Q n (local_parts (with_heading h.1 h.0) r.parts).names after = local_parts_inside Q n spot.Other (with_heading h.1 h.0) known r.parts there in
     (last y e).0
   where
@@ -161,20 +161,20 @@ own_named k l s r new y e =
 
 -- and there it is the one that is checked
 seen_as : (k : Option SystemKind) (l : Layer) (s : Scopes) (r : Routine) → IsNew l → Told s → faults (headings.heading k r (reserve_name s r.name)).result ≡ [] →
-    (y : List ℕ) → find y (local_parts (with_heading (heading (opened l r.name.name).1 r.name.name r.kind).1 (heading (opened l r.name.name).1 r.name.name r.kind).0) r.parts).names ≡ Some (meaning.Routine (length l.routines)) →
-    look y (part_steps spot.Other (headings.announced_of r (headings.heading k r (reserve_name s r.name)).result (headings.heading k r (reserve_name s r.name)).scopes) r.parts).scopes ≡ Some (Some (checked_meaning.Routine r.name.at))
+    (y : List ℕ) → find y (local_parts (with_heading (heading (open_routine l r.name.name).1 r.name.name r.kind).1 (heading (open_routine l r.name.name).1 r.name.name r.kind).0) r.parts).names ≡ Some (meaning.Routine (length l.routines)) →
+    look y (part_steps spot.Other (headings.announce_judged r (headings.heading k r (reserve_name s r.name)).result (headings.heading k r (reserve_name s r.name)).scopes) r.parts).scopes ≡ Some (Some (checked_meaning.Routine r.name.at))
 seen_as k l s r new tells none y e =
     let n : ℕ = length l.routines in
     let d : Step = reserve_name s r.name in
     let g : headings.Headed = headings.heading k r d in
-    let known : Scopes = headings.announced_of r g.result g.scopes in
+    let known : Scopes = headings.announce_judged r g.result g.scopes in
     let after : Scopes = (part_steps spot.Other known r.parts).scopes in
     let Q : List ℕ → Type 0 = λ z. z ≡ r.name.name in
-    let x : Layer = (opened l r.name.name).1 in
+    let x : Layer = (open_routine l r.name.name).1 in
     let h = heading x r.name.name r.kind in
     let begun : Inside Q n x.names (enter false d.scopes) = λ z. first z in
-    let headed : Inside Q n h.1.names (headings.written (enter false d.scopes) r.kind).scopes = heading_inside Q n x (enter false d.scopes) r.name.name r.kind begun in
-    let there : Inside Q n h.1.names known = moved Q n h.1.names (headings.written (enter false d.scopes) r.kind).scopes known (announced_names r g.result g.scopes ∙ ap (λ (u : Scopes). u.inner.names) (heading_scopes k r d)) headed in
+    let headed : Inside Q n h.1.names (headings.parameters_and_result (enter false d.scopes) r.kind).scopes = heading_inside Q n x (enter false d.scopes) r.name.name r.kind begun in
+    let there : Inside Q n h.1.names known = moved Q n h.1.names (headings.parameters_and_result (enter false d.scopes) r.kind).scopes known (announced_names r g.result g.scopes ∙ ap (λ (u : Scopes). u.inner.names) (heading_scopes k r d)) headed in
     let last : Inside Q n (local_parts (with_heading h.1 h.0) r.parts).names after = local_parts_inside Q n spot.Other (with_heading h.1 h.0) known r.parts there in
     let mine = last y e in
     let loud : Loud g.result = told.heading_loud k r d (told.name_reserved_told s r.name tells) in
@@ -190,14 +190,14 @@ seen_as k l s r new tells none y e =
         go true same f = (sym ((bytes_eq-Decides r.name.name z).0 same), nothing_entered (reserve_name s r.name).scopes z)
         go false same f = absurd (new z f)
 
-routine_sound : (k : Option SystemKind) (s : Scopes) (r : Routine) → (routines.routine_step k s r).faults ≡ [] → (faults (headings.heading k r (reserve_name s r.name)).result ≡ []) × (faults (routines.opened k r (headings.announced_of r (headings.heading k r (reserve_name s r.name)).result (headings.heading k r (reserve_name s r.name)).scopes)).uses ≡ [])
+routine_sound : (k : Option SystemKind) (s : Scopes) (r : Routine) → (routines.routine_step k s r).faults ≡ [] → (faults (headings.heading k r (reserve_name s r.name)).result ≡ []) × (faults (routines.enter_routine k r (headings.announce_judged r (headings.heading k r (reserve_name s r.name)).result (headings.heading k r (reserve_name s r.name)).scopes)).uses ≡ [])
 unfolding routines.routine_step
 routine_sound k s r e =
     let g : headings.Headed = headings.heading k r (reserve_name s r.name) in
-    (no_left (faults g.result) (faults (routines.opened k r (headings.announced_of r g.result g.scopes)).uses) e, no_right (faults g.result) (faults (routines.opened k r (headings.announced_of r g.result g.scopes)).uses) e)
+    (no_left (faults g.result) (faults (routines.enter_routine k r (headings.announce_judged r g.result g.scopes)).uses) e, no_right (faults g.result) (faults (routines.enter_routine k r (headings.announce_judged r g.result g.scopes)).uses) e)
 
-uses_sound : (k : Option SystemKind) (r : Routine) (s : Scopes) → faults (routines.opened k r s).uses ≡ [] → ((part_steps spot.Other s r.parts).faults ≡ []) × (faults (statements (part_steps spot.Other s r.parts).scopes (routines.routine_context k r) (Ok no_use) r.body.statements) ≡ [])
-unfolding routines.opened
+uses_sound : (k : Option SystemKind) (r : Routine) (s : Scopes) → faults (routines.enter_routine k r s).uses ≡ [] → ((part_steps spot.Other s r.parts).faults ≡ []) × (faults (statements (part_steps spot.Other s r.parts).scopes (routines.routine_context k r) (Ok no_use) r.body.statements) ≡ [])
+unfolding routines.enter_routine
 uses_sound k r s e =
     let d : Step = part_steps spot.Other s r.parts in
     let j : Judged Use = statements d.scopes (routines.routine_context k r) (Ok no_use) r.body.statements in
@@ -213,11 +213,11 @@ routine_foreign : (k : Option SystemKind) (l : Layer) (s : Scopes) (r : Routine)
 routine_foreign k l s r is whole new tells e foreign =
     let d : Step = reserve_name s r.name in
     let g : headings.Headed = headings.heading k r d in
-    let known : Scopes = headings.announced_of r g.result g.scopes in
+    let known : Scopes = headings.announce_judged r g.result g.scopes in
     let after : Step = part_steps spot.Other known r.parts in
     let sound = routine_sound k s r e in
     let uses = uses_sound k r known sound.1 in
-    let x : Layer = (opened l r.name.name).1 in
+    let x : Layer = (open_routine l r.name.name).1 in
     let h = heading x r.name.name r.kind in
     let m : Layer = local_parts (with_heading h.1 h.0) r.parts in
     let begun : Whole x = whole_declared l x (routine_opened l r.name.name whole.ground.named) whole in
@@ -237,7 +237,7 @@ routine_foreign k l s r is whole new tells e foreign =
 
 routine_count : (l : Layer) (r : Routine) → Whole l → length (lays.routine l r).routines ≡ length l.routines + 1
 routine_count l r whole =
-    let x : Layer = (opened l r.name.name).1 in
+    let x : Layer = (open_routine l r.name.name).1 in
     let h = heading x r.name.name r.kind in
     let m : Layer = local_parts (with_heading h.1 h.0) r.parts in
     let begun : Whole x = whole_declared l x (routine_opened l r.name.name whole.ground.named) whole in
@@ -270,19 +270,19 @@ routines_foreign k l s (r ∷ rs) is whole new tells e foreign =
 
 -- ---- system types
 
-initial_sound : (s : Scopes) (y : System) → faults (systems.system_typed s y).type ≡ [] → faults (statements (systems.inside (enter true s) y).scopes (systems.initial_context y.kind) (Ok no_use) y.body.statements) ≡ []
-unfolding systems.system_typed systems.opened
+initial_sound : (s : Scopes) (y : System) → faults (systems.system_type s y).type ≡ [] → faults (statements (systems.inside (enter true s) y).scopes (systems.initial_context y.kind) (Ok no_use) y.body.statements) ≡ []
+unfolding systems.system_type systems.enter_system
 initial_sound s y h =
     let d : Step = systems.inside (enter true s) y in
-    told.none_after d.faults (statements d.scopes (systems.initial_context y.kind) (Ok no_use) y.body.statements) (no_first (systems.opened (enter true s) y).uses (systems.to_component y.kind y.at) h)
+    told.none_after d.faults (statements d.scopes (systems.initial_context y.kind) (Ok no_use) y.body.statements) (no_first (systems.enter_system (enter true s) y).uses (systems.to_component y.kind y.at) h)
 
-entered_nobody : (l : Layer) (s : Scopes) (n : ℕ) → Inside nobody n (entered l).1.names (enter true s)
+entered_nobody : (l : Layer) (s : Scopes) (n : ℕ) → Inside nobody n (enter_system l).1.names (enter true s)
 entered_nobody l s n y e = absurd (seen_no_routine y l.names n e)
 
 record SystemForeign (l : Layer) (s : Scopes) (y : System) : Type 0 where
-  inside : AreForeign (lays.system_inside (system_groups (entered l).1 [] y.parameters).1 y).items
-  new : IsNew (lays.system_inside (system_groups (entered l).1 [] y.parameters).1 y)
-  whole : Whole (lays.system_inside (system_groups (entered l).1 [] y.parameters).1 y)
+  inside : AreForeign (lays.system_inside (system_groups (enter_system l).1 [] y.parameters).1 y).items
+  new : IsNew (lays.system_inside (system_groups (enter_system l).1 [] y.parameters).1 y)
+  whole : Whole (lays.system_inside (system_groups (enter_system l).1 [] y.parameters).1 y)
 
 inside_foreign : (l : Layer) (s : Scopes) (y : System) → Each IsRoutine y.routines → Whole l → Outside l → Told s → (systems.inside (enter true s) y).faults ≡ [] → AreForeign l.items → SystemForeign l s y
 unfolding systems.inside
@@ -294,7 +294,7 @@ inside_foreign l s y is whole outside tells e foreign =
     let later = no_right given.faults _ e in
     let given_none : given.faults ≡ [] = no_left given.faults _ e in
     let parts_none : parts.faults ≡ [] = no_left parts.faults (routines.routine_steps (Some k) parts.scopes y.routines).faults later in
-    let o : Layer = (entered l).1 in
+    let o : Layer = (enter_system l).1 in
     let whole_o : Whole o = (system_entered l outside whole).whole in
     let x = system_groups o [] y.parameters in
     let p : Layer = permanent_parts x.1 y.parts in
@@ -310,16 +310,16 @@ inside_foreign l s y is whole outside tells e foreign =
     let done = routines_foreign (Some k) p parts.scopes y.routines is whole_p (λ z f. (nobody_parts z f).0) told_parts (no_right parts.faults (routines.routine_steps (Some k) parts.scopes y.routines).faults later) (subst AreForeign (sym same_items) foreign) in
     record { inside = done.0; new = done.1; whole = (routines_laid p y.routines whole_p).whole }
 
-defined_is : (s : Scopes) (y : System) → faults (systems.system_typed s y).type ≡ [] → faults (systems.defined s (syntax.system_definition y)).type ≡ []
-unfolding systems.defined
+defined_is : (s : Scopes) (y : System) → faults (systems.system_type s y).type ≡ [] → faults (systems.type_of_definition s (syntax.system_definition y)).type ≡ []
+unfolding systems.type_of_definition
 defined_is s y h = h
 
-system_foreign : (l : Layer) (s : Scopes) (y : System) → Each IsRoutine y.routines → Whole l → Outside l → Told s → faults (systems.system_typed s y).type ≡ [] → AreForeign l.items → AreForeign (system l y).1.items
+system_foreign : (l : Layer) (s : Scopes) (y : System) → Each IsRoutine y.routines → Whole l → Outside l → Told s → faults (systems.system_type s y).type ≡ [] → AreForeign l.items → AreForeign (system l y).1.items
 unfolding system
 system_foreign l s y is whole outside tells e foreign =
     let sound : (systems.inside (enter true s) y).faults ≡ [] = inside_sound s y (defined_is s y e) in
     let inside : SystemForeign l s y = inside_foreign l s y is whole outside tells sound foreign in
-    let x = system_groups (entered l).1 [] y.parameters in
+    let x = system_groups (enter_system l).1 [] y.parameters in
     let hears : Heard (systems.inside (enter true s) y).scopes = heard (systems.inside (enter true s) y).scopes (told.inside_told (enter true s) y sound (told.enter_told true s tells)) in
     initial_foreign (lays.system_inside x.1 y) x.0 y.body (systems.inside (enter true s) y).scopes (systems.initial_context y.kind) inside.whole inside.new inside.inside hears (initial_sound s y e)
 
@@ -332,12 +332,12 @@ record Outer (l : Layer) (s : Scopes) : Type 0 where
   foreign : AreForeign l.items
   none : NoneInside l.names s
 
-defined_foreign : (l : Layer) (s : Scopes) (v : Definition) → EachIn IsRoutine v → Outer l s → faults (systems.defined s v).type ≡ [] → AreForeign (definition l v).1.items × NoneInside (definition l v).1.names (systems.defined s v).scopes
-unfolding systems.defined
+defined_foreign : (l : Layer) (s : Scopes) (v : Definition) → EachIn IsRoutine v → Outer l s → faults (systems.type_of_definition s v).type ≡ [] → AreForeign (definition l v).1.items × NoneInside (definition l v).1.names (systems.type_of_definition s v).scopes
+unfolding systems.type_of_definition
 defined_foreign l s (syntax.type_definition t) is h e = (subst AreForeign (sym (ap (λ (j : Layer). j.items) (written_typed l t h.whole.ground.named).declared.same)) h.foreign, λ n. type_inside nobody n l s spot.Definition t (h.none n))
 defined_foreign l s (syntax.system_definition y) is h e = (
   system_foreign l s y is h.whole h.outside h.tells e h.foreign,
-  λ n. subst (λ (ns : layers.Names). Inside nobody n ns (systems.system_typed s y).scopes) (sym (system_names l y)) (moved nobody n l.names s (systems.system_typed s y).scopes (told.system_names s y) (h.none n)),
+  λ n. subst (λ (ns : layers.Names). Inside nobody n ns (systems.system_type s y).scopes) (sym (system_names l y)) (moved nobody n l.names s (systems.system_type s y).scopes (told.system_names s y) (h.none n)),
 )
 
 outer_reserved : (l : Layer) (s : Scopes) (i : Identifier) → Outer l s → Outer l (reserve_name s i).scopes
@@ -355,7 +355,7 @@ definition_outer l s d is h e =
       outside = laid_here.1;
       tells = told.definition_told s d e h.tells;
       foreign = done.0;
-      none = λ n. one_inside nobody n (definition l d.value).1.names (systems.defined named d.value).scopes d.name (meaning.Kind (definition l d.value).0) (as_declared ((systems.defined named d.value).type >>= to_kind)) tt (done.1 n);
+      none = λ n. one_inside nobody n (definition l d.value).1.names (systems.type_of_definition named d.value).scopes d.name (meaning.Kind (definition l d.value).0) (meaning_or_none ((systems.type_of_definition named d.value).type >>= to_kind)) tt (done.1 n);
     }
 
 definitions_outer : (l : Layer) (s : Scopes) (ds : List SystemDefinition) → Each (λ (d : SystemDefinition). EachIn IsRoutine d.value) ds → Outer l s → (systems.definition_steps s ds).faults ≡ [] → Outer (system_definitions l ds) (systems.definition_steps s ds).scopes

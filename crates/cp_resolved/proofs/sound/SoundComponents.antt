@@ -1,7 +1,7 @@
 -- The components, processes and system types of tables that are laid out are sound, where the counts of processes and monitors have not stopped.
 use Rattle.std.proofs.Common.{◌≡◌, ℕ, zero, suc, ◌+◌, ◌-◌, ◌*◌, ◌^◌, ◌<◌, ◌≤◌, ℤ, List, [], ◌∷◌, length, Option, Some, None, slice_get, slice_index_or, refl, sym, ap, subst, ◌∙◌, inl, inr, arith, length-append, le_trans}
 use Rattle.cp_resolved.proofs.Words.{none-some, same_Some, slice_get_within, Tree, Component, ComponentKind, ComponentParameter, Process, plus, Listing, byte}
-use Rattle.cp_resolved.proofs.Words.{contents_least, program_listed, program, Layer, System, need_of, nothing_laid}
+use Rattle.cp_resolved.proofs.Words.{contents_least, components_of_program, program, Layer, System, need_of, nothing_laid}
 use Rattle.cp_tree.specs.declared.declaration.SystemKind.TheVariants as system_kind
 use Rattle.cp_slots.specs.declared.tables.ComponentKind.TheVariants as kind
 use Rattle.cp_slots.specs.Fits as fits
@@ -36,7 +36,7 @@ pub record Tabled (t : Tables) (l : Layer) (c : Listing) (r : Room) : Type 0 whe
   pub references : t.references ≡ r.references
 
 abbrev pub listing_of : Layer → Listing
-listing_of l = program_listed l.types l.systems l.owned (length l.routines - 1)
+listing_of l = components_of_program l.types l.systems l.owned (length l.routines - 1)
 
 abbrev pub room_of : Layer → Room
 room_of l = room_from l no_room (listing_of l).processes

@@ -83,20 +83,20 @@ either_below : (f : Bool) (p q : Option Operand) (U : Type 0) → (OptionBelow f
 either_below f None q U h g k = g k
 either_below f (Some o) q U h g k = h k
 
-pub added_below : (f : Bool) (at : ℕ) (a : Addition) (l : Option Operand) (r : Operand) → OptionBelow f (operations.added at a l r) → OptionBelow f l × Below f r.uses
+pub added_below : (f : Bool) (at : ℕ) (a : Addition) (l : Option Operand) (r : Operand) → OptionBelow f (operations.sum_of at a l r) → OptionBelow f l × Below f r.uses
 added_below f at a None r h = absurd h
 added_below f at addition.Plus (Some l) r h = number_below f at l r h
 added_below f at addition.Minus (Some l) r h = either_below f (operations.number at l r) (operations.set at l r) (Below f l.uses × Below f r.uses) (number_below f at l r) (set_below f at l r) h
 added_below f at addition.Or (Some l) r h = truth_or_set_below f at l r h
 
-pub multiplied_below : (f : Bool) (at : ℕ) (m : Multiplication) (l : Option Operand) (r : Operand) → OptionBelow f (operations.multiplied at m l r) → OptionBelow f l × Below f r.uses
+pub multiplied_below : (f : Bool) (at : ℕ) (m : Multiplication) (l : Option Operand) (r : Operand) → OptionBelow f (operations.product_of at m l r) → OptionBelow f l × Below f r.uses
 multiplied_below f at m None r h = absurd h
 multiplied_below f at multiplication.And (Some l) r h = truth_or_set_below f at l r h
 multiplied_below f at multiplication.Times (Some l) r h = number_below f at l r h
 multiplied_below f at multiplication.Div (Some l) r h = number_below f at l r h
 multiplied_below f at multiplication.Mod (Some l) r h = number_below f at l r h
 
-pub signed_below : (f : Bool) (at : ℕ) (s : Option Sign) (o : Operand) → OptionBelow f (operations.signed at s o) → Below f o.uses
+pub signed_below : (f : Bool) (at : ℕ) (s : Option Sign) (o : Operand) → OptionBelow f (operations.with_sign at s o) → Below f o.uses
 signed_below f at None o h = h
 signed_below f at (Some s) o h = go (is_of base.Integer o.value_type) h
   where
@@ -104,13 +104,13 @@ signed_below f at (Some s) o h = go (is_of base.Integer o.value_type) h
     go true k = k
     go false k = absurd k
 
-pub related_below : (f : Bool) (at : ℕ) (r : Relation) (q : Operand × Operand) (p : Operand) → operations.related at r q ≡ Ok p → Below f p.uses → Below f q.0.uses × Below f q.1.uses
+pub related_below : (f : Bool) (at : ℕ) (r : Relation) (q : Operand × Operand) (p : Operand) → operations.relation_value at r q ≡ Ok p → Below f p.uses → Below f q.0.uses × Below f q.1.uses
 related_below f at r q p is h =
     let i = if_of (operations.relates r q.0.value_type q.1.value_type) (value at (values_of base.Boolean) (both_uses q.0.uses q.1.uses)) p _ [] is in
     let k : Below f (both_uses q.0.uses q.1.uses) = subst (λ (o : Operand). Below f o.uses) (sym i.1) h in
     (first_below f q.0.uses q.1.uses k, second_below f q.0.uses q.1.uses k)
 
-pub negated_below : (f : Bool) (at : ℕ) (o p : Operand) → operations.negated at o ≡ Ok p → Below f p.uses → Below f o.uses
+pub negated_below : (f : Bool) (at : ℕ) (o p : Operand) → operations.negation_of at o ≡ Ok p → Below f p.uses → Below f o.uses
 negated_below f at o p is h = subst (λ (z : Operand). Below f z.uses) (sym (if_of (is_of base.Boolean o.value_type) (value at (values_of base.Boolean) o.uses) p _ [] is).1) h
 
 -- ---- standard functions
@@ -118,15 +118,15 @@ negated_below f at o p is h = subst (λ (z : Operand). Below f z.uses) (sym (if_
 abbrev Same : Use → Operand → Type 0
 Same u p = p.uses ≡ u
 
-stepped_same : (at : ℕ) (v : ValueType) (u : Use) (p : Operand) → operations.stepped at v u ≡ Ok p → Same u p
+stepped_same : (at : ℕ) (v : ValueType) (u : Use) (p : Operand) → operations.neighbour_value at v u ≡ Ok p → Same u p
 stepped_same at (types.Ordinal r) u p e = ap (λ (o : Operand). o.uses) (sym (ok_same (value at (values_of r.base) u) p e))
 stepped_same at x u p e = absurd (cc)
 
-numbered_same : (at : ℕ) (v : ValueType) (u : Use) (p : Operand) → operations.numbered at v u ≡ Ok p → Same u p
+numbered_same : (at : ℕ) (v : ValueType) (u : Use) (p : Operand) → operations.ordinal_number at v u ≡ Ok p → Same u p
 numbered_same at (types.Ordinal r) u p e = ap (λ (o : Operand). o.uses) (sym (ok_same (value at (values_of base.Integer) u) p e))
 numbered_same at x u p e = absurd (cc)
 
-applied_same : (at : ℕ) (q : Predeclared) (o : Operand) (u : Use) (p : Operand) → operations.applied_to at q o u ≡ Ok p → Same u p
+applied_same : (at : ℕ) (q : Predeclared) (o : Operand) (u : Use) (p : Operand) → operations.standard_value_of at q o u ≡ Ok p → Same u p
 applied_same at predeclared.Succ o u p e = stepped_same at o.value_type u p e
 applied_same at predeclared.Pred o u p e = stepped_same at o.value_type u p e
 applied_same at predeclared.Ord o u p e = numbered_same at o.value_type u p e
@@ -135,15 +135,15 @@ applied_same at predeclared.Abs o u p e = ap (λ (z : Operand). z.uses) (sym (if
 applied_same at predeclared.Empty o u p e = ap (λ (z : Operand). z.uses) (sym (if_of (is_queue o) (value at (values_of base.Boolean) u) p _ [] e).1)
 applied_same at x o u p e = absurd (cc)
 
-all_applied_same : (at : ℕ) (q : Predeclared) (os : List Operand) (u : Use) (p : Operand) → operations.applied at q os u ≡ Ok p → Same u p
+all_applied_same : (at : ℕ) (q : Predeclared) (os : List Operand) (u : Use) (p : Operand) → operations.standard_value at q os u ≡ Ok p → Same u p
 all_applied_same at q os u p e = go (operations.is_function q) os e
   where
-    inner : (os : List Operand) → operations.applied_all at q os u ≡ Ok p → Same u p
+    inner : (os : List Operand) → operations.standard_value_of_all at q os u ≡ Ok p → Same u p
     inner [] i = absurd (cc)
     inner (o ∷ []) i = applied_same at q o u p i
     inner (o ∷ z ∷ os) i = absurd (cc)
 
-    go : (b : Bool) (os : List Operand) → (if b then operations.applied_all at q os u else broken at C5) ≡ Ok p → Same u p
+    go : (b : Bool) (os : List Operand) → (if b then operations.standard_value_of_all at q os u else broken at C5) ≡ Ok p → Same u p
     go true os i = inner os i
     go false os i = absurd (cc)
 
@@ -154,7 +154,7 @@ set_like_below f at os (types.Ordinal r) p is h =
     (total_below f no_use os (subst (λ (z : Operand). Below f z.uses) (sym (if_of (expressions.are_elements r.base os) (value at _ (calls.total_use no_use os)) p _ [] is).1) h)).1
 set_like_below f at os x p is h = absurd (cc)
 
-pub constructed_below : (f : Bool) (at : ℕ) (os : List Operand) (p : Operand) → expressions.constructed at os ≡ Ok p → Below f p.uses → AreBelow f os
+pub constructed_below : (f : Bool) (at : ℕ) (os : List Operand) (p : Operand) → expressions.set_value at os ≡ Ok p → Below f p.uses → AreBelow f os
 constructed_below f at [] p is h = tt
 constructed_below f at (o ∷ os) p is h = set_like_below f at (o ∷ os) o.value_type p is h
 
@@ -186,8 +186,8 @@ module _ (s : Scopes) (w : Context) (f : Bool) where
     pub uses : both_uses (calls.total_use u os) (calls.call_use b (body_at n s)) ≡ r
     pub none : (at name_at : ℕ) × (calls.call_faults s w at name_at b n os ≡ [])
 
-  pub called_ok : (at name_at : ℕ) (b : Bool) (n : ℕ) (os : List Operand) (u r : Use) → calls.called s w at name_at b n os u ≡ Ok r → CalledOk b n os u r
-  unfolding calls.called
+  pub called_ok : (at name_at : ℕ) (b : Bool) (n : ℕ) (os : List Operand) (u r : Use) → calls.check_routine_call s w at name_at b n os u ≡ Ok r → CalledOk b n os u r
+  unfolding calls.check_routine_call
   called_ok at name_at b n os u r is =
       let x = unless_ok (calls.call_faults s w at name_at b n os) (both_uses (calls.total_use u os) (calls.call_use b (body_at n s))) r is in
       record { uses = x.1; none = (at, name_at, x.0) }
@@ -249,7 +249,7 @@ module _ (s : Scopes) (w : Context) (f : Bool) where
       go : (v : Option ValueType) → (heading_at n s).result ≡ v → calls.function_of s w at name_at b n os u v ≡ Ok p → FunctionOk b n os u p
       go None same i = absurd (cc)
       go (Some v) same i =
-          let t : Then (calls.called s w at name_at b n os u) (calls.with_result at v) p = then_of (calls.called s w at name_at b n os u) (calls.with_result at v) p i in
+          let t : Then (calls.check_routine_call s w at name_at b n os u) (calls.with_result at v) p = then_of (calls.check_routine_call s w at name_at b n os u) (calls.with_result at v) p i in
           record {
             uses = t.value;
             called = called_ok at name_at b n os u t.value t.is;
@@ -280,10 +280,10 @@ module _ (s : Scopes) (w : Context) (f : Bool) where
       let x = alone_said o p os is in
       record { kind = v; called = c; result = g; first = subst (Below f) same (subst (λ (z : Operand). Below f z.uses) (sym x.1) h); others = subst (AreBelow f) (sym x.0) tt }
 
-  pub value_said : (at : ℕ) (d : DesignatedName) (os : List Operand) (n : Named) (p : Operand) → calls.value_named s w at d os n ≡ Ok p → Below f p.uses → ValueSaid n d os
+  pub value_said : (at : ℕ) (d : DesignatedName) (os : List Operand) (n : Named) (p : Operand) → calls.value_by_name s w at d os n ≡ Ok p → Below f p.uses → ValueSaid n d os
   value_said at d os (Constant b) p is h = plain_said (Constant b) d (value at (values_of b) d.uses) p os tt tt tt refl is h
-  value_said at d os (Variable t) p is h = plain_said (Variable t) d (calls.placed at t (calls.place_of s t) d.uses) p os tt tt tt refl is h
-  value_said at d os (Parameter t) p is h = plain_said (Parameter t) d (calls.placed at t _ d.uses) p os tt tt tt refl is h
+  value_said at d os (Variable t) p is h = plain_said (Variable t) d (calls.operand_at at t (calls.place_of s t) d.uses) p os tt tt tt refl is h
+  value_said at d os (Parameter t) p is h = plain_said (Parameter t) d (calls.operand_at at t _ d.uses) p os tt tt tt refl is h
   value_said at d os (Predeclared' q) p is h =
       let x = total_below f d.uses os (subst (Below f) (all_applied_same at q os (calls.total_use d.uses os) p is) h) in
       record { kind = tt; called = tt; result = tt; first = x.0; others = x.1 }

@@ -163,7 +163,7 @@ module _ (t : Tree) (read : IsRead t.program) (accepted : IsAccepted t) (n : ℕ
   visible_alone : (i : Identifier) (ss : Selectors) (c : check_designated.DesignatedName) (k : ℕ) → ss ≡ no_selectors → designator s w (name_with i ss) ≡ Ok c → c.named ≡ name.Routine k → look i.name s ≡ Some (Some (meaning.Routine k))
   unfolding expression
   visible_alone i no_selectors c k none is same =
-      let z : Then (names.begun s i) (names.known i.at) c = then_of (names.begun s i) (names.known i.at) c is in
+      let z : Then (names.meaning_of_name s i) (names.check_selectors i.at) c = then_of (names.meaning_of_name s i) (names.check_selectors i.at) c is in
       let one : z.value ≡ c = known_is s w i.at z.value c z.rest in
       begun_routine tokens s h w agrees i z.value k z.is (ap (λ (d : check_designated.DesignatedName). d.named) one ∙ same)
   visible_alone i (more_selectors x ss) c k none is same = absurd (cc)

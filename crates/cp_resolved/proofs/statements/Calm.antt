@@ -99,42 +99,42 @@ set_calm at l r h g = set_types_calm at l.value_type r.value_type (both_uses l.u
 truth_or_set_calm : (at : ℕ) (l r : Operand) → CalmOperand l → CalmOperand r → CalmOption (operations.truth_or_set at l r)
 truth_or_set_calm at l r h g = option_if (is_of base.Boolean l.value_type && is_of base.Boolean r.value_type) _ (operations.set at l r) (uses_calm l.uses r.uses h g) (set_calm at l r h g)
 
-added_calm : (at : ℕ) (a : Addition) (l : Option Operand) (r : Operand) → CalmOption l → CalmOperand r → CalmOption (operations.added at a l r)
+added_calm : (at : ℕ) (a : Addition) (l : Option Operand) (r : Operand) → CalmOption l → CalmOperand r → CalmOption (operations.sum_of at a l r)
 added_calm at a None r h g = tt
 added_calm at addition.Plus (Some l) r h g = number_calm at l r h g
 added_calm at addition.Minus (Some l) r h g = option_either (operations.number at l r) (operations.set at l r) (number_calm at l r h g) (set_calm at l r h g)
 added_calm at addition.Or (Some l) r h g = truth_or_set_calm at l r h g
 
-multiplied_calm : (at : ℕ) (m : Multiplication) (l : Option Operand) (r : Operand) → CalmOption l → CalmOperand r → CalmOption (operations.multiplied at m l r)
+multiplied_calm : (at : ℕ) (m : Multiplication) (l : Option Operand) (r : Operand) → CalmOption l → CalmOperand r → CalmOption (operations.product_of at m l r)
 multiplied_calm at m None r h g = tt
 multiplied_calm at multiplication.And (Some l) r h g = truth_or_set_calm at l r h g
 multiplied_calm at multiplication.Times (Some l) r h g = number_calm at l r h g
 multiplied_calm at multiplication.Div (Some l) r h g = number_calm at l r h g
 multiplied_calm at multiplication.Mod (Some l) r h g = number_calm at l r h g
 
-signed_calm : (at : ℕ) (s : Option Sign) (o : Operand) → CalmOperand o → CalmOption (operations.signed at s o)
+signed_calm : (at : ℕ) (s : Option Sign) (o : Operand) → CalmOperand o → CalmOption (operations.with_sign at s o)
 signed_calm at None o h = h
 signed_calm at (Some s) o h = option_if (is_of base.Integer o.value_type) _ None h tt
 
-agreed_calm : (at : ℕ) (o : Option Operand) → CalmOption o → All CalmOperand (operations.agreed at o)
+agreed_calm : (at : ℕ) (o : Option Operand) → CalmOption o → All CalmOperand (operations.check_agreement at o)
 agreed_calm at None h = tt
 agreed_calm at (Some o) h = h
 
-related_calm : (at : ℕ) (r : Relation) (p : Operand × Operand) → CalmOperand p.0 × CalmOperand p.1 → All CalmOperand (operations.related at r p)
+related_calm : (at : ℕ) (r : Relation) (p : Operand × Operand) → CalmOperand p.0 × CalmOperand p.1 → All CalmOperand (operations.relation_value at r p)
 related_calm at r p h = if_all CalmOperand (operations.relates r p.0.value_type p.1.value_type) _ (broken at C5) (uses_calm p.0.uses p.1.uses h.0 h.1) tt
 
-negated_calm : (at : ℕ) (o : Operand) → CalmOperand o → All CalmOperand (operations.negated at o)
+negated_calm : (at : ℕ) (o : Operand) → CalmOperand o → All CalmOperand (operations.negation_of at o)
 negated_calm at o h = if_all CalmOperand (is_of base.Boolean o.value_type) _ (broken at C5) h tt
 
-stepped_calm : (at : ℕ) (v : ValueType) (u : Use) → IsCalm u → All CalmOperand (operations.stepped at v u)
+stepped_calm : (at : ℕ) (v : ValueType) (u : Use) → IsCalm u → All CalmOperand (operations.neighbour_value at v u)
 stepped_calm at (types.Ordinal r) u h = h
 stepped_calm at _ u h = tt
 
-numbered_calm : (at : ℕ) (v : ValueType) (u : Use) → IsCalm u → All CalmOperand (operations.numbered at v u)
+numbered_calm : (at : ℕ) (v : ValueType) (u : Use) → IsCalm u → All CalmOperand (operations.ordinal_number at v u)
 numbered_calm at (types.Ordinal r) u h = h
 numbered_calm at _ u h = tt
 
-applied_calm : (at : ℕ) (q : Predeclared) (o : Operand) (u : Use) → IsCalm u → All CalmOperand (operations.applied_to at q o u)
+applied_calm : (at : ℕ) (q : Predeclared) (o : Operand) (u : Use) → IsCalm u → All CalmOperand (operations.standard_value_of at q o u)
 applied_calm at predeclared.Succ o u h = stepped_calm at o.value_type u h
 applied_calm at predeclared.Pred o u h = stepped_calm at o.value_type u h
 applied_calm at predeclared.Ord o u h = numbered_calm at o.value_type u h
@@ -143,10 +143,10 @@ applied_calm at predeclared.Abs o u h = if_all CalmOperand (is_of base.Integer o
 applied_calm at predeclared.Empty o u h = if_all CalmOperand (is_queue o) _ (broken at C5) h tt
 applied_calm at _ o u h = tt
 
-all_applied_calm : (at : ℕ) (q : Predeclared) (os : List Operand) (u : Use) → IsCalm u → All CalmOperand (operations.applied at q os u)
-all_applied_calm at q os u h = if_all CalmOperand (operations.is_function q) (operations.applied_all at q os u) (broken at C5) (inner os) tt
+all_applied_calm : (at : ℕ) (q : Predeclared) (os : List Operand) (u : Use) → IsCalm u → All CalmOperand (operations.standard_value at q os u)
+all_applied_calm at q os u h = if_all CalmOperand (operations.is_function q) (operations.standard_value_of_all at q os u) (broken at C5) (inner os) tt
   where
-    inner : (os : List Operand) → All CalmOperand (operations.applied_all at q os u)
+    inner : (os : List Operand) → All CalmOperand (operations.standard_value_of_all at q os u)
     inner [] = tt
     inner (o ∷ []) = applied_calm at q o u h
     inner (o ∷ z ∷ os) = tt
@@ -155,17 +155,17 @@ set_like_calm : (at : ℕ) (os : List Operand) (v : ValueType) → AreCalm os �
 set_like_calm at os (types.Ordinal r) h = if_all CalmOperand (expressions.are_elements r.base os) _ (broken at C5) (total_calm no_use os refl h) tt
 set_like_calm at os _ h = tt
 
-constructed_calm : (at : ℕ) (os : List Operand) → AreCalm os → All CalmOperand (expressions.constructed at os)
+constructed_calm : (at : ℕ) (os : List Operand) → AreCalm os → All CalmOperand (expressions.set_value at os)
 constructed_calm at [] h = refl
 constructed_calm at (o ∷ os) h = set_like_calm at (o ∷ os) o.value_type h
 
 -- ---- names
 
-begun_calm : (s : Scopes) (i : Identifier) → All CalmName (names.begun s i)
-unfolding names.begun names.visible
+begun_calm : (s : Scopes) (i : Identifier) → All CalmName (names.meaning_of_name s i)
+unfolding names.meaning_of_name names.visible
 begun_calm s i = go (look i.name s)
   where
-    go : (o : Option (Option Meaning)) → All CalmName (names.found i.at o >>= names.unselected i.at)
+    go : (o : Option (Option Meaning)) → All CalmName (names.check_visible i.at o >>= names.designation_of i.at)
     go None = tt
     go (Some None) = tt
     go (Some (Some m)) = refl
@@ -178,12 +178,12 @@ entry_calm : (at : ℕ) (d : DesignatedName) (o : Option (Option Meaning)) → C
 entry_calm at d (Some (Some (meaning.Routine r))) h = h
 entry_calm at d _ h = tt
 
-selected_calm : (s : Scopes) (i : Identifier) (d : DesignatedName) (t : Option ValueType) → CalmName d → All CalmName (names.selected_of s i d t)
+selected_calm : (s : Scopes) (i : Identifier) (d : DesignatedName) (t : Option ValueType) → CalmName d → All CalmName (names.member_by_type s i d t)
 selected_calm s i d (Some (types.Record n)) h = field_calm i.at d (field_at n i.name s) h
 selected_calm s i d (Some (types.Component k n)) h = entry_calm i.at d (member_at n i.name s) h
 selected_calm s i d _ h = h
 
-known_calm : (at : ℕ) (d : DesignatedName) (n : Named) → CalmName d → All CalmName (names.known_named at d n)
+known_calm : (at : ℕ) (d : DesignatedName) (n : Named) → CalmName d → All CalmName (names.check_selectors_of at d n)
 known_calm at d name.Nothing h = tt
 known_calm at d _ h = h
 
@@ -221,13 +221,13 @@ module _ (s : Scopes) (w : Context) where
       go false i j = let bad : calls.fault at C22 ≡ [] = i in cc
 
   function_calm : (at name_at : ℕ) (b : Bool) (n : ℕ) (os : List Operand) (u : Use) (o : Option ValueType) → All CalmOperand (calls.function_of s (quiet w) at name_at b n os u o)
-  unfolding calls.called
+  unfolding calls.check_routine_call
   function_calm at name_at b n os u None = tt
   function_calm at name_at b n os u (Some t) =
-      then_all (λ (v : Use). ⊥) CalmOperand (calls.called s (quiet w) at name_at b n os u) (calls.with_result at t)
+      then_all (λ (v : Use). ⊥) CalmOperand (calls.check_routine_call s (quiet w) at name_at b n os u) (calls.with_result at t)
       (unless_all (λ (v : Use). ⊥) (calls.call_faults s (quiet w) at name_at b n os) _ (never_quiet at name_at b n os)) (λ v h. absurd h)
 
-  named_calm : (at : ℕ) (d : DesignatedName) (os : List Operand) (n : Named) → CalmName d → AreCalm os → All CalmOperand (calls.value_named s (quiet w) at d os n)
+  named_calm : (at : ℕ) (d : DesignatedName) (os : List Operand) (n : Named) → CalmName d → AreCalm os → All CalmOperand (calls.value_by_name s (quiet w) at d os n)
   unfolding calls.function_value
   named_calm at d os (name.Constant b) h g = alone_calm _ os h
   named_calm at d os (name.Variable t) h g = alone_calm _ os h
@@ -245,7 +245,7 @@ module _ (s : Scopes) (w : Context) where
   variable_calm : (at : ℕ) (d : DesignatedName) → CalmName d → All CalmOperand (calls.variable_of s (quiet w) at d)
   variable_calm at d h = if_all CalmOperand (calls.is_other_function s (quiet w) d.named) _ (calls.value_of s (quiet w) at (d, [])) h (value_calm at (d, []) (h, tt))
 
-  named_value_calm : (v : Bool) (at : ℕ) (d : Judged DesignatedName) (os : Judged (List Operand)) → All CalmName d → All AreCalm os → All CalmOperand (expressions.named_value s (quiet w) v at d os)
+  named_value_calm : (v : Bool) (at : ℕ) (d : Judged DesignatedName) (os : Judged (List Operand)) → All CalmName d → All AreCalm os → All CalmOperand (expressions.value_of_name s (quiet w) v at d os)
   named_value_calm true at d os h g = then_all CalmName CalmOperand d (calls.variable_of s (quiet w) at) h (variable_calm at)
   named_value_calm false at d os h g = then_all _ CalmOperand (both d os) (calls.value_of s (quiet w) at) (both_all CalmName AreCalm d os h g) (value_calm at)
 
@@ -256,40 +256,40 @@ module _ (s : Scopes) (w : Context) where
 
     expression_calm : (v : Bool) (e : Expression) → All CalmOperand (expressions.expression s (quiet w) v e)
     expression_calm v (alone at a) = sum_calm v a
-    expression_calm v (related at a r b) = then_all _ CalmOperand _ (operations.related at r) (both_all CalmOperand CalmOperand _ _ (sum_calm false a) (sum_calm false b)) (related_calm at r)
+    expression_calm v (related at a r b) = then_all _ CalmOperand _ (operations.relation_value at r) (both_all CalmOperand CalmOperand _ _ (sum_calm false a) (sum_calm false b)) (related_calm at r)
 
     sum_calm : (v : Bool) (a : Sum) → All CalmOperand (expressions.sum_value s (quiet w) v a)
     sum_calm v (sum at sign t ts) =
-        then_all CalmOption CalmOperand _ (operations.agreed at) (terms_calm at ts _ (then_all CalmOperand CalmOption _ (expressions.signed at sign) (term_calm _ t) (signed_calm at sign))) (agreed_calm at)
+        then_all CalmOption CalmOperand _ (operations.check_agreement at) (terms_calm at ts _ (then_all CalmOperand CalmOption _ (expressions.first_term at sign) (term_calm _ t) (signed_calm at sign))) (agreed_calm at)
 
     terms_calm : (at : ℕ) (ts : Terms) (j : Judged (Option Operand)) → All CalmOption j → All CalmOption (expressions.more_terms s (quiet w) at j ts)
     terms_calm at no_terms j h = h
-    terms_calm at (terms_more a t ts) j h = terms_calm at ts _ (then_all _ CalmOption _ (expressions.added at a) (both_all CalmOption CalmOperand j _ h (term_calm false t)) (λ p g. added_calm at a p.0 p.1 g.0 g.1))
+    terms_calm at (terms_more a t ts) j h = terms_calm at ts _ (then_all _ CalmOption _ (expressions.sum_so_far at a) (both_all CalmOption CalmOperand j _ h (term_calm false t)) (λ p g. added_calm at a p.0 p.1 g.0 g.1))
 
     term_calm : (v : Bool) (t : Term) → All CalmOperand (expressions.term_value s (quiet w) v t)
     term_calm v (term at f fs) =
-        then_all CalmOption CalmOperand _ (operations.agreed at) (factors_calm at fs _ (then_all CalmOperand CalmOption _ expressions.some_operand (factor_calm _ f) (λ o g. g))) (agreed_calm at)
+        then_all CalmOption CalmOperand _ (operations.check_agreement at) (factors_calm at fs _ (then_all CalmOperand CalmOption _ expressions.some_operand (factor_calm _ f) (λ o g. g))) (agreed_calm at)
 
     factors_calm : (at : ℕ) (fs : Factors) (j : Judged (Option Operand)) → All CalmOption j → All CalmOption (expressions.more_factors s (quiet w) at j fs)
     factors_calm at no_factors j h = h
-    factors_calm at (factors_more m f fs) j h = factors_calm at fs _ (then_all _ CalmOption _ (expressions.multiplied at m) (both_all CalmOption CalmOperand j _ h (factor_calm false f)) (λ p g. multiplied_calm at m p.0 p.1 g.0 g.1))
+    factors_calm at (factors_more m f fs) j h = factors_calm at fs _ (then_all _ CalmOption _ (expressions.product_so_far at m) (both_all CalmOption CalmOperand j _ h (factor_calm false f)) (λ p g. multiplied_calm at m p.0 p.1 g.0 g.1))
 
     factor_calm : (v : Bool) (f : Factor) → All CalmOperand (expressions.factor s (quiet w) v f)
     factor_calm v (named at d es) = named_value_calm _ at _ _ (designator_calm d) (arguments_calm [] 0 es)
     factor_calm v (group at e) = then_all CalmOperand CalmOperand _ (expressions.to_group at) (expression_calm false e) (λ o g. g)
-    factor_calm v (negated at f) = then_all CalmOperand CalmOperand _ (operations.negated at) (factor_calm false f) (negated_calm at)
-    factor_calm v (set_of at es) = then_all AreCalm CalmOperand _ (expressions.constructed at) (arguments_calm [] 0 es) (constructed_calm at)
+    factor_calm v (negated at f) = then_all CalmOperand CalmOperand _ (operations.negation_of at) (factor_calm false f) (negated_calm at)
+    factor_calm v (set_of at es) = then_all AreCalm CalmOperand _ (expressions.set_value at) (arguments_calm [] 0 es) (constructed_calm at)
     factor_calm v _ = refl
 
     designator_calm : (d : Designator) → All CalmName (expressions.designator s (quiet w) d)
-    designator_calm (name_with n ss) = then_all CalmName CalmName _ (names.known n.at) (selectors_calm ss _ (begun_calm s n)) (λ d g. known_calm n.at d d.named g)
+    designator_calm (name_with n ss) = then_all CalmName CalmName _ (names.check_selectors n.at) (selectors_calm ss _ (begun_calm s n)) (λ d g. known_calm n.at d d.named g)
 
     selectors_calm : (ss : Selectors) (j : Judged DesignatedName) → All CalmName j → All CalmName (expressions.selectors s (quiet w) j ss)
     selectors_calm no_selectors j h = h
     selectors_calm (more_selectors x ss) j h = selectors_calm ss _ (selector_calm x j h)
 
     selector_calm : (x : Selector) (j : Judged DesignatedName) → All CalmName j → All CalmName (expressions.selector s (quiet w) j x)
-    selector_calm (field i) j h = then_all CalmName CalmName j (names.selected s i) h (λ d g. selected_calm s i d (names.type_of d.named) g)
+    selector_calm (field i) j h = then_all CalmName CalmName j (names.member_of s i) h (λ d g. selected_calm s i d (names.type_of d.named) g)
     selector_calm (index e) j h = then_all _ CalmName _ (expressions.at_index s) (both_all CalmName CalmOperand j _ h (expression_calm false e)) (λ p g. uses_calm p.0.uses p.1.uses g.0 g.1)
 
     arguments_calm : (ps : List Parameter) (k : ℕ) (es : Expressions) → All AreCalm (expressions.arguments s (quiet w) ps k es)
@@ -301,7 +301,7 @@ module _ (s : Scopes) (w : Context) where
   assertion_calm : (e : Expression) → All IsCalm (statements.assertion s w e)
   unfolding statements.assertion
   assertion_calm e =
-      then_all CalmOperand IsCalm _ (λ (o : Operand). statements.tested (expression_at e) o o.uses) (expression_calm false e)
+      then_all CalmOperand IsCalm _ (λ (o : Operand). statements.check_test (expression_at e) o o.uses) (expression_calm false e)
       (λ o h. if_all IsCalm (is_of base.Boolean o.value_type) (Ok o.uses) (broken (expression_at e) C5) h tt)
 
   together_calm : (j k : Judged Use) → All IsCalm j → All IsCalm k → All IsCalm (both j k >>= statements.together)

@@ -108,12 +108,12 @@ module _ (s : Scopes) (w : Context) where
         let k : Then (both j (expression s w false e)) (statements.test_last at) r = then_of (both j (expression s w false e)) (statements.test_last at) r is in
         (record { small = m; use_of = r; is = is }, (sound_of ts m.0 (Ok no_use) k.value.0 (both_of j (expression s w false e) k.value k.is).first).rest)
     sound_in (for_do at i a d b t) m r is =
-        let j = both (both (names.begun s i) (expression s w false a)) (expression s w false b) in
+        let j = both (both (names.meaning_of_name s i) (expression s w false a)) (expression s w false b) in
         let k : Then (both j (statement s w t)) (statements.count_over s w at i.at) r = then_of (both j (statement s w t)) (statements.count_over s w at i.at) r is in
         (record { small = m; use_of = r; is = is }, sound_in t m.2 k.value.1 (both_of j (statement s w t) k.value k.is).second)
     sound_in (case_of at e as' b) m r is =
         let j : Judged (List Label × Use) = statements.arms s w (Ok ([], no_use)) as' in
-        let k : Then (both (expression s w false e) j) (cases.chosen at) r = then_of (both (expression s w false e) j) (cases.chosen at) r is in
+        let k : Then (both (expression s w false e) j) (cases.check_case at) r = then_of (both (expression s w false e) j) (cases.check_case at) r is in
         (record { small = m; use_of = r; is = is }, (sound_arms as' m.1 (Ok ([], no_use)) k.value.1 (both_of (expression s w false e) j k.value k.is).second).rest)
     sound_in (asserted at k e t) m r is =
         let j : Then (both (statements.assertion s w e) (statement s w t)) statements.together r = then_of (both (statements.assertion s w e) (statement s w t)) statements.together r is in
@@ -131,8 +131,8 @@ module _ (s : Scopes) (w : Context) where
     pub sound_arms : (as' : Arms) → AreSmallArms as' → (j : Judged (List Label × Use)) (r : List Label × Use) → statements.arms s w j as' ≡ Ok r → Inside j (EachArm IsSound as')
     sound_arms no_arms m j r is = record { value = r; is = is; rest = tt }
     sound_arms (more_arms (arm cs t) as') m j r is =
-        let x = sound_arms as' m.1 (both j (statements.labelled s w (arm cs t)) >>= cases.joined) r is in
-        let k : Then (both j (statements.labelled s w (arm cs t))) cases.joined x.value = then_of (both j (statements.labelled s w (arm cs t))) cases.joined x.value x.is in
+        let x = sound_arms as' m.1 (both j (statements.labelled s w (arm cs t)) >>= cases.join_arms) r is in
+        let k : Then (both j (statements.labelled s w (arm cs t))) cases.join_arms x.value = then_of (both j (statements.labelled s w (arm cs t))) cases.join_arms x.value x.is in
         let b = both_of j (statements.labelled s w (arm cs t)) k.value k.is in
         let c = both_of (cases.labels s cs) (statement s w t) k.value.1 b.second in
         record { value = k.value.0; is = b.first; rest = (sound_in t m.0.1 k.value.1.1 c.second, x.rest) }

@@ -42,14 +42,14 @@ module _ (s : Scopes) (w : Context) (f : Bool) (scope : Scope) where
   -- ---- designators
 
   field_uses : (at : ℕ) (d e : check_designated.DesignatedName) (o : Option (Option Meaning)) → names.with_field at d o ≡ Ok e → d.uses ≡ e.uses
-  field_uses at d e (Some (Some (meaning.Variable t))) is = ap (λ (z : check_designated.DesignatedName). z.uses) (ok_same (names.designated at d.uses (names.part_of d.named t)) e is)
+  field_uses at d e (Some (Some (meaning.Variable t))) is = ap (λ (z : check_designated.DesignatedName). z.uses) (ok_same (names.designation at d.uses (names.part_of d.named t)) e is)
   field_uses at d e x is = absurd (cc)
 
   entry_uses : (at : ℕ) (d e : check_designated.DesignatedName) (o : Option (Option Meaning)) → names.with_entry at d o ≡ Ok e → d.uses ≡ e.uses
-  entry_uses at d e (Some (Some (meaning.Routine n))) is = ap (λ (z : check_designated.DesignatedName). z.uses) (ok_same (names.designated at d.uses (name.Entry n)) e is)
+  entry_uses at d e (Some (Some (meaning.Routine n))) is = ap (λ (z : check_designated.DesignatedName). z.uses) (ok_same (names.designation at d.uses (name.Entry n)) e is)
   entry_uses at d e x is = absurd (cc)
 
-  pub selected_uses : (i : Identifier) (d e : check_designated.DesignatedName) (o : Option ValueType) → names.selected_of s i d o ≡ Ok e → d.uses ≡ e.uses
+  pub selected_uses : (i : Identifier) (d e : check_designated.DesignatedName) (o : Option ValueType) → names.member_by_type s i d o ≡ Ok e → d.uses ≡ e.uses
   selected_uses i d e (Some (types.Record n)) is = field_uses i.at d e (field_at n i.name s) is
   selected_uses i d e (Some (types.Component k n)) is = entry_uses i.at d e (member_at n i.name s) is
   selected_uses i d e _ is = ap (λ (z : check_designated.DesignatedName). z.uses) (ok_same (names.nothing i.at d.uses) e is)

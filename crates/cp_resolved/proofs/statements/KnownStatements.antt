@@ -160,7 +160,7 @@ module _ (tokens : Tokens) (s : Scopes) (h : Here) (w : Context) (agrees : Scope
       let b = both_of j (expression s w false e) t.value t.is in
       let k : Then (designator s w d) (statements.with_target s w i.at) t.value.0 = then_of (designator s w d) (statements.with_target s w i.at) t.value.0 b.first in
       let c : check_designated.DesignatedName = k.value in
-      let a : Then (statements.aimed i.at (target_of s w c.named)) (λ x. Ok (x, c.uses)) t.value.0 = then_of (statements.aimed i.at (target_of s w c.named)) (λ x. Ok (x, c.uses)) t.value.0 k.rest in
+      let a : Then (statements.check_target i.at (target_of s w c.named)) (λ x. Ok (x, c.uses)) t.value.0 = then_of (statements.check_target i.at (target_of s w c.named)) (λ x. Ok (x, c.uses)) t.value.0 k.rest in
       let aim : target_of s w c.named ≡ t.value.0.0 = aimed_is i.at (target_of s w c.named) a.value a.is ∙ ap (λ (x : Target × Use). x.0) (ok_same (a.value, c.uses) t.value.0 a.rest) in
       let y = assigns at t.value.0.0 t.value.1 (both_uses t.value.0.1 t.value.1.uses) r t.rest in
       named_aimed i ss c c.named k.is (designator_named tokens s h w agrees i ss c m k.is) (y.value_type, aim ∙ y.is)
@@ -170,7 +170,7 @@ module _ (tokens : Tokens) (s : Scopes) (h : Here) (w : Context) (agrees : Scope
   abbrev Known : Designator → Expressions → Type 0
   Known d es = InvokeKnown tokens h w d es
 
-  called_variables : (at name_at : ℕ) (b : Bool) (n : ℕ) (os : List Operand) (u r : Use) (es : Expressions) (o : Option RoutineMeaning) → AreSmallExpressions es → HeadingIs W (heading_at n s) o → arguments s w (statements.procedure_parameters s n (statements.number_of es)) 0 es ≡ Ok os → statements.procedure_called s w at name_at b n os u ≡ Ok r →
+  called_variables : (at name_at : ℕ) (b : Bool) (n : ℕ) (os : List Operand) (u r : Use) (es : Expressions) (o : Option RoutineMeaning) → AreSmallExpressions es → HeadingIs W (heading_at n s) o → arguments s w (statements.procedure_parameters s n (statements.number_of es)) 0 es ≡ Ok os → statements.check_procedure_call s w at name_at b n os u ≡ Ok r →
       (y : RoutineMeaning) → o ≡ Some y → AreVariables h y.parameters es
   called_variables at name_at b n os u r es None m i a is y e = absurd i
   called_variables at name_at b n os u r es (Some x) m i a is y e =
@@ -282,16 +282,16 @@ module _ (tokens : Tokens) (s : Scopes) (h : Here) (w : Context) (agrees : Scope
       go no_expressions y = y
       go (more_expressions f r) y = absurd y
 
-  waits_in : (at : ℕ) (es : Expressions) (os : List Operand) (u r : Use) (q : scopes.Standard) → AreSmallExpressions es → arguments s w [] 0 es ≡ Ok os → (q ≡ delay_procedure) ⊎ (q ≡ continue_procedure) → statements.performed s w at (predeclared_of q) os u ≡ Ok r → WaitKnown h w es
+  waits_in : (at : ℕ) (es : Expressions) (os : List Operand) (u r : Use) (q : scopes.Standard) → AreSmallExpressions es → arguments s w [] 0 es ≡ Ok os → (q ≡ delay_procedure) ⊎ (q ≡ continue_procedure) → statements.check_standard_call s w at (predeclared_of q) os u ≡ Ok r → WaitKnown h w es
   waits_in at es os u r q m a (inl e) is =
-      let done : statements.performed s w at predeclared.Delay os u ≡ Ok r = subst (λ (z : scopes.Standard). statements.performed s w at (predeclared_of z) os u ≡ Ok r) e is in
+      let done : statements.check_standard_call s w at predeclared.Delay os u ≡ Ok r = subst (λ (z : scopes.Standard). statements.check_standard_call s w at (predeclared_of z) os u ≡ Ok r) e is in
       let none : statements.waiting_faults s w at predeclared.Delay os ≡ [] = passed (statements.waiting_faults s w at predeclared.Delay os) (both_uses u statements.one_delay) r done in
       record {
         monitor = may_wait predeclared.Delay (waits_of at predeclared.Delay os none);
         queue = queues_given at es os m a (none_left (statements.queue_faults at os) (statements.wait_faults s w at predeclared.Delay) none) (queue_performed q es (inl e) (performed_formed tokens s h w agrees heard at q es os u m a (ap faults is)));
       }
   waits_in at es os u r q m a (inr e) is =
-      let done : statements.performed s w at predeclared.Continue os u ≡ Ok r = subst (λ (z : scopes.Standard). statements.performed s w at (predeclared_of z) os u ≡ Ok r) e is in
+      let done : statements.check_standard_call s w at predeclared.Continue os u ≡ Ok r = subst (λ (z : scopes.Standard). statements.check_standard_call s w at (predeclared_of z) os u ≡ Ok r) e is in
       let none : statements.waiting_faults s w at predeclared.Continue os ≡ [] = passed (statements.waiting_faults s w at predeclared.Continue os) u r done in
       record {
         monitor = may_wait predeclared.Continue (waits_of at predeclared.Continue os none);
@@ -319,18 +319,18 @@ module _ (tokens : Tokens) (s : Scopes) (h : Here) (w : Context) (agrees : Scope
   standard_same : (a b : scopes.Standard) → Some (standard_meaning a) ≡ Some (standard_meaning b) → a ≡ b
   standard_same a b e = cc
 
-  standard_known : (at : ℕ) (i : Identifier) (ss : Selectors) (es : Expressions) (p : Predeclared) (os : List Operand) (u r : Use) (m : Option scopes.Meaning) → find i.name h.scope ≡ m → StandardIs p m → AreSmallExpressions es → arguments s w [] 0 es ≡ Ok os → statements.performed s w at p os u ≡ Ok r → Known (name_with i ss) es
+  standard_known : (at : ℕ) (i : Identifier) (ss : Selectors) (es : Expressions) (p : Predeclared) (os : List Operand) (u r : Use) (m : Option scopes.Meaning) → find i.name h.scope ≡ m → StandardIs p m → AreSmallExpressions es → arguments s w [] 0 es ≡ Ok os → statements.check_standard_call s w at p os u ≡ Ok r → Known (name_with i ss) es
   standard_known at i ss es p os u r (Some (scopes.standard_meaning q)) is k m a done =
       record {
         variables = λ y e. absurd (let bad : None ≡ Some y = sym (standard_none i ss q is) ∙ e in cc);
         shows = λ e. shown es os m a;
-        delays = λ e. waits_in at es os u r q m a (inl (standard_same q delay_procedure (sym is ∙ e))) (subst (λ (z : Predeclared). statements.performed s w at z os u ≡ Ok r) (sym k) done);
-        continues = λ e. waits_in at es os u r q m a (inr (standard_same q continue_procedure (sym is ∙ e))) (subst (λ (z : Predeclared). statements.performed s w at z os u ≡ Ok r) (sym k) done);
+        delays = λ e. waits_in at es os u r q m a (inl (standard_same q delay_procedure (sym is ∙ e))) (subst (λ (z : Predeclared). statements.check_standard_call s w at z os u ≡ Ok r) (sym k) done);
+        continues = λ e. waits_in at es os u r q m a (inr (standard_same q continue_procedure (sym is ∙ e))) (subst (λ (z : Predeclared). statements.check_standard_call s w at z os u ≡ Ok r) (sym k) done);
       }
   standard_known at i ss es p os u r _ is k m a done = absurd k
 
   named_known : (at : ℕ) (i : Identifier) (ss : Selectors) (es : Expressions) (c : check_designated.DesignatedName) (n : Named) (os : List Operand) (r : Use) → NamedIs tokens s h i.name (find i.name h.scope) (last_field ss) n (designator_form h (name_with i ss)) → AreSmallExpressions es →
-      arguments s w (statements.parameters_of s n (statements.number_of es)) 0 es ≡ Ok os → statements.invoked_named s w at c os n ≡ Ok r → Known (name_with i ss) es
+      arguments s w (statements.parameters_of s n (statements.number_of es)) 0 es ≡ Ok os → statements.check_call_of s w at c os n ≡ Ok r → Known (name_with i ss) es
   named_known at i ss es c (name.Predeclared p) os r k m a is = standard_known at i ss es p os (calls.total_use c.uses os) r (find i.name h.scope) refl k m a is
   named_known at i ss es c (name.Routine n) os r k m a is =
       routine_known (name_with i ss) es (called_variables at c.name_at true n os c.uses r es (routine_called h.program h.scope (name_with i ss)) m (own_called tokens s h w i.name n (find i.name h.scope) (last_field ss) k).heading a is) (routine_other i.name n (find i.name h.scope) k)
@@ -339,13 +339,13 @@ module _ (tokens : Tokens) (s : Scopes) (h : Here) (w : Context) (agrees : Scope
   named_known at i ss es c x os r k m a is = absurd (cc)
 
   invoke_known : (at : ℕ) (i : Identifier) (ss : Selectors) (es : Expressions) → AreSmallSelectors ss → AreSmallExpressions es → (r : Use) → statements.call s w at (name_with i ss) es ≡ Ok r → Known (name_with i ss) es
-  unfolding statements.call statements.invoked
+  unfolding statements.call statements.check_call
   invoke_known at i ss es small less r is =
       let d : Designator = name_with i ss in
-      let ps = statements.parameters_named s (statements.number_of es) (designator s w d) in
-      let t : Then (both (designator s w d) (arguments s w ps 0 es)) (statements.invoked s w at) r = then_of (both (designator s w d) (arguments s w ps 0 es)) (statements.invoked s w at) r is in
+      let ps = statements.parameters_of_judged s (statements.number_of es) (designator s w d) in
+      let t : Then (both (designator s w d) (arguments s w ps 0 es)) (statements.check_call s w at) r = then_of (both (designator s w d) (arguments s w ps 0 es)) (statements.check_call s w at) r is in
       let b = both_of (designator s w d) (arguments s w ps 0 es) t.value t.is in
-      let a : arguments s w (statements.parameters_of s t.value.0.named (statements.number_of es)) 0 es ≡ Ok t.value.1 = sym (ap (λ (j : Judged check_designated.DesignatedName). arguments s w (statements.parameters_named s (statements.number_of es) j) 0 es) b.first) ∙ b.second in
+      let a : arguments s w (statements.parameters_of s t.value.0.named (statements.number_of es)) 0 es ≡ Ok t.value.1 = sym (ap (λ (j : Judged check_designated.DesignatedName). arguments s w (statements.parameters_of_judged s (statements.number_of es) j) 0 es) b.first) ∙ b.second in
       named_known at i ss es t.value.0 t.value.0.named t.value.1 r (designator_named tokens s h w agrees i ss t.value.0 small b.first) less a t.rest
 
   -- ---- starts
@@ -361,16 +361,16 @@ module _ (tokens : Tokens) (s : Scopes) (h : Here) (w : Context) (agrees : Scope
   held_only m x v (Some (some_components first q k)) i part n e j same = absurd (let bad : Some (some_components first q k) ≡ Some (a_component part n) = e in cc)
   held_only m x v None i part n e j same = absurd i
 
-  named_started : (at : ℕ) (i : Identifier) (ss : Selectors) (c : check_designated.DesignatedName) (n : Named) (os : List Operand) (r : Use) → NamedIs tokens s h i.name (find i.name h.scope) (last_field ss) n (designator_form h (name_with i ss)) → statements.started_named s at c os n ≡ Ok r →
+  named_started : (at : ℕ) (i : Identifier) (ss : Selectors) (c : check_designated.DesignatedName) (n : Named) (os : List Operand) (r : Use) → NamedIs tokens s h i.name (find i.name h.scope) (last_field ss) n (designator_form h (name_with i ss)) → statements.check_start_of s at c os n ≡ Ok r →
       (part : code.ComponentPlace) (k : ℕ) → designator_form h (name_with i ss) ≡ Some (a_component part k) → (j : ℕ) → tokens.systems j ≡ tokens.systems k → j ≡ k
   named_started at i ss c (name.Variable v) os r k is = held_only (find i.name h.scope) (last_field ss) v (designator_form h (name_with i ss)) k
   named_started at i ss c x os r k is = absurd (cc)
 
   start_of : (i : Identifier) (ss : Selectors) (es : Expressions) → AreSmallSelectors ss → (r : Use) → statements.start s w (record { target = name_with i ss; arguments = es }) ≡ Ok r → StartKnown tokens h (record { target = name_with i ss; arguments = es })
-  unfolding statements.start statements.started
+  unfolding statements.start statements.check_start
   start_of i ss es m r is =
       let d : Designator = name_with i ss in
-      let t : Then (both (designator s w d) (arguments s w [] 0 es)) (statements.started s i.at) r = then_of (both (designator s w d) (arguments s w [] 0 es)) (statements.started s i.at) r is in
+      let t : Then (both (designator s w d) (arguments s w [] 0 es)) (statements.check_start s i.at) r = then_of (both (designator s w d) (arguments s w [] 0 es)) (statements.check_start s i.at) r is in
       let b = both_of (designator s w d) (arguments s w [] 0 es) t.value t.is in
       named_started i.at i ss t.value.0 t.value.0.named t.value.1 r (designator_named tokens s h w agrees i ss t.value.0 m b.first) t.rest
 

@@ -34,13 +34,13 @@ AreVariables h (q ∷ qs) (more_expressions e es) = (q.is_var ≡ true → IsVar
 
 module _ (tokens : Tokens) (s : Scopes) (h : Here) (w : Context) (agrees : ScopesAgree tokens s h) where
   -- what a name alone stands for, where that stands somewhere, is no call
-  no_call : (at : ℕ) (i : Identifier) (ss : Selectors) (d : check_designated.DesignatedName) (n : Named) (c : Option Designated) (o : Operand) → NamedIs tokens s h i.name (find i.name h.scope) (last_field ss) n c → calls.value_named s w at d [] n ≡ Ok o → is_stored o.place ≡ true → is_call h.scope (name_with i ss) ≡ false
+  no_call : (at : ℕ) (i : Identifier) (ss : Selectors) (d : check_designated.DesignatedName) (n : Named) (c : Option Designated) (o : Operand) → NamedIs tokens s h i.name (find i.name h.scope) (last_field ss) n c → calls.value_by_name s w at d [] n ≡ Ok o → is_stored o.place ≡ true → is_call h.scope (name_with i ss) ≡ false
   no_call at i ss d (name.Variable v) c o k is a = (let x : IsValue tokens s h w (find i.name h.scope) (last_field ss) = held_value tokens s h w (find i.name h.scope) (last_field ss) v c k in x.call)
   no_call at i ss d (name.Parameter v) c o k is a = (let x : IsValue tokens s h w (find i.name h.scope) (last_field ss) = held_value tokens s h w (find i.name h.scope) (last_field ss) v c k in x.call)
-  no_call at i ss d (name.Constant b) c o k is a = absurd (none_made (calls.value_named s w at d [] (name.Constant b)) o (alone_made (value at (values_of b) d.uses) [] refl) is a)
-  no_call at i ss d (name.Predeclared p) c o k is a = absurd (none_made (calls.value_named s w at d [] (name.Predeclared p)) o (applied_made at p [] (calls.total_use d.uses [])) is a)
-  no_call at i ss d (name.Routine n) c o k is a = absurd (none_made (calls.value_named s w at d [] (name.Routine n)) o (call_made s w at d.name_at true n [] d.uses) is a)
-  no_call at i ss d (name.Entry n) c o k is a = absurd (none_made (calls.value_named s w at d [] (name.Entry n)) o (call_made s w at d.name_at false n [] d.uses) is a)
+  no_call at i ss d (name.Constant b) c o k is a = absurd (none_made (calls.value_by_name s w at d [] (name.Constant b)) o (alone_made (value at (values_of b) d.uses) [] refl) is a)
+  no_call at i ss d (name.Predeclared p) c o k is a = absurd (none_made (calls.value_by_name s w at d [] (name.Predeclared p)) o (applied_made at p [] (calls.total_use d.uses [])) is a)
+  no_call at i ss d (name.Routine n) c o k is a = absurd (none_made (calls.value_by_name s w at d [] (name.Routine n)) o (call_made s w at d.name_at true n [] d.uses) is a)
+  no_call at i ss d (name.Entry n) c o k is a = absurd (none_made (calls.value_by_name s w at d [] (name.Entry n)) o (call_made s w at d.name_at false n [] d.uses) is a)
   no_call at i ss d _ c o k is a = absurd (cc)
 
   pub stored_variable : (v : Bool) (e : Expression) (o : Operand) → IsSmallExpression e → expression s w v e ≡ Ok o → is_stored o.place ≡ true → IsVariable h (variable_in e)

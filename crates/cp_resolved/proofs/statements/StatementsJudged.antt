@@ -80,11 +80,11 @@ module _ (s : Scopes) (w : Context) (f : Bool) (scope : Scope) where
   -- ---- calls of procedures
 
   -- a procedure has no result
-  pub procedure_is : (at name_at : ℕ) (b : Bool) (n : ℕ) (os : List Operand) (u r : Use) → statements.procedure_called s w at name_at b n os u ≡ Ok r → calls.called s w at name_at b n os u ≡ Ok r
-  unfolding statements.procedure_called
+  pub procedure_is : (at name_at : ℕ) (b : Bool) (n : ℕ) (os : List Operand) (u r : Use) → statements.check_procedure_call s w at name_at b n os u ≡ Ok r → calls.check_routine_call s w at name_at b n os u ≡ Ok r
+  unfolding statements.check_procedure_call
   procedure_is at name_at b n os u r is = go (heading_at n s).result is
     where
-      go : (v : Option ValueType) → statements.procedure_of s w at name_at b n os u v ≡ Ok r → calls.called s w at name_at b n os u ≡ Ok r
+      go : (v : Option ValueType) → statements.procedure_of s w at name_at b n os u v ≡ Ok r → calls.check_routine_call s w at name_at b n os u ≡ Ok r
       go None i = i
       go (Some v) i = absurd (cc)
 
@@ -100,7 +100,7 @@ module _ (s : Scopes) (w : Context) (f : Bool) (scope : Scope) where
     invoked : InvokedAs (name.Predeclared p)
     below : Below f u
 
-  performed_ok : (at : ℕ) (p : Predeclared) (os : List Operand) (u r : Use) → Below f r → statements.performed s w at p os u ≡ Ok r → PerformedOk p os u
+  performed_ok : (at : ℕ) (p : Predeclared) (os : List Operand) (u r : Use) → Below f r → statements.check_standard_call s w at p os u ≡ Ok r → PerformedOk p os u
   performed_ok at predeclared.Display os u r h is = record { invoked = tt; below = subst (Below f) (sym (unless_ok (statements.display_faults at os) u r is).1) h }
   performed_ok at predeclared.Delay os u r h is =
       let x = unless_ok (statements.waiting_faults s w at predeclared.Delay os) (both_uses u statements.one_delay) r is in
@@ -117,7 +117,7 @@ module _ (s : Scopes) (w : Context) (f : Bool) (scope : Scope) where
     pub first : Below f d.uses
     pub others : AreBelow f os
 
-  pub named_ok : (at : ℕ) (d : check_designated.DesignatedName) (os : List Operand) (n : Named) (r : Use) → Below f r → statements.invoked_named s w at d os n ≡ Ok r → NamedOk d n os
+  pub named_ok : (at : ℕ) (d : check_designated.DesignatedName) (os : List Operand) (n : Named) (r : Use) → Below f r → statements.check_call_of s w at d os n ≡ Ok r → NamedOk d n os
   named_ok at d os (name.Predeclared p) r h is =
       let x : PerformedOk p os (calls.total_use d.uses os) = performed_ok at p os (calls.total_use d.uses os) r h is in
       let y = total_below f d.uses os x.below in
@@ -134,13 +134,13 @@ module _ (s : Scopes) (w : Context) (f : Bool) (scope : Scope) where
 
   -- ---- starts
 
-  component_below : (at : ℕ) (d : check_designated.DesignatedName) (os : List Operand) (v : ValueType) (r : Use) → Below f r → statements.started_named s at d os (name.Variable v) ≡ Ok r → Below f d.uses × AreBelow f os
+  component_below : (at : ℕ) (d : check_designated.DesignatedName) (os : List Operand) (v : ValueType) (r : Use) → Below f r → statements.check_start_of s at d os (name.Variable v) ≡ Ok r → Below f d.uses × AreBelow f os
   component_below at d os (types.Component k n) r h is =
       let x = unless_ok (calls.fit_faults at (heading_at n s).parameters os) (both_uses (calls.total_use d.uses os) (statements.start_use (statements.start_need k (as_need (shape_in n s.shapes))))) r is in
       total_below f d.uses os (first_below f (calls.total_use d.uses os) (statements.start_use (statements.start_need k (as_need (shape_in n s.shapes)))) (subst (Below f) (sym x.1) h))
   component_below at d os x r h is = absurd (cc)
 
-  pub started_below : (at : ℕ) (d : check_designated.DesignatedName) (os : List Operand) (n : Named) (r : Use) → Below f r → statements.started_named s at d os n ≡ Ok r → Below f d.uses × AreBelow f os
+  pub started_below : (at : ℕ) (d : check_designated.DesignatedName) (os : List Operand) (n : Named) (r : Use) → Below f r → statements.check_start_of s at d os n ≡ Ok r → Below f d.uses × AreBelow f os
   started_below at d os (name.Variable v) r h is = component_below at d os v r h is
   started_below at d os x r h is = absurd (cc)
 

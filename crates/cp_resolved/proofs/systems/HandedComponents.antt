@@ -1,12 +1,12 @@
 -- The parameters of a system type that are components have cells in their order, and the names lead to these.
 use Rattle.std.proofs.Common.{◌≡◌, ℕ, ◌+◌, true, false, List, [], ◌∷◌, ◌++◌, length, Some, slice_get, refl, sym, ap, subst, ◌∙◌, ◌⊎◌, inl, inr, append_assoc, append-nil, arith, length-append}
-use Rattle.cp_resolved.proofs.Words.{bytes_eq, bytes_eq-Decides, Identifier, Permanent, CellType, LayoutMeaning, ComponentParameter, named_type, Name, Ty}
+use Rattle.cp_resolved.proofs.Words.{bytes_eq, bytes_eq-Decides, Identifier, Permanent, CellType, LayoutMeaning, ComponentParameter, type_of_name, Name, Ty}
 use Rattle.cp_resolved.proofs.Words.{Scope, permanent_variable, Parameter, Heading, names_of, parameters_named, parts_begun, AreParameters}
 use Rattle.cp_tree.specs.Syntax as syntax
 use Rattle.cp_symbols.specs.declared.kinds.CellType.TheVariants as types
 use Rattle.cp_symbols.specs.declared.names.LayoutMeaning.TheVariants as meaning
 use Rattle.cp_layout.specs.Layers.{Names, Layer, Owned, find}
-use Rattle.cp_layout.specs.LaidDeclarations.{component_cell, permanent_part, permanent_parts, Parameters, entered, system_parameter, system_parameters_of, system_group, system_groups}
+use Rattle.cp_layout.specs.LaidDeclarations.{component_cell, permanent_part, permanent_parts, Parameters, enter_system, system_parameter, system_parameters_of, system_group, system_groups}
 use Rattle.cp_meaning.specs.Types as named
 use Rattle.cp_meaning.specs.Scopes as scopes
 use Rattle.cp_meaning.specs.Declarations as meant
@@ -144,7 +144,7 @@ module _ (k : Numbering) where
       let x : Parameters × Layer = system_group l ps g in
       let c : Heading = meant.with_group permanent_variable false j g in
       let a : Reached k l x.1 c.scope [] = system_groups_reached k l j ps (g ∷ []) (p.0, tt) i in
-      groups_bound x.1 c x.0 gs p.1 a.names (parameters_bound l ps (meant.type_named j.scope g.type_name.name) (named_type l g.type_name.name) g.names j.parameters (named_type_same k l j.scope g.type_name.name i) h)
+      groups_bound x.1 c x.0 gs p.1 a.names (parameters_bound l ps (meant.type_named j.scope g.type_name.name) (type_of_name l g.type_name.name) g.names j.parameters (named_type_same k l j.scope g.type_name.name i) h)
 
   -- ---- what is declared after them
 
@@ -162,7 +162,7 @@ module _ (k : Numbering) where
   pub system_bound : (l : Layer) (s : Scope) (d : syntax.System) → AreParameters (record { parameters = []; scope = scopes.seen_inside s }) d.parameters → AreOuter s → InStep k l.types l.names s →
       AreBound (parts_begun l d).owned.parameters (meant.with_groups permanent_variable (record { parameters = []; scope = scopes.seen_inside s }) d.parameters).parameters (parts_begun l d).names
   system_bound l s d f g i =
-      let x : Layer = (entered l).1 in
+      let x : Layer = (enter_system l).1 in
       let y : Layer = (system_groups x [] d.parameters).1 in
       let u : Scope = scopes.seen_inside s in
       let j : Heading = record { parameters = []; scope = u } in

@@ -3,7 +3,7 @@ use Rattle.std.proofs.Common.{◌≡◌, ℕ, List, [], ◌∷◌, ◌++◌, len
 use Rattle.cp_resolved.proofs.Words.{none-some, RoutineView, routine_begun, initial_begun, parameters_of, parts_begun, system_begun, whole_laid, Bool, true}
 use Rattle.cp_tree.specs.Syntax as syntax
 use Rattle.cp_layout.specs.Layers.{Layer, Owned, System, nothing_laid, routine_of, with_routine}
-use Rattle.cp_layout.specs.LaidDeclarations.{heading, with_heading, opened, routine, routines, initial_statement, system, system_of, definition, system_definition, system_definitions, program_part, program_parts, constants, variables, program}
+use Rattle.cp_layout.specs.LaidDeclarations.{heading, with_heading, open_routine, routine, routines, initial_statement, system, system_of, definition, system_definition, system_definitions, program_part, program_parts, constants, variables, program}
 use Rattle.cp_resolved.proofs.laid.Declares.{type_declares, constants_declare, variables_declare}
 use Rattle.cp_resolved.proofs.names.Entries.{still_there, last_entry, last_or_before}
 use Rattle.cp_resolved.proofs.laid.Grown.{body_grew}
@@ -52,7 +52,7 @@ all_same l m rs ks h n v e = subst (λ ss. OwnsAll ss v) (sym ks) (h n v (ap (λ
 
 pub begun_owned : (l : Layer) (r : syntax.Routine) → (routine_begun l r).owned ≡ l.owned
 begun_owned l r =
-    let x : Layer = (opened l r.name.name).1 in
+    let x : Layer = (open_routine l r.name.name).1 in
     let y = heading x r.name.name r.kind in
     local_parts_owned (with_heading y.1 y.0) r.parts ∙ heading_owned x r.name.name r.kind
 

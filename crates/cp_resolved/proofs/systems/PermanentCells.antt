@@ -259,7 +259,7 @@ module _ (k : Numbering) where
       let t : Ty = meant.type_named j.scope g.type_name.name in
       let xs : List Name = names_of g.names in
       let qs : List Variable = parameter_variables j.parameters in
-      let v : CellType = laid.named_type l g.type_name.name in
+      let v : CellType = laid.type_of_name l g.type_name.name in
       let is : TypeIs k l.types t v = named_type_same k l j.scope g.type_name.name i in
       let a : Reached k l x.1 c.scope [] = system_parameters_reached k l j.scope ps t v g.names p.0 is i in
       let e : parameter_variables c.parameters ≡ qs ++ named_variables xs t = variables_append j.parameters (parameters_named xs t false) ∙ ap (λ us. qs ++ us) (named_parameters xs t false) in

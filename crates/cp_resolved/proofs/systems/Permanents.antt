@@ -1,13 +1,13 @@
 -- Permanent variables and the parameters of system types, as they are declared one after the other: where each lies and which components each is.
 use Rattle.std.proofs.Common.{◌≡◌, ℕ, ◌<◌, List, [], ◌∷◌, ◌++◌, length, Option, Some, None, slice_get, refl, sym, ap, subst, ◌∙◌, ◌⊎◌, inl, inr, append_assoc, append-nil, false, true}
-use Rattle.cp_resolved.proofs.Words.{none-some, same_Some, Identifier, Permanent, CellType, Contained, LayoutMeaning, named_type, written_type, Ty, Scope, Variable}
+use Rattle.cp_resolved.proofs.Words.{none-some, same_Some, Identifier, Permanent, CellType, Contained, LayoutMeaning, type_of_name, written_type, Ty, Scope, Variable}
 use Rattle.cp_resolved.proofs.Words.{Block, Heading, names_of, named_variables, parts_begun, in_type, each_in, in_part, Each, IsSmallType, IsSmallPart, AreNumbered}
 use Rattle.cp_resolved.proofs.Words.{AreParameters, Compounds, array, array_type, as_array}
 use Rattle.cp_tree.specs.Syntax as syntax
 use Rattle.cp_symbols.specs.declared.kinds.CellType.TheVariants as types
 use Rattle.cp_symbols.specs.declared.names.LayoutMeaning.TheVariants as meaning
 use Rattle.cp_layout.specs.Layers.{Names, Layer, find, seen_inside, is_open, outermost, nothing_laid}
-use Rattle.cp_layout.specs.LaidDeclarations.{array_components, components_in, components_of, constants, type_definitions, variable, variable_with, variables_of, variable_group, variables, permanent_part, permanent_parts, Parameters, entered, system_parameter, system_parameters_of, system_group, system_groups}
+use Rattle.cp_layout.specs.LaidDeclarations.{array_components, components_in, components_of, constants, type_definitions, variable, variable_with, variables_of, variable_group, variables, permanent_part, permanent_parts, Parameters, enter_system, system_parameter, system_parameters_of, system_group, system_groups}
 use Rattle.cp_meaning.specs.Types as named
 use Rattle.cp_meaning.specs.Scopes as scopes
 use Rattle.cp_meaning.specs.Declarations as meant
@@ -174,14 +174,14 @@ module _ (k : Numbering) where
       let x : Parameters × Layer = system_group l ps g in
       let j : Heading = meant.with_group scopes.permanent_variable false h g in
       let r : Reached k l x.1 j.scope [] = system_groups_reached k l h ps (g ∷ []) (f.0, tt) i in
-      groups_own x.1 j x.0 gs f.1 r.names (parameters_own l ps (meant.type_named h.scope g.type_name.name) (named_type l g.type_name.name) g.names (named_type_same k l h.scope g.type_name.name i) o)
+      groups_own x.1 j x.0 gs f.1 r.names (parameters_own l ps (meant.type_named h.scope g.type_name.name) (type_of_name l g.type_name.name) g.names (named_type_same k l h.scope g.type_name.name i) o)
 
   -- ---- a system type
 
   no_permanent : (ns : Names) (x : List ℕ) (m : LayoutMeaning) → is_open m ≡ false → find x (seen_inside ns) ≡ Some m → ⊥
   no_permanent ns x m closed e = let w : false ≡ true = sym closed ∙ open_found x m ns e in cc
 
-  entered_owns : (l : Layer) → OwnsAt k (entered l).1 []
+  entered_owns : (l : Layer) → OwnsAt k (enter_system l).1 []
   entered_owns l =
       record {
         contained = refl;
@@ -194,10 +194,10 @@ module _ (k : Numbering) where
       }
 
   -- before its routines
-  pub system_owns : (l : Layer) (s : Scope) (d : syntax.System) → Each IsSmallPart d.parts → AreParameters (record { parameters = []; scope = scopes.seen_inside s }) d.parameters → AreOuter s → AreNumbered k.firsts (length l.constants) (each_in in_part d.parts) → InStep k l.types l.names s → Named (entered l).1 →
+  pub system_owns : (l : Layer) (s : Scope) (d : syntax.System) → Each IsSmallPart d.parts → AreParameters (record { parameters = []; scope = scopes.seen_inside s }) d.parameters → AreOuter s → AreNumbered k.firsts (length l.constants) (each_in in_part d.parts) → InStep k l.types l.names s → Named (enter_system l).1 →
       OwnsAt k (parts_begun l d) (meant.parts_in scopes.permanent_variable (record { variables = []; scope = (meant.with_groups scopes.permanent_variable (record { parameters = []; scope = scopes.seen_inside s }) d.parameters).scope }) d.parts).variables
   system_owns l s d h f g n i a =
-      let x : Layer = (entered l).1 in
+      let x : Layer = (enter_system l).1 in
       let y : Layer = (system_groups x [] d.parameters).1 in
       let u : Scope = scopes.seen_inside s in
       let v : Scope = (meant.with_groups scopes.permanent_variable (record { parameters = []; scope = u }) d.parameters).scope in

@@ -8,7 +8,7 @@ use Rattle.cp_resolved.proofs.Words.{IsSmallProgramPart, IsSmallProgram, AreNumb
 use Rattle.cp_tree.specs.Syntax as syntax
 use Rattle.cp_symbols.specs.declared.names.LayoutMeaning.TheVariants as meaning
 use Rattle.cp_layout.specs.Layers as layers
-use Rattle.cp_layout.specs.LaidDeclarations.{type_named, constants, variables, heading_with, with_new_frame, with_heading, routines, initial_statement, system_of, system, definition, system_definition, system_definitions, program_part, program_parts, program}
+use Rattle.cp_layout.specs.LaidDeclarations.{with_type_name, constants, variables, heading_with, with_new_frame, with_heading, routines, initial_statement, system_of, system, definition, system_definition, system_definitions, program_part, program_parts, program}
 use Rattle.cp_meaning.specs.Scopes as scopes
 use Rattle.cp_meaning.specs.Systems.{SystemMeaning, with_routines, system_in, Declared, definition_in, definitions_in, program_part_in, program_parts_in, declared, program_system, own_meaning}
 use Rattle.cp_resolved.specs.Openings.{Opening, parts_scope, definition_openings, definitions_openings, part_openings, parts_openings, openings_of, routine_openings, initial_opening, AreOpened}
@@ -135,14 +135,14 @@ module _ (k : Numbering) (end : Layer) where
 
   -- ---- the declarations of the program
 
-  definition_added : (l : Layer) (d : Declared) (n : syntax.SystemDefinition) (v : syntax.Definition) → IsSmallDefinition v → IsFitDefinition d v → AreNumbered k.firsts (length l.constants) (in_definition v) → Standing k l d → Whole l → Outside l → Extends (type_named n.name.name (definition l v)) end → OwnsAt k l d.variables →
-      Added l (type_named n.name.name (definition l v)) d (definition_in d n v) (definition_parts l v)
+  definition_added : (l : Layer) (d : Declared) (n : syntax.SystemDefinition) (v : syntax.Definition) → IsSmallDefinition v → IsFitDefinition d v → AreNumbered k.firsts (length l.constants) (in_definition v) → Standing k l d → Whole l → Outside l → Extends (with_type_name n.name.name (definition l v)) end → OwnsAt k l d.variables →
+      Added l (with_type_name n.name.name (definition l v)) d (definition_in d n v) (definition_parts l v)
   unfolding system
   definition_added l d n (syntax.type_definition t) h f e i w out x o =
       let c = type_declares l t in
       let y = written_type l t in
-      added_none l (type_named n.name.name y) d (definition_in d n (syntax.type_definition t)) (ap (λ (j : Layer). j.systems) c.same) refl (
-      owns_declared k l (type_named n.name.name y) d.variables (declares_trans l y.1 (type_named n.name.name y) c (declares_names y.1 ((n.name.name, meaning.Kind y.0) ∷ []) y.1.owned y.1.frame (type_named n.name.name y).noted)) (definition_owned l (syntax.type_definition t))
+      added_none l (with_type_name n.name.name y) d (definition_in d n (syntax.type_definition t)) (ap (λ (j : Layer). j.systems) c.same) refl (
+      owns_declared k l (with_type_name n.name.name y) d.variables (declares_trans l y.1 (with_type_name n.name.name y) c (declares_names y.1 ((n.name.name, meaning.Kind y.0) ∷ []) y.1.owned y.1.frame (with_type_name n.name.name y).noted)) (definition_owned l (syntax.type_definition t))
       (under_kind l.names n.name.name y.0 y.1.names (kept.type_keep (Under l.names) IsOther (under_added l.names) (λ b z i. i) (λ v i. i) l t (under_same l.names))) o
       )
   definition_added l d n (syntax.system_definition s) h f e i w out x o =

@@ -1,7 +1,7 @@
 -- The law of bodies is not empty: of the procedure of a program, which calls a function with its `var` parameter, what is wanted holds.
 use Rattle.std.proofs.Common.{◌≡◌, ◌≤◌, ◌∙◌, ◌⊎◌, inl, inr, ℕ, Bool, true, false, [], ◌∷◌, length, Option, Some, None, slice_get, refl, sym, ap, subst, arith}
 use Rattle.cp_resolved.proofs.Words.{codes, bytes_eq, none-some, LayoutMeaning, Names, Layer, outermost, nothing_laid, Tables, routine_at, plain, laid}
-use Rattle.cp_resolved.proofs.Words.{simple_type, written_type, statements, statement, assigned, Name, ordinal, RoutineMeaning, routine_of_type}
+use Rattle.cp_resolved.proofs.Words.{simple_type, written_type, statements, statement, assign, Name, ordinal, RoutineMeaning, routine_of_type}
 use Rattle.cp_resolved.proofs.Words.{routine_begun, all_begun, ground_of, BodyFormed, Numbering, Here, is_own, place_of, meaning_at, numbering_of, BodyIs, KnowsStarts}
 use Rattle.cp_tree.specs.Syntax as syntax
 use Rattle.cp_slots.specs.declared.place.PlaceOrigin.TheVariants as origin
@@ -39,7 +39,7 @@ abbrev names_here : Names
 names_here = (codes "b", meaning.Variable (origin.Reference 0) (values_of base.Integer)) ∷ (codes "p", meaning.Routine 1) ∷ (codes "f", meaning.Routine 0) ∷ (codes "n", meaning.Variable (origin.Permanent 0) (values_of base.Integer)) ∷ outermost
 
 names_p : begun_p.names ≡ names_here
-unfolding simple_type written_type expression sum more_terms term more_factors factor elements first_value arguments_from designator selectors selector statements statement assigned variables variables_of local_parts heading parameter_groups var_parameters_of constant_groups constant_parameters_of program_parts least copies compound_below
+unfolding simple_type written_type expression sum more_terms term more_factors factor elements first_value arguments_from designator selectors selector statements statement assign variables variables_of local_parts heading parameter_groups var_parameters_of constant_groups constant_parameters_of program_parts least copies compound_below
 names_p = refl
 
 -- ---- routines that are visible
@@ -64,11 +64,11 @@ abbrev Known : ℕ → Type 0
 Known n = (h.layouts.owners n ≡ h.system) × HeadingIs k h begun_p n (k.routines n)
 
 knows_p : Known 1
-unfolding simple_type written_type expression sum more_terms term more_factors factor elements first_value arguments_from designator selectors selector statements statement assigned variables variables_of local_parts heading parameter_groups var_parameters_of constant_groups constant_parameters_of program_parts least copies compound_below
+unfolding simple_type written_type expression sum more_terms term more_factors factor elements first_value arguments_from designator selectors selector statements statement assign variables variables_of local_parts heading parameter_groups var_parameters_of constant_groups constant_parameters_of program_parts least copies compound_below
 knows_p = (refl, record { same = refl; parameters = (refl, refl, tt) })
 
 knows_f : Known 0
-unfolding simple_type written_type expression sum more_terms term more_factors factor elements first_value arguments_from designator selectors selector statements statement assigned variables variables_of local_parts heading parameter_groups var_parameters_of constant_groups constant_parameters_of program_parts least copies compound_below
+unfolding simple_type written_type expression sum more_terms term more_factors factor elements first_value arguments_from designator selectors selector statements statement assign variables variables_of local_parts heading parameter_groups var_parameters_of constant_groups constant_parameters_of program_parts least copies compound_below
 knows_f = (refl, record { same = refl; parameters = (refl, (values_of base.Integer, refl, refl), tt) })
 
 all_known : AllRoutines Known names_here
@@ -145,7 +145,7 @@ one_cell : 1 ≤ most
 one_cell = omega arith
 
 pub body_formed : BodyFormed calling 1 begun_p
-unfolding simple_type written_type expression sum more_terms term more_factors factor elements first_value arguments_from designator selectors selector statements statement assigned variables variables_of local_parts heading parameter_groups var_parameters_of constant_groups constant_parameters_of program_parts least copies compound_below
+unfolding simple_type written_type expression sum more_terms term more_factors factor elements first_value arguments_from designator selectors selector statements statement assign variables variables_of local_parts heading parameter_groups var_parameters_of constant_groups constant_parameters_of program_parts least copies compound_below
 body_formed =
     record {
       headings = headings_known;
@@ -158,7 +158,7 @@ body_formed =
           act = code.assign parameter_b (code.load called_f) lowest highest;
           target = refl;
           formed = refl;
-          assigned = refl;
+          assign = refl;
           moved = one_cell;
           named = tt;
           chosen = tt;

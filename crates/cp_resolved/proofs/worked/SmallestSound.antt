@@ -1,13 +1,13 @@
 -- The law of sound tables is not empty: the smallest program has what it asks.
 use Rattle.std.proofs.Common.{◌≡◌, ℕ, zero, suc, ◌<◌, IsTrue, length, refl, arith}
-use Rattle.cp_resolved.proofs.Words.{IsSound, most, plain, laid, tables_laid, room_from, program_listed, contained_by, contents_least, program, program_parts, routines}
-use Rattle.cp_resolved.proofs.Words.{checked, statements, statement, ActionNames, item_at, routine_at, system_at, IsModest, IsOwnCall}
+use Rattle.cp_resolved.proofs.Words.{IsSound, most, plain, laid, tables_laid, room_from, components_of_program, add_contained, contents_least, program, program_parts, routines}
+use Rattle.cp_resolved.proofs.Words.{check_invariants, statements, statement, ActionNames, item_at, routine_at, system_at, IsModest, IsOwnCall}
 use Rattle.cp_slots.specs.Inside.{action_inside}
 use Rattle.cp_resolved.proofs.worked.SmallestProgram.{smallest, tables}
 use Rattle.cp_resolved.proofs.sound.SoundTables.{laid_sound}
 
 smallest_laid : plain tables ≡ laid smallest
-unfolding laid tables_laid room_from program program_parts routines checked statements statement program_listed contained_by contents_least
+unfolding laid tables_laid room_from program program_parts routines check_invariants statements statement components_of_program add_contained contents_least
 smallest_laid = refl
 
 rooms : (number : ℕ) → number < length tables.routines → (routine_at tables number).room < most

@@ -23,7 +23,7 @@ use Rattle.cp_refine.proofs.expressions.Parts.{encode_length}
 use Rattle.cp_refine.proofs.expressions.SetCells.{stored_is}
 use Rattle.cp_store.specs.declared.memory.Address.TheVariants.{Permanent}
 use Rattle.cp_store.specs.Memory.{Memory}
-use Rattle.cp_store.specs.Sets.{stored_at}
+use Rattle.cp_store.specs.Sets.{load_set}
 use Rattle.cp_story.specs.Changes.{are_same, cells_between}
 use Rattle.cp_story_laws.specs.Changes.{is_queues}
 use Rattle.cp_story_laws.specs.SameValues.{same_fields, same_members, same_value, same_values, same_waiting}
@@ -109,7 +109,7 @@ value_decides v w = (value_one v w, λ e. subst (λ (u : Value). same_value v u 
 
 -- the bits that eight cells hold
 bits_in : List ℤ → ℕ
-bits_in cells = (stored_at (let m : Memory = record { permanents = cells; cells = []; references = [] } in m) (Permanent 0)).members
+bits_in cells = (load_set (let m : Memory = record { permanents = cells; cells = []; references = [] } in m) (Permanent 0)).members
 
 read_back : (bits : ℕ) → bits < 2 ^ 128 → bits_in (set_cells bits) ≡ bits
 unfolding bits_in

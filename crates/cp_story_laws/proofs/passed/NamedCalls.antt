@@ -1,4 +1,4 @@
--- In each state of the slot machine a frame that is left by a return executes a routine, which has a name, and not an initial statement.
+-- In each state of the slot machine a frame that is leave_frame by a return executes a routine, which has a name, and not an initial statement.
 use Rattle.std.proofs.Common.{◌≡◌, ◌∙◌, ◌⊎◌, inl, inr, ℕ, ◌<◌, ◌≤◌, ◌==◌, Bool, true, false, if◌then◌else◌, List, [], ◌∷◌, length, Option, Some, None, Result, Ok, Err, ap, map, sym, subst, arith}
 use Rattle.std.proofs.lemmas.Bool.{cases_lt}
 use Rattle.std.proofs.lemmas.List.{get_or-map, get_or_past, length-map}
@@ -19,7 +19,7 @@ use Rattle.cp_store.specs.declared.memory.Address.{Address}
 use Rattle.cp_store.specs.declared.memory.Address.TheVariants as address
 use Rattle.cp_store.specs.declared.memory.Frame.{Frame}
 use Rattle.cp_store.specs.Sets as sets
-use Rattle.cp_store.specs.Values.{is_true, ranged}
+use Rattle.cp_store.specs.Values.{is_true, check_range}
 use Rattle.cp_machine.specs.declared.discipline.Discipline.{Discipline}
 use Rattle.cp_machine.specs.declared.discipline.Gates.{Gates}
 use Rattle.cp_machine.specs.declared.discipline.Gates.TheVariants.{First, Any}
@@ -30,13 +30,13 @@ use Rattle.cp_machine.specs.declared.process.Entry.TheVariants.{Rest, Successor,
 use Rattle.cp_machine.specs.declared.process.Status.{Status}
 use Rattle.cp_machine.specs.declared.process.Status.TheVariants.{AtGate, Delayed, Ended, Ready}
 use Rattle.cp_machine.specs.declared.state.TheConstants.{MOST_SHOWN}
-use Rattle.cp_machine.specs.Calls.{called, called_in, called_by, started, start_inside, delayed_in, delay_at, continue_at, continue_by, continued_from, continued_in, frame_behind, left, opened}
-use Rattle.cp_machine.specs.Kernel.{continued, delayed, entered_by, first_in, let_in, let_in_by, one_in, resumed, signalled, signalled_by, waits_in}
+use Rattle.cp_machine.specs.Calls.{open_call, call_in, call_by, start_by, start_inside, delay_in, delay_at, continue_at, continue_by, continue_from, continue_in, frame_behind, leave_frame, open_frame}
+use Rattle.cp_machine.specs.Kernel.{resume, delay_caller, enter_by, first_in, let_in, let_in_by, one_in, go_on_inside, signal, signal_by, waits_in}
 use Rattle.cp_machine.specs.Machine.{Machine, Thread, is_initialised, is_uninitialised, is_unstarted, monitor_at, no_thread, phase_at, thread_at, with_stack, with_status}
 use Rattle.cp_machine.specs.Memory.{address_of, arguments_of, component_of, parameters_bound, set_of, value_of}
-use Rattle.cp_machine.specs.Opening.{admitted, admitted_at, opening, still, unstarted_thread}
+use Rattle.cp_machine.specs.Opening.{admit_waiting, admit_at, opening, still, unstarted_thread}
 use Rattle.cp_machine.specs.Stack.{from_end, rest_of}
-use Rattle.cp_machine.specs.Statements.{Stepped, arm_for, gone_on, is_beyond, next_value, succeeded, with_value}
+use Rattle.cp_machine.specs.Statements.{Stepped, arm_for, gone_on, is_beyond, next_value, successor_step, with_value}
 use Rattle.cp_machine.specs.Step.{act, step_at, take_top}
 use Rattle.cp_meaning.proofs.Frames.{at_set}
 use Rattle.cp_meaning.specs.State as named
@@ -127,23 +127,23 @@ module _ (os : List Opening) where
   let_in_named : (m : Machine) (monitor : ℕ) → AreNamed m → AreNamed (let_in m monitor)
   let_in_named m monitor h = let_in_by_named m.discipline.gates m monitor (monitor_at m monitor).line h
 
-  entered_named : (holder : Option ℕ) (m : Machine) (pid monitor : ℕ) → AreNamed m → AreNamed (entered_by holder m pid monitor)
+  entered_named : (holder : Option ℕ) (m : Machine) (pid monitor : ℕ) → AreNamed m → AreNamed (enter_by holder m pid monitor)
   entered_named None m pid monitor h = h
   entered_named (Some q) m pid monitor h = status_named m pid (AtGate monitor) h
 
-  delayed_named : (m : Machine) (pid monitor cell : ℕ) → AreNamed m → AreNamed (delayed m pid monitor cell)
+  delayed_named : (m : Machine) (pid monitor cell : ℕ) → AreNamed m → AreNamed (delay_caller m pid monitor cell)
   delayed_named m pid monitor cell h =
       let marked : Machine = record m { permanents = slice_set m.permanents cell (pos 1) } in
       let_in_named (with_status marked pid (Delayed cell)) monitor (status_named marked pid (Delayed cell) h)
 
-  resumed_named : (waiter : Option ℕ) (m : Machine) (monitor : ℕ) → AreNamed m → AreNamed (resumed waiter m monitor)
+  resumed_named : (waiter : Option ℕ) (m : Machine) (monitor : ℕ) → AreNamed m → AreNamed (go_on_inside waiter m monitor)
   resumed_named None m monitor h = let_in_named m monitor h
   resumed_named (Some q) m monitor h = status_named m q Ready h
 
-  continued_named : (m : Machine) (monitor cell : ℕ) → AreNamed m → AreNamed (continued m monitor cell)
+  continued_named : (m : Machine) (monitor cell : ℕ) → AreNamed m → AreNamed (resume m monitor cell)
   continued_named m monitor cell h = resumed_named (waits_in m cell) (record m { permanents = slice_set m.permanents cell (pos 0) }) monitor h
 
-  signalled_by_named : (by : Signals) (waiter : Option ℕ) (m : Machine) (pid monitor : ℕ) → AreNamed m → AreNamed (signalled_by by waiter m pid monitor)
+  signalled_by_named : (by : Signals) (waiter : Option ℕ) (m : Machine) (pid monitor : ℕ) → AreNamed m → AreNamed (signal_by by waiter m pid monitor)
   signalled_by_named signals.Return None m pid monitor h = h
   signalled_by_named signals.Continue None m pid monitor h = h
   signalled_by_named signals.Wait None m pid monitor h = h
@@ -151,13 +151,13 @@ module _ (os : List Opening) where
   signalled_by_named signals.Continue (Some q) m pid monitor h = status_named m q (AtGate monitor) h
   signalled_by_named signals.Wait (Some q) m pid monitor h = status_named (with_status m pid (AtGate monitor)) q Ready (status_named m pid (AtGate monitor) h)
 
-  signalled_named : (m : Machine) (pid monitor cell : ℕ) → AreNamed m → AreNamed (signalled m pid monitor cell)
+  signalled_named : (m : Machine) (pid monitor cell : ℕ) → AreNamed m → AreNamed (signal m pid monitor cell)
   signalled_named m pid monitor cell h = signalled_by_named m.discipline.signals (waits_in m cell) (record m { permanents = slice_set m.permanents cell (pos 0) }) pid monitor h
 
-  pub admitted_named : (m : Machine) (pid : ℕ) → AreNamed m → AreNamed (admitted m pid)
+  pub admitted_named : (m : Machine) (pid : ℕ) → AreNamed m → AreNamed (admit_waiting m pid)
   admitted_named m pid h = go m.pending
     where
-      go : (o : Option ℕ) → AreNamed (admitted_at o m pid)
+      go : (o : Option ℕ) → AreNamed (admit_at o m pid)
       go None = h
       go (Some monitor) = status_named m pid Ready h
 
@@ -192,7 +192,7 @@ module _ (os : List Opening) where
     either true x y j k = j
     either false x y j k = k
 
-    left_named : (caller : Frame) (result : Option ℕ) (es : List Entry) → Named caller es → AreNamed (left r m pid caller result es)
+    left_named : (caller : Frame) (result : Option ℕ) (es : List Entry) → Named caller es → AreNamed (leave_frame r m pid caller result es)
     left_named caller result es k = set_named m.threads pid _ k h
 
     -- what follows the item stands below
@@ -212,31 +212,31 @@ module _ (os : List Opening) where
       goes : (at : ℕ) (variable : PlaceOrigin) (list : Option ℕ) (z last : ℤ) → AreNamed (gone_on m pid at variable list es last z)
       goes at variable list z last = memory_named (with_stack m pid (rest_of list (Successor at z last ∷ es))).threads pid _ _ (stack_named m pid (rest_of list (Successor at z last ∷ es)) (rest_named own.frame list (Successor at z last ∷ es) s) h)
 
-      called_named : (routine component : ℕ) (arguments : List Argument) (bounds : List Bound) (result monitor : Option ℕ) → IsCalled os routine → AreNamed (called r m pid routine component arguments bounds result monitor rest)
+      called_named : (routine component : ℕ) (arguments : List Argument) (bounds : List Bound) (result monitor : Option ℕ) → IsCalled os routine → AreNamed (open_call r m pid routine component arguments bounds result monitor rest)
       called_named routine component arguments bounds result monitor k =
-          memory_named (opened r m pid routine component (Return own.frame result monitor) rest).threads pid _ _ (set_named m.threads pid _ (rest_named (frame_behind r own routine component) (routine_at r routine).body (Return own.frame result monitor ∷ rest) (k, below)) h)
+          memory_named (open_frame r m pid routine component (Return own.frame result monitor) rest).threads pid _ _ (set_named m.threads pid _ (rest_named (frame_behind r own routine component) (routine_at r routine).body (Return own.frame result monitor ∷ rest) (k, below)) h)
 
-      called_in_named : (k : ComponentKind) (routine component : ℕ) (arguments : List Argument) (bounds : List Bound) (result : Option ℕ) → IsCalled os routine → Fit (called_in r m pid k routine component arguments bounds result rest)
+      called_in_named : (k : ComponentKind) (routine component : ℕ) (arguments : List Argument) (bounds : List Bound) (result : Option ℕ) → IsCalled os routine → Fit (call_in r m pid k routine component arguments bounds result rest)
       called_in_named (kind.Monitor monitor) routine component arguments bounds result k =
-          let n : Machine = called r m pid routine component arguments bounds result (Some monitor) rest in
+          let n : Machine = open_call r m pid routine component arguments bounds result (Some monitor) rest in
           entered_named (monitor_at n monitor).holder n pid monitor (called_named routine component arguments bounds result (Some monitor) k)
       called_in_named kind.Class routine component arguments bounds result k = called_named routine component arguments bounds result None k
       called_in_named (kind.Process number) routine component arguments bounds result k = going
 
-      called_by_named : (line : ℕ) (is_entry : Bool) (routine component : ℕ) (arguments : List Argument) (bounds : List Bound) (result : Option ℕ) → IsCalled os routine → Fit (called_by r m pid line is_entry routine component arguments bounds result rest)
+      called_by_named : (line : ℕ) (is_entry : Bool) (routine component : ℕ) (arguments : List Argument) (bounds : List Bound) (result : Option ℕ) → IsCalled os routine → Fit (call_by r m pid line is_entry routine component arguments bounds result rest)
       called_by_named line false routine component arguments bounds result k = called_named routine component arguments bounds result None k
       called_by_named line true routine component arguments bounds result k = either (is_initialised (phase_at m component)) _ _ (called_in_named (component_at r component).kind routine component arguments bounds result k) h
 
       inside_named : (line routine component : ℕ) (arguments : List Argument) (bounds : List Bound) → Fit (start_inside r m pid line routine component arguments bounds rest)
       inside_named line routine component arguments bounds =
-          either (is_uninitialised (phase_at m component)) _ _ (memory_named (opened r m pid routine component (InitEnd own.frame component) rest).threads pid _ _ (set_named m.threads pid _ (rest_named (frame_behind r own routine component) (routine_at r routine).body (InitEnd own.frame component ∷ rest) below) h)) h
+          either (is_uninitialised (phase_at m component)) _ _ (memory_named (open_frame r m pid routine component (InitEnd own.frame component) rest).threads pid _ _ (set_named m.threads pid _ (rest_named (frame_behind r own routine component) (routine_at r routine).body (InitEnd own.frame component ∷ rest) below) h)) h
 
-      started_named : (line : ℕ) (k : ComponentKind) (routine component : ℕ) (arguments : List Argument) (bounds : List Bound) → Fit (started r m pid line k routine component arguments bounds rest)
+      started_named : (line : ℕ) (k : ComponentKind) (routine component : ℕ) (arguments : List Argument) (bounds : List Bound) → Fit (start_by r m pid line k routine component arguments bounds rest)
       started_named line (kind.Process q) routine component arguments bounds = either (is_unstarted (thread_at m.threads q).status) _ _ (status_named (parameters_bound (with_stack m pid rest) pid (component_at r component).base arguments bounds) q Ready (memory_named (with_stack m pid rest).threads pid _ _ going)) h
       started_named line (kind.Monitor monitor) routine component arguments bounds = inside_named line routine component arguments bounds
       started_named line kind.Class routine component arguments bounds = inside_named line routine component arguments bounds
 
-      delayed_in_named : (line cell : ℕ) (k : ComponentKind) → Fit (delayed_in m pid line cell k rest)
+      delayed_in_named : (line cell : ℕ) (k : ComponentKind) → Fit (delay_in m pid line cell k rest)
       delayed_in_named line cell (kind.Monitor monitor) = either (is_true (slice_index_or m.permanents cell (pos 0))) _ _ h (delayed_named (with_stack m pid rest) pid monitor cell going)
       delayed_in_named line cell kind.Class = going
       delayed_in_named line cell (kind.Process number) = going
@@ -245,8 +245,8 @@ module _ (os : List Opening) where
       delay_named line (address.Permanent cell) = delayed_in_named line cell (component_at r own.frame.component).kind
       delay_named line (address.Local cell) = going
 
-    continued_from_named : (n : Machine) (cell : ℕ) (es : List Entry) → AreNamed n → Named (thread_at n.threads pid).frame es → Fit (continued_from r n pid cell es)
-    continued_from_named n cell (Return caller result (Some monitor) ∷ es) k s = continued_named (left r n pid caller result es) monitor cell (set_named n.threads pid _ s.1 k)
+    continued_from_named : (n : Machine) (cell : ℕ) (es : List Entry) → AreNamed n → Named (thread_at n.threads pid).frame es → Fit (continue_from r n pid cell es)
+    continued_from_named n cell (Return caller result (Some monitor) ∷ es) k s = continued_named (leave_frame r n pid caller result es) monitor cell (set_named n.threads pid _ s.1 k)
     continued_from_named n cell (Return caller result None ∷ es) k s = k
     continued_from_named n cell (Rest at ∷ es) k s = k
     continued_from_named n cell (Successor at z last ∷ es) k s = k
@@ -261,7 +261,7 @@ module _ (os : List Opening) where
         go (inl w) = subst (λ (t : Thread). Named t.frame es) (sym w.2) s
         go (inr w) = subst (λ (t : Thread). Named t.frame es) (sym w.1) s
 
-    continued_in_named : (cell : ℕ) (k : ComponentKind) (next : Option ℕ) (es : List Entry) → Named own.frame es → Fit (continued_in m pid cell k (rest_of next es))
+    continued_in_named : (cell : ℕ) (k : ComponentKind) (next : Option ℕ) (es : List Entry) → Named own.frame es → Fit (continue_in m pid cell k (rest_of next es))
     continued_in_named cell (kind.Monitor monitor) next es s = signalled_named (with_stack m pid (rest_of next es)) pid monitor cell (going next es s)
     continued_in_named cell kind.Class next es s = going next es s
     continued_in_named cell (kind.Process number) next es s = going next es s
@@ -282,11 +282,11 @@ module _ (os : List Opening) where
     act_named at item (Assign target value low high) es k s =
         (evaluated (value_of m pid value) _ _ (λ e. h) (λ v.
         evaluated (address_of m pid target) _ _ (λ e. h) (λ p.
-        evaluated (ranged low high v) _ _ (λ e. h) (λ w. memory_named (with_stack m pid (rest_of item.next es)).threads pid _ _ (going item.next es s)))))
+        evaluated (check_range low high v) _ _ (λ e. h) (λ w. memory_named (with_stack m pid (rest_of item.next es)).threads pid _ _ (going item.next es s)))))
     act_named at item (AssignSet target value low high) es k s =
         (evaluated (set_of m pid value) _ _ (λ e. h) (λ v.
         evaluated (address_of m pid target) _ _ (λ e. h) (λ p.
-        evaluated (sets.ranged low high v) _ _ (λ e. h) (λ w. memory_named (with_stack m pid (rest_of item.next es)).threads pid _ _ (going item.next es s)))))
+        evaluated (sets.check_members low high v) _ _ (λ e. h) (λ w. memory_named (with_stack m pid (rest_of item.next es)).threads pid _ _ (going item.next es s)))))
     act_named at item (Copy target source size) es k s =
         (evaluated (address_of m pid source) _ _ (λ e. h) (λ from.
         evaluated (address_of m pid target) _ _ (λ e. h) (λ to. memory_named (with_stack m pid (rest_of item.next es)).threads pid _ _ (going item.next es s))))
@@ -306,7 +306,7 @@ module _ (os : List Opening) where
         (evaluated (value_of m pid first) _ _ (λ e. h) (λ x.
         evaluated (value_of m pid last) _ _ (λ e. h) (λ y.
         either (is_beyond down x y) _ _ (going item.next es s)
-        (evaluated (ranged low high x) _ _ (λ e. h) (λ z. goes item.next es s at variable list z y)))))
+        (evaluated (check_range low high x) _ _ (λ e. h) (λ z. goes item.next es s at variable list z y)))))
     act_named at item (Cycle list) es k s = stack_named m pid _ (rest_named own.frame list (Rest at ∷ es) s) h
     act_named at item (Call routine component is_entry arguments result) es k s =
         (evaluated (component_of m pid component) _ _ (λ e. h) (λ c.
@@ -318,7 +318,7 @@ module _ (os : List Opening) where
     act_named at item (Continue place) es k s = evaluated (address_of m pid place) _ _ (λ e. h) (λ p. continue_named item.next es s p)
     act_named at item (Display value shown) es k s = evaluated (value_of m pid value) _ _ (λ e. h) (λ v. either (length m.output == MOST_SHOWN) _ _ h (going item.next es s))
 
-    successor_named : (at : ℕ) (item : Item) (a : Action) (es : List Entry) (z last : ℤ) → Named own.frame es → Fit (succeeded m pid at item a es z last)
+    successor_named : (at : ℕ) (item : Item) (a : Action) (es : List Entry) (z last : ℤ) → Named own.frame es → Fit (successor_step m pid at item a es z last)
     successor_named at item (For variable low high first end down list) es z last s =
         either (int_eq z last) _ _ (going item.next es s)
         (evaluated (next_value down low high z) _ _ (λ e. h) (λ w. goes item.next es s at variable list w last))
@@ -329,7 +329,7 @@ module _ (os : List Opening) where
     top_named (Rest at ∷ es) calls s = act_named at (item_at r at) (item_at r at).action es (calls at) s
     top_named (Successor at z last ∷ es) calls s = successor_named at (item_at r at) (item_at r at).action es z last s
     top_named (Return caller result None ∷ es) calls s = left_named caller result es s.1
-    top_named (Return caller result (Some monitor) ∷ es) calls s = let_in_named (left r m pid caller result es) monitor (left_named caller result es s.1)
+    top_named (Return caller result (Some monitor) ∷ es) calls s = let_in_named (leave_frame r m pid caller result es) monitor (left_named caller result es s.1)
     top_named (InitEnd caller component ∷ es) calls s = left_named caller None es s
 
     pub step_named : ((at : ℕ) → CallsRoutine os (action_seen (item_at r at).action)) → AreNamed (step_at r m pid).machine

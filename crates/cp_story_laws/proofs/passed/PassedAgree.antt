@@ -10,7 +10,7 @@ use Rattle.cp_store.specs.declared.memory.Address.TheVariants.{Permanent, Local}
 use Rattle.cp_store.specs.declared.memory.Frame.{Frame}
 use Rattle.cp_store.specs.Inside.{HasCells}
 use Rattle.cp_store.specs.Memory.{Memory, nowhere}
-use Rattle.cp_store.specs.Places.{referred}
+use Rattle.cp_store.specs.Places.{reference_at}
 use Rattle.cp_symbols.specs.declared.kinds.CellType.{CellType}
 use Rattle.cp_symbols.specs.Kinds as kinds
 use Rattle.cp_symbols.specs.Kinds.{most, plus}
@@ -170,7 +170,7 @@ module _ (t : Tree) (r : Tables) (g : slot_gates.Discipline) (l : Legend) (read_
 
   module _ (q : Parameter) (w : LegendParameter) (is : IsParameter t l.shapes n q w) (refers_so : look q.name f.references ≡ Some q.ty) where
     abbrev a : Address
-    a = referred thread.references (thread.frame.references + cell_named f q.name)
+    a = reference_at thread.references (thread.frame.references + cell_named f q.name)
 
     at : (x : Place) × (content_of q.name c.environment ≡ Some (refers x)) × PlaceAt r lay fs x q.ty a
     at = top.1.references q.name q.ty refers_so

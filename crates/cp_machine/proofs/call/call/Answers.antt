@@ -1,4 +1,4 @@
-use Rattle.cp_machine.proofs.Words.{subst, sym, HaveGateRoom, ◌≡◌, ◌∙◌, Ok, ap, machine_of, arguments_of, length, arith, component_of, called_by, HasCallRoom, under}
+use Rattle.cp_machine.proofs.Words.{subst, sym, HaveGateRoom, ◌≡◌, ◌∙◌, Ok, ap, machine_of, arguments_of, length, arith, component_of, call_by, HasCallRoom, under}
 use Rattle.cp_machine.proofs.Words.{rest_of, fault, outcome, ProcessState, Err, rules, ◌<◌, slice_index_or, vec_len, bounds_or, FitsNew}
 use Rattle.cp_machine.proofs.CallOutcomes.{call_arguments_fail, call_component_fails, call_goes, guards_as}
 use Rattle.cp_machine.proofs.call.call.Goals as goal
@@ -93,4 +93,4 @@ returns-clause-after c =
     let bounds = c.arguments_of.new.state.bounds.items in
     let found : component_of m c.args.pid c.args.place.now ≡ Ok c.in_ok-component.component = sym c.component_of.ensures ∙ c.in_ok-component.was in
     let given : arguments_of m c.args.pid c.args.arguments.now ≡ Ok bounds = c.arguments_of.ensures.bounds ∙ ap (λ o. bounds_or o bounds) c.in_ok-arguments_of.was in
-    call_goes c.args.program.now m c.args.pid c.args.item.now.line c.args.callee.routine c.args.place.now c.args.callee.is_entry c.args.arguments.now c.args.callee.result (rest_of c.args.item.now.next (under m c.args.pid)) c.in_ok-component.component bounds found given ∙ ap (λ k. called_by c.args.program.now k c.args.pid c.args.item.now.line c.args.callee.is_entry c.args.callee.routine c.in_ok-component.component c.args.arguments.now bounds c.args.callee.result (rest_of c.args.item.now.next (under k c.args.pid))) (sym c.arguments_of.ensures.same) ∙ c.call_by.ensures.after
+    call_goes c.args.program.now m c.args.pid c.args.item.now.line c.args.callee.routine c.args.place.now c.args.callee.is_entry c.args.arguments.now c.args.callee.result (rest_of c.args.item.now.next (under m c.args.pid)) c.in_ok-component.component bounds found given ∙ ap (λ k. call_by c.args.program.now k c.args.pid c.args.item.now.line c.args.callee.is_entry c.args.callee.routine c.in_ok-component.component c.args.arguments.now bounds c.args.callee.result (rest_of c.args.item.now.next (under k c.args.pid))) (sym c.arguments_of.ensures.same) ∙ c.call_by.ensures.after

@@ -1,4 +1,4 @@
-use Rattle.cp_machine.proofs.Words.{◌∙◌, ap, subst, sym, Kernel, HaveGateRoom, entered, Machine, Stepped, length, ◌<◌, length-set}
+use Rattle.cp_machine.proofs.Words.{◌∙◌, ap, subst, sym, Kernel, HaveGateRoom, enter_caller, Machine, Stepped, length, ◌<◌, length-set}
 use Rattle.cp_machine.specs.declared.event.Kernel.TheVariants.{Enter}
 use Rattle.cp_machine.proofs.CallOutcomes.{count_within, guards_as}
 use Rattle.cp_machine.proofs.call.call_monitor.Goals as goal
@@ -12,7 +12,7 @@ returns-clause-reserved c = λ r h. c.enter.ensures.reserved r (c.open_call.ensu
 pub returns-clause-after : goal.returns-clause-after
 returns-clause-after c =
     let in_kernel : Machine → Stepped = λ n. record { machine = n; event = Kernel Enter } in
-    ap in_kernel (sym (c.enter.ensures.after ∙ ap (λ n. entered n c.args.pid c.args.monitor) c.open_call.ensures.after))
+    ap in_kernel (sym (c.enter.ensures.after ∙ ap (λ n. enter_caller n c.args.pid c.args.monitor) c.open_call.ensures.after))
 
 pub open_call-requires-clause-busy : goal.open_call-requires-clause-busy
 open_call-requires-clause-busy c = c.requires.busy

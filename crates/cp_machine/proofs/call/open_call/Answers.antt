@@ -1,4 +1,4 @@
-use Rattle.cp_machine.proofs.Words.{subst, sym, machine_of, opened, thread_at, under, rest_of, Return, Frame, ap, length, ◌∙◌, FitsOwn}
+use Rattle.cp_machine.proofs.Words.{subst, sym, machine_of, open_frame, thread_at, under, rest_of, Return, Frame, ap, length, ◌∙◌, FitsOwn}
 use Rattle.cp_machine.proofs.parameters.NamingLemmas.{opened_fits}
 use Rattle.cp_machine.proofs.CallOutcomes.{set_within}
 use Rattle.cp_machine.specs.Memory.{frame_bound}
@@ -39,7 +39,7 @@ bind_arguments-requires-clause-count c = ap (λ b. length b.items) c.open.ensure
 pub returns-clause-after : goal.returns-clause-after
 returns-clause-after c =
     let m = machine_of c.args.state.now in
-    let opening = (λ (f : Frame). opened c.args.program.now m c.args.pid c.args.callee.routine c.args.component (Return f c.args.callee.result c.args.monitor) (rest_of c.args.item.now.next (under m c.args.pid))) in
+    let opening = (λ (f : Frame). open_frame c.args.program.now m c.args.pid c.args.callee.routine c.args.component (Return f c.args.callee.result c.args.monitor) (rest_of c.args.item.now.next (under m c.args.pid))) in
     let given = c.args.arguments.now in
     let bounds = c.open.new.state.bounds.items in
     c.bind_arguments.ensures.after ∙ ap (λ n. frame_bound n c.args.pid given bounds) c.open.ensures.after ∙ ap (λ f. frame_bound (opening f) c.args.pid given bounds) c.frame_of.ensures ∙ ap (λ b. frame_bound (opening (thread_at m.threads c.args.pid).frame) c.args.pid given b.items) c.open.ensures.bounds

@@ -1,5 +1,5 @@
 use Rattle.std.proofs.Common.{◌≡◌, ◌∙◌, Bool, Err, Ok, Result, ap, false, of_z, rules, sym, to_z, true, w16}
-use Rattle.cp_machine.proofs.Words.{ℤ, ErrorName, ranged, machine_of, under, fault, gone_on, is_beyond, local, outcome}
+use Rattle.cp_machine.proofs.Words.{ℤ, ErrorName, check_range, machine_of, under, fault, gone_on, is_beyond, local, outcome}
 use Rattle.cp_machine.proofs.Outcomes.{for_fails, for_goes, for_none}
 use Rattle.cp_machine.proofs.loops.for_from.Goals as goal
 
@@ -23,7 +23,7 @@ returns-in_ok-value-clause-after c =
     let last_is : to_z w16 (of_z w16 c.args.last) ≡ c.args.last = search rules in
     let next_is : to_z w16 (of_z w16 c.in_ok-value.value) ≡ c.in_ok-value.value = search rules in
     let test : ◌≡◌ {A = Bool} (is_beyond c.args.course.down c.args.first c.args.last) false = cc (value_is, last_is, c.is_beyond.ensures, c.if-is_beyond.false) in
-    let step : ◌≡◌ {A = Result ℤ ErrorName} (ranged c.args.course.low c.args.course.high c.args.first) (Ok c.in_ok-value.value) = cc (low_is, high_is, value_is, c.check_range.ensures, c.in_ok-value.was {u = tt}) in
+    let step : ◌≡◌ {A = Result ℤ ErrorName} (check_range c.args.course.low c.args.course.high c.args.first) (Ok c.in_ok-value.value) = cc (low_is, high_is, value_is, c.check_range.ensures, c.in_ok-value.was {u = tt}) in
     let gone : machine_of c.go_on.new.state ≡ gone_on m c.args.pid c.args.course.at c.args.course.variable c.args.course.list (under m c.args.pid) c.args.last c.in_ok-value.value = cc (last_is, next_is, c.go_on.ensures.after) in
     for_goes m c.args.pid c.args.item.now.line c.args.course.at c.args.course.variable c.args.course.list c.args.item.now.next (under m c.args.pid) c.args.last c.args.course.low c.args.course.high c.args.course.down c.args.first c.in_ok-value.value test step ∙ ap local (sym gone)
 
@@ -39,7 +39,7 @@ returns-in_err-value-clause-after c =
     let last_is : to_z w16 (of_z w16 c.args.last) ≡ c.args.last = search rules in
     let told : outcome c.from_residual.result m c.args.pid c.args.item.now.line ≡ fault m c.args.pid c.args.item.now.line c.in_err-value.field-0.0 = search rules in
     let test : ◌≡◌ {A = Bool} (is_beyond c.args.course.down c.args.first c.args.last) false = cc (value_is, last_is, c.is_beyond.ensures, c.if-is_beyond.false) in
-    let step : ◌≡◌ {A = Result ℤ ErrorName} (ranged c.args.course.low c.args.course.high c.args.first) (Err c.in_err-value.field-0.0) = cc (low_is, high_is, value_is, c.check_range.ensures, c.in_err-value.was {u = tt}) in
+    let step : ◌≡◌ {A = Result ℤ ErrorName} (check_range c.args.course.low c.args.course.high c.args.first) (Err c.in_err-value.field-0.0) = cc (low_is, high_is, value_is, c.check_range.ensures, c.in_err-value.was {u = tt}) in
     for_fails m c.args.pid c.args.item.now.line c.args.course.at c.args.course.variable c.args.course.list c.args.item.now.next (under m c.args.pid) c.args.last c.args.course.low c.args.course.high c.args.course.down c.args.first c.in_err-value.field-0.0 test step ∙ sym told
 
 pub returns-in_err-value-clause-reserved : goal.returns-in_err-value-clause-reserved

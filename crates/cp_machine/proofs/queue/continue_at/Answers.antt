@@ -1,6 +1,6 @@
 use Rattle.cp_machine.proofs.Words.{◌≡◌, ◌∙◌, ◌<◌, ap, get_or-set_same, length, subst, sym, ThreadFits, Thread, machine_of, no_thread, thread_at}
-use Rattle.cp_machine.proofs.Words.{under, from_end, Machine, ThreadReaches, AreFirstKnown, continued_from}
-use Rattle.cp_machine.specs.Calls.{continue_by, continued_in}
+use Rattle.cp_machine.proofs.Words.{under, from_end, Machine, ThreadReaches, AreFirstKnown, continue_from}
+use Rattle.cp_machine.specs.Calls.{continue_by, continue_in}
 use Rattle.cp_machine.specs.declared.discipline.Signals.{Signals}
 use Rattle.cp_machine.specs.declared.discipline.Signals.TheVariants as signals
 use Rattle.std.proofs.Common.{◌⊎◌, inl, inr, ℕ, List, Option}
@@ -13,7 +13,7 @@ use Rattle.cp_machine.proofs.CallOutcomes.{guards_as}
 use Rattle.cp_machine.proofs.Outcomes.{replaced_within}
 use Rattle.cp_machine.proofs.queue.continue_at.Goals as goal
 
-by_going_on : (s : Signals) → (s ≡ signals.Continue) ⊎ (s ≡ signals.Wait) → (r : Tables) (m : Machine) (pid cell : ℕ) (next : Option ℕ) (es : List Entry) → continue_by s r m pid cell next es ≡ continued_in m pid cell (component_at r (thread_at m.threads pid).frame.component).kind (rest_of next es)
+by_going_on : (s : Signals) → (s ≡ signals.Continue) ⊎ (s ≡ signals.Wait) → (r : Tables) (m : Machine) (pid cell : ℕ) (next : Option ℕ) (es : List Entry) → continue_by s r m pid cell next es ≡ continue_in m pid cell (component_at r (thread_at m.threads pid).frame.component).kind (rest_of next es)
 by_going_on s (inl e) r m pid cell next es = ap (λ t. continue_by t r m pid cell next es) e
 by_going_on s (inr e) r m pid cell next es = ap (λ t. continue_by t r m pid cell next es) e
 
@@ -61,7 +61,7 @@ returns-in-Return-clause-after c =
     let es = from_end (under m c.args.pid) in
     let after : Thread = record t { stack = es } in
     let same : thread_at (machine_of c.unwind.new.state).threads c.args.pid ≡ after = ap (λ n. thread_at n.threads c.args.pid) c.unwind.ensures.after ∙ get_or-set_same m.threads c.args.pid after no_thread (within c.args.state.now c.args.pid c.requires.pid) in
-    ap (λ s. continue_by s r m c.args.pid c.args.cell c.args.item.now.next (under m c.args.pid)) c.in-Return.is ∙ ap (λ k. continued_from r k c.args.pid c.args.cell es) (sym c.unwind.ensures.after) ∙ ap (λ k. continued_from r (machine_of c.unwind.new.state) c.args.pid c.args.cell k.stack) (sym same) ∙ c.continue_from.ensures.after
+    ap (λ s. continue_by s r m c.args.pid c.args.cell c.args.item.now.next (under m c.args.pid)) c.in-Return.is ∙ ap (λ k. continue_from r k c.args.pid c.args.cell es) (sym c.unwind.ensures.after) ∙ ap (λ k. continue_from r (machine_of c.unwind.new.state) c.args.pid c.args.cell k.stack) (sym same) ∙ c.continue_from.ensures.after
 
 pub returns-in-Continue-clause-after : goal.returns-in-Continue-clause-after
 returns-in-Continue-clause-after c = by_going_on c.args.state.now.discipline.signals c.in-Continue.is c.args.program.now (machine_of c.args.state.now) c.args.pid c.args.cell c.args.item.now.next (under (machine_of c.args.state.now) c.args.pid) ∙ c.continue_on.ensures.after

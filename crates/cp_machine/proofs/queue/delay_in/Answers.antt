@@ -1,4 +1,4 @@
-use Rattle.cp_machine.proofs.Words.{◌<◌, length, subst, sym, Machine, AreFirstKnown, machine_of, delayed, under, rest_of, Stepped, Kernel, is_true, Bool, ap}
+use Rattle.cp_machine.proofs.Words.{◌<◌, length, subst, sym, Machine, AreFirstKnown, machine_of, delay_caller, under, rest_of, Stepped, Kernel, is_true, Bool, ap}
 use Rattle.cp_machine.proofs.Words.{false, of_z, rules, to_z, true, w16, ◌∙◌, ◌≡◌, pos, slice_index_or}
 use Rattle.cp_machine.proofs.lines.LineLemmas.{thread_known}
 use Rattle.cp_machine.proofs.CallOutcomes.{delayed_if, guards_as}
@@ -48,7 +48,7 @@ returns-clause-after c =
     let value_is : to_z w16 (of_z w16 c.index.result.now) ≡ c.index.result.now = search rules in
     let test : ◌≡◌ {A = Bool} (is_true (slice_index_or c.args.state.now.permanents.items c.args.cell (pos 0))) false = cc (at, value_is, c.is_true.ensures, c.if-is_true.false) in
     let in_kernel : Machine → Stepped = λ n. record { machine = n; event = Kernel Delay } in
-    delayed_if m c.args.pid c.args.item.now.line c.args.cell c.args.monitor (rest_of c.args.item.now.next (under m c.args.pid)) false test ∙ ap in_kernel (sym (c.delay.ensures.after ∙ ap (λ n. delayed n c.args.pid c.args.monitor c.args.cell) c.replace.ensures.after))
+    delayed_if m c.args.pid c.args.item.now.line c.args.cell c.args.monitor (rest_of c.args.item.now.next (under m c.args.pid)) false test ∙ ap in_kernel (sym (c.delay.ensures.after ∙ ap (λ n. delay_caller n c.args.pid c.args.monitor c.args.cell) c.replace.ensures.after))
 
 pub returns-clause-reserved : goal.returns-clause-reserved
 returns-clause-reserved c = λ r h. c.delay.ensures.reserved r (c.replace.ensures.reserved r h)

@@ -1,4 +1,4 @@
-use Rattle.cp_machine.proofs.Words.{◌≡◌, ◌∙◌, Ok, ap, subst, sym, machine_of, arguments_of, component_of, FitsComponent, length, arith, started, HasCallRoom, under}
+use Rattle.cp_machine.proofs.Words.{◌≡◌, ◌∙◌, Ok, ap, subst, sym, machine_of, arguments_of, component_of, FitsComponent, length, arith, start_by, HasCallRoom, under}
 use Rattle.cp_machine.proofs.Words.{rest_of, fault, outcome, ProcessState, component_at, Err, rules, ◌<◌, slice_index_or, vec_len, bounds_or}
 use Rattle.cp_machine.proofs.CallOutcomes.{start_arguments_fail, start_component_fails, start_goes}
 use Rattle.cp_machine.proofs.start_component.start.Goals as goal
@@ -91,4 +91,4 @@ returns-clause-after c =
     let bounds = c.arguments_of.new.state.bounds.items in
     let found : component_of m c.args.pid c.args.place.now ≡ Ok c.in_ok-component.component = sym c.component_of.ensures ∙ c.in_ok-component.was in
     let given : arguments_of m c.args.pid c.args.arguments.now ≡ Ok bounds = c.arguments_of.ensures.bounds ∙ ap (λ o. bounds_or o bounds) c.in_ok-arguments_of.was in
-    start_goes c.args.program.now m c.args.pid c.args.item.now.line c.args.place.now c.args.routine c.args.arguments.now (rest_of c.args.item.now.next (under m c.args.pid)) c.in_ok-component.component bounds found given ∙ ap (λ k. started c.args.program.now k c.args.pid c.args.item.now.line (component_at c.args.program.now c.in_ok-component.component).kind c.args.routine c.in_ok-component.component c.args.arguments.now bounds (rest_of c.args.item.now.next (under k c.args.pid))) (sym c.arguments_of.ensures.same) ∙ c.start_by.ensures.after
+    start_goes c.args.program.now m c.args.pid c.args.item.now.line c.args.place.now c.args.routine c.args.arguments.now (rest_of c.args.item.now.next (under m c.args.pid)) c.in_ok-component.component bounds found given ∙ ap (λ k. start_by c.args.program.now k c.args.pid c.args.item.now.line (component_at c.args.program.now c.in_ok-component.component).kind c.args.routine c.in_ok-component.component c.args.arguments.now bounds (rest_of c.args.item.now.next (under k c.args.pid))) (sym c.arguments_of.ensures.same) ∙ c.start_by.ensures.after

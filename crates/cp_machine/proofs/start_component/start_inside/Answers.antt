@@ -1,4 +1,4 @@
-use Rattle.cp_machine.proofs.Words.{subst, sym, AllFitComponent, machine_of, memory_at, FitsComponent, ◌<◌, length, Machine, opened, is_uninitialised, phase_at}
+use Rattle.cp_machine.proofs.Words.{subst, sym, AllFitComponent, machine_of, memory_at, FitsComponent, ◌<◌, length, Machine, open_frame, is_uninitialised, phase_at}
 use Rattle.cp_machine.proofs.Words.{thread_at, under, with_phase, parameters_bound, rest_of, local, InitEnd, Initialising, component_at, Frame, ap, false, true, ◌∙◌, ◌≡◌}
 use Rattle.cp_machine.proofs.parameters.NamingLemmas.{begun_fits}
 use Rattle.cp_machine.proofs.CallOutcomes.{begins_if, not_false, not_true, set_within, uninitialised_is}
@@ -62,7 +62,7 @@ pub returns-clause-after : goal.returns-clause-after
 returns-clause-after c =
     let m = machine_of c.args.state.now in
     let r = c.args.program.now in
-    let opening = λ (f : Frame). opened r m c.args.pid c.args.routine c.args.component (InitEnd f c.args.component) (rest_of c.args.item.now.next (under m c.args.pid)) in
+    let opening = λ (f : Frame). open_frame r m c.args.pid c.args.routine c.args.component (InitEnd f c.args.component) (rest_of c.args.item.now.next (under m c.args.pid)) in
     let frame = (thread_at m.threads c.args.pid).frame in
     let given = c.args.arguments.now in
     let bounds = c.open.new.state.bounds.items in

@@ -1,4 +1,4 @@
-use Rattle.cp_machine.proofs.Words.{◌≡◌, ◌∙◌, Err, Ok, Result, ap, of_z, rules, sym, to_z, w16, ℤ, ErrorName, ranged, machine_of, under, with_stack}
+use Rattle.cp_machine.proofs.Words.{◌≡◌, ◌∙◌, Err, Ok, Result, ap, of_z, rules, sym, to_z, w16, ℤ, ErrorName, check_range, machine_of, under, with_stack}
 use Rattle.cp_machine.proofs.Words.{number_put, rest_of, fault, local, outcome}
 use Rattle.cp_machine.proofs.Outcomes.{assign_done, assign_left_fails, assign_range_fails, assign_right_fails, replaced_has, replaced_within}
 use Rattle.cp_machine.proofs.statement.assign.Goals as goal
@@ -14,7 +14,7 @@ returns-clause-after c =
     let high_is : to_z w16 (of_z w16 c.args.high.now) ≡ c.args.high.now = search rules in
     let right_is : to_z w16 (of_z w16 c.in_ok-right.right) ≡ c.in_ok-right.right = search rules in
     let value_is : to_z w16 (of_z w16 c.in_ok-value.value) ≡ c.in_ok-value.value = search rules in
-    let range : ◌≡◌ {A = Result ℤ ErrorName} (ranged c.args.low.now c.args.high.now c.in_ok-right.right) (Ok c.in_ok-value.value) = cc (low_is, high_is, right_is, c.check_range.ensures, c.in_ok-value.was {u = tt}) in
+    let range : ◌≡◌ {A = Result ℤ ErrorName} (check_range c.args.low.now c.args.high.now c.in_ok-right.right) (Ok c.in_ok-value.value) = cc (low_is, high_is, right_is, c.check_range.ensures, c.in_ok-value.was {u = tt}) in
     let put : machine_of c.put_number.new.state ≡ number_put (with_stack m c.args.pid rest) c.args.pid c.in_ok-left.left c.in_ok-value.value = c.put_number.ensures.after ∙ ap (λ n. number_put n c.args.pid c.in_ok-left.left (to_z w16 (of_z w16 c.in_ok-value.value))) c.replace.ensures.after ∙ ap (λ z. number_put (with_stack m c.args.pid rest) c.args.pid c.in_ok-left.left z) value_is in
     assign_done m c.args.pid c.args.item.now.line c.args.target.now c.args.value.now c.args.low.now c.args.high.now rest c.in_ok-right.right c.in_ok-left.left c.in_ok-value.value (sym c.value_here.ensures ∙ c.in_ok-right.was {u = tt}) (sym c.address_of.ensures.value ∙ c.in_ok-left.was {u = tt}) range ∙ ap local (sym put)
 
@@ -40,7 +40,7 @@ returns-in_err-value-clause-after c =
     let high_is : to_z w16 (of_z w16 c.args.high.now) ≡ c.args.high.now = search rules in
     let right_is : to_z w16 (of_z w16 c.in_ok-right.right) ≡ c.in_ok-right.right = search rules in
     let told : outcome c.from_residual-in_err-value.result m c.args.pid c.args.item.now.line ≡ fault m c.args.pid c.args.item.now.line c.in_err-value.field-0.0 = search rules in
-    let range : ◌≡◌ {A = Result ℤ ErrorName} (ranged c.args.low.now c.args.high.now c.in_ok-right.right) (Err c.in_err-value.field-0.0) = cc (low_is, high_is, right_is, c.check_range.ensures, c.in_err-value.was {u = tt}) in
+    let range : ◌≡◌ {A = Result ℤ ErrorName} (check_range c.args.low.now c.args.high.now c.in_ok-right.right) (Err c.in_err-value.field-0.0) = cc (low_is, high_is, right_is, c.check_range.ensures, c.in_err-value.was {u = tt}) in
     assign_range_fails m c.args.pid c.args.item.now.line c.args.target.now c.args.value.now c.args.low.now c.args.high.now rest c.in_ok-right.right c.in_ok-left.left c.in_err-value.field-0.0 (sym c.value_here.ensures ∙ c.in_ok-right.was {u = tt}) (sym c.address_of.ensures.value ∙ c.in_ok-left.was {u = tt}) range ∙ sym told
 
 pub returns-in_err-left-clause-reserved : goal.returns-in_err-left-clause-reserved

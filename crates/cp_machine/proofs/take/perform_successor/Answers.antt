@@ -1,4 +1,4 @@
-use Rattle.cp_machine.proofs.Words.{next_turn, succeeded, length, ◌≡◌, ◌∙◌, ap, of_z, rules, sym, to_z, w16, For, Successor, machine_of, under}
+use Rattle.cp_machine.proofs.Words.{next_turn, successor_step, length, ◌≡◌, ◌∙◌, ap, of_z, rules, sym, to_z, w16, For, Successor, machine_of, under}
 use Rattle.cp_machine.proofs.frames.ReadLemmas.{item_reads}
 use Rattle.cp_machine.proofs.rooms.RoomLemmas.{is_busy, successor_stands}
 use Rattle.cp_machine.proofs.TakeLemmas.{turn_room, turn_taken}
@@ -34,7 +34,7 @@ returns-in-For-clause-after c =
     let high_is : to_z w16 (of_z w16 c.in-For.high) ≡ c.in-For.high = search rules in
     let value_is : to_z w16 (of_z w16 c.args.value) ≡ c.args.value = search rules in
     let last_is : to_z w16 (of_z w16 c.args.last) ≡ c.args.last = search rules in
-    ap (λ a. succeeded m c.args.pid c.args.at c.args.item.now a below c.args.value c.args.last) c.in-For.is ∙ ap (λ z. next_turn m c.args.pid c.args.item.now.line c.args.at c.in-For.variable z c.in-For.high c.in-For.down c.in-For.body c.args.item.now.next below c.args.value c.args.last) (sym low_is) ∙ ap (λ z. next_turn m c.args.pid c.args.item.now.line c.args.at c.in-For.variable (to_z w16 (of_z w16 c.in-For.low)) z c.in-For.down c.in-For.body c.args.item.now.next below c.args.value c.args.last) (sym high_is) ∙ ap (λ z. next_turn m c.args.pid c.args.item.now.line c.args.at c.in-For.variable (to_z w16 (of_z w16 c.in-For.low)) (to_z w16 (of_z w16 c.in-For.high)) c.in-For.down c.in-For.body c.args.item.now.next below z c.args.last) (sym value_is) ∙ ap (λ z. next_turn m c.args.pid c.args.item.now.line c.args.at c.in-For.variable (to_z w16 (of_z w16 c.in-For.low)) (to_z w16 (of_z w16 c.in-For.high)) c.in-For.down c.in-For.body c.args.item.now.next below (to_z w16 (of_z w16 c.args.value)) z) (sym last_is) ∙ c.successor.ensures.after
+    ap (λ a. successor_step m c.args.pid c.args.at c.args.item.now a below c.args.value c.args.last) c.in-For.is ∙ ap (λ z. next_turn m c.args.pid c.args.item.now.line c.args.at c.in-For.variable z c.in-For.high c.in-For.down c.in-For.body c.args.item.now.next below c.args.value c.args.last) (sym low_is) ∙ ap (λ z. next_turn m c.args.pid c.args.item.now.line c.args.at c.in-For.variable (to_z w16 (of_z w16 c.in-For.low)) z c.in-For.down c.in-For.body c.args.item.now.next below c.args.value c.args.last) (sym high_is) ∙ ap (λ z. next_turn m c.args.pid c.args.item.now.line c.args.at c.in-For.variable (to_z w16 (of_z w16 c.in-For.low)) (to_z w16 (of_z w16 c.in-For.high)) c.in-For.down c.in-For.body c.args.item.now.next below z c.args.last) (sym value_is) ∙ ap (λ z. next_turn m c.args.pid c.args.item.now.line c.args.at c.in-For.variable (to_z w16 (of_z w16 c.in-For.low)) (to_z w16 (of_z w16 c.in-For.high)) c.in-For.down c.in-For.body c.args.item.now.next below (to_z w16 (of_z w16 c.args.value)) z) (sym last_is) ∙ c.successor.ensures.after
 
 pub successor-requires-clause-pid : goal.successor-requires-clause-pid
 successor-requires-clause-pid c = c.requires.pid

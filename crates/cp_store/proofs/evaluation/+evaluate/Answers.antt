@@ -3,7 +3,7 @@ use Rattle.cp_slots.specs.declared.place.OrdinalExpression.TheViews.{the_lemmas}
 use Rattle.cp_store.specs.declared.error.ErrorName.{ErrorName}
 use Rattle.cp_store.specs.Inside.{CanGoThrough}
 use Rattle.cp_store.specs.Memory.{memory_of}
-use Rattle.cp_store.specs.Places.{element_offset, indexed_at}
+use Rattle.cp_store.specs.Places.{element_offset, element_address}
 use Rattle.cp_store.proofs.Reaches.{address_there, address_through, begins, goes_on, index_fails, index_goes, index_moves, index_spans, index_steps, moves, reached, reached_in}
 use Rattle.cp_store.proofs.evaluation.+evaluate.Goals as goal
 
@@ -49,7 +49,7 @@ through-loop-index-preserved t c =
     let steps = index_steps (memory_of c.args.permanents.now c.args.room.now) c.args.frame.now c.loop-index.at c.args.indices.now c.loop-index.index-index c.index-item.result c.loop-index-test.true c.index-item.is c.in_ok-value.value c.in_ok-element_offset.field-0 (sym c.evaluate.ensures ∙ c.in_ok-value.was {u = tt}) far_is in
     let goes = index_goes (memory_of c.args.permanents.now c.args.room.now) c.args.frame.now c.loop-index.at c.args.indices.now c.loop-index.index-index c.index-item.result c.loop-index-test.true c.index-item.is c.loop-index.invariant.goes c.in_ok-value.value c.in_ok-element_offset.field-0 far_is in
     record {
-      value = c.loop-index.invariant.value ∙ steps ∙ ap (λ a. indexed_at (memory_of c.args.permanents.now c.args.room.now) c.args.frame.now a (drop (c.loop-index.index-index + 1) c.args.indices.now)) (sym c.plus-at.ensures);
+      value = c.loop-index.invariant.value ∙ steps ∙ ap (λ a. element_address (memory_of c.args.permanents.now c.args.room.now) c.args.frame.now a (drop (c.loop-index.index-index + 1) c.args.indices.now)) (sym c.plus-at.ensures);
       goes = subst (λ a. (cells : ℕ) × CanGoThrough (memory_of c.args.permanents.now c.args.room.now) c.args.frame.now a (drop (c.loop-index.index-index + 1) c.args.indices.now) cells) (sym c.plus-at.ensures) goes;
     }
 
@@ -60,7 +60,7 @@ through-returns-in_err-element_offset t c =
     let value_is : to_z w16 (of_z w16 c.in_ok-value.value) ≡ c.in_ok-value.value = search rules in
     let far_is : ◌≡◌ {A = Result ℕ ErrorName} (element_offset c.index-item.result.low c.index-item.result.high c.index-item.result.size c.in_ok-value.value) (Err c.in_err-element_offset.field-0.0) =
     cc (low_is, high_is, value_is, c.element_offset.ensures, c.in_err-element_offset.was {u = tt}) in
-    let fails : indexed_at (memory_of c.args.permanents.now c.args.room.now) c.args.frame.now c.args.start c.args.indices.now ≡ Err c.in_err-element_offset.field-0.0 =
+    let fails : element_address (memory_of c.args.permanents.now c.args.room.now) c.args.frame.now c.args.start c.args.indices.now ≡ Err c.in_err-element_offset.field-0.0 =
     c.loop-index.invariant.value ∙ index_fails (memory_of c.args.permanents.now c.args.room.now) c.args.frame.now c.loop-index.at c.args.indices.now c.loop-index.index-index c.index-item.result c.loop-index-test.true c.index-item.is c.in_ok-value.value c.in_err-element_offset.field-0.0 (sym c.evaluate.ensures ∙ c.in_ok-value.was {u = tt}) far_is in
     rw fails (search rules)
 

@@ -1,7 +1,7 @@
 use Rattle.std.proofs.Common.{◌≡◌, ◌+◌, ◌*◌, map, drop}
 use Rattle.cp_layout.specs.Kinds.{types_seen}
 use Rattle.cp_layout.specs.Layers.{system_seen}
-use Rattle.cp_layout.specs.LaidComponents.{listing_seen, listed_below, contained_by, again_and_again}
+use Rattle.cp_layout.specs.LaidComponents.{listing_seen, add_below, add_contained, again_and_again}
 use Rattle.cp_layout.proofs.component.Components.+components.Given as goal
 
 -- a type contains components of earlier types alone
@@ -23,8 +23,8 @@ decreases-add_below l = 5 * l.bound
 -- what is left leads where all lead
 abbrev pub invariant-add_contained-loop-components : goal.invariant-add_contained-loop-components
 invariant-add_contained-loop-components l =
-    contained_by (listed_below (types_seen l.types) (map system_seen l.systems) l.bound) l.contained (listing_seen l.initial.self)
-    ≡ contained_by (listed_below (types_seen l.types) (map system_seen l.systems) l.bound) (drop l.components-index l.contained) (listing_seen l.self)
+    add_contained (add_below (types_seen l.types) (map system_seen l.systems) l.bound) l.contained (listing_seen l.initial.self)
+    ≡ add_contained (add_below (types_seen l.types) (map system_seen l.systems) l.bound) (drop l.components-index l.contained) (listing_seen l.self)
 
 abbrev pub invariant-add_each-loop : goal.invariant-add_each-loop
-invariant-add_each-loop l = listing_seen l.self ≡ again_and_again l.counter (listed_below (types_seen l.types) (map system_seen l.systems) l.bound l.components.system) (listing_seen l.initial.self)
+invariant-add_each-loop l = listing_seen l.self ≡ again_and_again l.counter (add_below (types_seen l.types) (map system_seen l.systems) l.bound l.components.system) (listing_seen l.initial.self)
