@@ -9,9 +9,9 @@ use Rattle.cp_run.specs.System.{System}
 use Rattle.cp_run.specs.Table.{table}
 use Rattle.cp_tree.specs.Read.{IsRead}
 use Rattle.cp_tree.specs.Syntax.{asserted, Tree}
-use Rattle.cp_lawful.specs.Accepted.{IsAccepted}
+use Rattle.cp_meaning_laws.specs.Accepted.{IsAccepted}
 use Rattle.cp_meaning.specs.State.{Item, statement_item, process_at, Discipline, State}
-use Rattle.cp_refine.specs.Named.{named}
+use Rattle.cp_machine_laws.specs.Named.{named}
 use Rattle.cp_annotation_laws.specs.Plain.{plain_tree}
 
 -- ---- how schedules end

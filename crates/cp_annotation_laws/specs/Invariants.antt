@@ -11,7 +11,7 @@ use Rattle.cp_meaning.specs.Scopes.{Meaning, routine_meaning, standard_meaning, 
 use Rattle.cp_meaning.specs.State.{initialised, Component, component_at, local_routine, Call, process_at, Discipline, State, is_inside}
 use Rattle.cp_meaning.specs.Steps.{IsReached}
 use Rattle.cp_meaning.specs.Systems.{system_of}
-use Rattle.cp_lawful.specs.Accepted.{IsAccepted}
+use Rattle.cp_meaning_laws.specs.Accepted.{IsAccepted}
 
 -- ---- invariants without `empty`
 

@@ -18,7 +18,7 @@ use Rattle.cp_states.proofs.Alone.{one_machine, one_row}
 use Rattle.cp_states.proofs.Following.{row_on}
 use Rattle.cp_ends.proofs.Keeping.{get_more}
 use Rattle.cp_ends.proofs.named.Keys.{key_same, key_self}
-use Rattle.cp_refine.proofs.expressions.SetRanges.{same_truth as both_true}
+use Rattle.cp_machine_laws.proofs.expressions.SetRanges.{same_truth as both_true}
 use Rattle.cp_at_once.specs.Holds.{AreKept, AreRows, AreStates, IsBefore, IsWordBy, IsWordOf}
 use Rattle.cp_at_once.specs.declared.kept.Kept.{Kept}
 use Rattle.cp_resolved.proofs.names.Entries.{last_or_before as get_cases}

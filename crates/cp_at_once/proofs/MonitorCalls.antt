@@ -30,7 +30,7 @@ use Rattle.cp_machine.specs.declared.process.Entry.TheVariants.{Rest}
 use Rattle.cp_machine.specs.declared.process.ProcessState.{ProcessState}
 use Rattle.cp_machine.specs.declared.state.State.{State}
 use Rattle.cp_machine.proofs.rooms.RoomLemmas.{rest_stands, thread_is, within}
-use Rattle.cp_endless.specs.Silent.{silent_slots, without_output}
+use Rattle.cp_endless_laws.specs.Silent.{silent_slots, without_output}
 use Rattle.cp_at_once_laws.specs.AtOnce.{QuietLeg, calls_quietly, after_quiet, is_call}
 use Rattle.cp_at_once_laws.specs.Quiet.{is_quiet}
 use Rattle.cp_at_once.specs.Entering.{IsMonitorCall, inner_list}

@@ -9,8 +9,8 @@ use Rattle.cp_run.specs.declared.outcome.Turn.{Turn}
 use Rattle.cp_run.specs.declared.outcome.Turn.TheVariants as turn
 use Rattle.cp_run.specs.System.{System}
 use Rattle.cp_run.specs.Run.{Node, Halted, Choosing, node_at, turn_after, turn_at, settled_turn, stretch, opened, chosen}
-use Rattle.cp_endless.specs.Reachable.{LeadsTo, node_after}
-use Rattle.cp_endless.proofs.possible.Words.{after_first}
+use Rattle.cp_endless_laws.specs.Reachable.{LeadsTo, node_after}
+use Rattle.cp_endless_laws.proofs.possible.Words.{after_first}
 
 choosing : (s t : Machine) → (◌≡◌ {A = Node Machine}) (Choosing s) (Choosing t) → s ≡ t
 choosing s t e = cc

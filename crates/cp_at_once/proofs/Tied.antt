@@ -11,12 +11,12 @@ use Rattle.cp_run.specs.declared.outcome.Turn.TheVariants as turn
 use Rattle.cp_run.specs.System.{System}
 use Rattle.cp_run.specs.Run.{Node, Halted, Choosing, may, turn_at, turn_after, stretch}
 use Rattle.cp_run.specs.Table.{each}
-use Rattle.cp_endless.specs.Moments.{Moment, AnyOf, moments_by, stretch_moments}
-use Rattle.cp_endless.specs.Repeats.{CallsAt, repeated_part}
-use Rattle.cp_endless.specs.Rounds.{IsCut, IsRound, spot_after, spot_by}
-use Rattle.cp_endless.specs.Settled.{IsIn}
-use Rattle.cp_endless.specs.Shown.{shown_at}
-use Rattle.cp_endless.proofs.steps.Rounds.{happens_early, some_none}
+use Rattle.cp_endless_laws.specs.Moments.{Moment, AnyOf, moments_by, stretch_moments}
+use Rattle.cp_endless_laws.specs.Repeats.{CallsAt, repeated_part}
+use Rattle.cp_endless_laws.specs.Rounds.{IsCut, IsRound, spot_after, spot_by}
+use Rattle.cp_endless_laws.specs.Settled.{IsIn}
+use Rattle.cp_endless_laws.specs.Shown.{shown_at}
+use Rattle.cp_endless_laws.proofs.steps.Rounds.{happens_early, some_none}
 use Rattle.cp_ends.specs.Arrivals.{arrival_by, first_arrival, goal_of, has_call, stretch_arrival}
 use Rattle.cp_ends.specs.Graph as graph
 use Rattle.cp_ends.specs.declared.end.End.TheVariants.{Over, Alone, Spins}
@@ -30,9 +30,9 @@ use Rattle.cp_at_once_laws.specs.Search.{IsFollowed, IsTaken, SearchesAtOnce}
 use Rattle.cp_at_once_laws.specs.Through.{IsOpeningKnown}
 use Rattle.cp_at_once.specs.Following.{Follows, IsDone, IsGone, IsGoneThrough, IsKnownGoal, knows_end, knows_value}
 use Rattle.cp_at_once.proofs.Following.{States}
-use Rattle.cp_endless.proofs.steps.Repeating.{none_of as each_none}
-use Rattle.cp_endless.proofs.possible.Walks.{each_append}
-use Rattle.cp_endless.proofs.Basics.{distance}
+use Rattle.cp_endless_laws.proofs.steps.Repeating.{none_of as each_none}
+use Rattle.cp_endless_laws.proofs.possible.Walks.{each_append}
+use Rattle.cp_endless_laws.proofs.Basics.{distance}
 use Rattle.cp_ends.proofs.named.Keys.{key_same, key_self}
 
 true_false : true ≡ false → ⊥

@@ -5,7 +5,7 @@ pub use Rattle.std.proofs.lemmas.List.Elements.{All-weaker}
 pub use Rattle.std.proofs.lemmas.Option.{same_Some, slice_get_cases, slice_get_within}
 pub use Rattle.std.specs.List.{list_any}
 pub use Rattle.std.specs.Prelude.{All, slice_get}
-pub use Rattle.cp_endless.specs.Silent.{silent_slots, without_output}
+pub use Rattle.cp_endless_laws.specs.Silent.{silent_slots, without_output}
 pub use Rattle.cp_ends.proofs.GoingOn.{ok_to}
 pub use Rattle.cp_ends.proofs.Searching.Lists.{all_at}
 pub use Rattle.cp_ends.proofs.named.Keys.{key_self}

@@ -5,7 +5,7 @@ use Rattle.cp_machine.specs.declared.event.Event.{Event}
 use Rattle.cp_machine.specs.declared.event.Event.TheVariants.{Local, Kernel, Ended, Fault, OutputFull}
 use Rattle.cp_machine.specs.declared.discipline.Discipline.{Discipline}
 use Rattle.cp_machine.specs.System.{Machine, is_pending}
-use Rattle.cp_endless.specs.Silent.{silent_slots, without_output}
+use Rattle.cp_endless_laws.specs.Silent.{silent_slots, without_output}
 use Rattle.cp_at_once_laws.specs.AtOnce.{QuietLeg}
 use Rattle.cp_at_once_laws.specs.Quiet.{is_quiet, is_quiet_call}
 

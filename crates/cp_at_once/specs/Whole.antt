@@ -8,7 +8,7 @@ use Rattle.cp_machine.specs.System.{Machine}
 use Rattle.cp_run.specs.declared.outcome.OutcomeKind.{OutcomeKind}
 use Rattle.cp_run.specs.declared.outcome.OutcomeKind.TheVariants.{StepLimit}
 use Rattle.cp_run.specs.Slots.{slots}
-use Rattle.cp_endless.specs.Silent.{silent_slots, without_output}
+use Rattle.cp_endless_laws.specs.Silent.{silent_slots, without_output}
 use Rattle.cp_ends.specs.Ends.{EndsSo, ShowsSo}
 use Rattle.cp_ends.specs.Holds.{same_key}
 use Rattle.cp_ends.specs.Searched.{has}

@@ -43,8 +43,8 @@ pub use Rattle.cp_meaning.specs.Systems.{SystemMeaning, system_of}
 pub use Rattle.cp_meaning.specs.Types.{Ty, component_of}
 pub use Rattle.cp_meaning.specs.Values.{Value, number_of, number_value, queue_value, waiting_in}
 pub use Rattle.cp_meaning.specs.WellFormed.{IsWellFormed}
-pub use Rattle.cp_lawful.proofs.Accepting.{well_formed}
-pub use Rattle.cp_lawful.specs.Accepted.{IsAccepted}
+pub use Rattle.cp_meaning_laws.proofs.Accepting.{well_formed}
+pub use Rattle.cp_meaning_laws.specs.Accepted.{IsAccepted}
 pub use Rattle.cp_slots.specs.Tables.{Tables}
 pub use Rattle.cp_layout.specs.Laid.{plain}
 unfoldable pub use Rattle.cp_layout.specs.Laid.{laid}
@@ -63,21 +63,21 @@ pub use Rattle.cp_run.specs.declared.outcome.OutcomeKind.{OutcomeKind}
 pub use Rattle.cp_run.specs.declared.outcome.OutcomeKind.TheVariants.{AllWaiting, Finished, OutputLimit, RunError, StepLimit}
 pub use Rattle.cp_run.specs.declared.outcome.Turn.{Turn}
 pub use Rattle.cp_run.specs.declared.outcome.Turn.TheVariants.{Due, Goes, Over}
-pub use Rattle.cp_refine.proofs.Alike.{may_go}
-pub use Rattle.cp_refine.proofs.control.Moving.{same_or_other as same_or_not}
-pub use Rattle.cp_refine.proofs.expressions.Members.{not_equal as different}
-pub use Rattle.cp_refine.proofs.steps.Going.{ready_is as status_told}
-pub use Rattle.cp_refine.specs.InStep.{CanGo, GoInStep}
-pub use Rattle.cp_refine.specs.Named.{event_of, is_some, named, shown_of}
-pub use Rattle.cp_refine.specs.Running.{met_first}
-pub use Rattle.cp_endless.proofs.Basics.{distance}
-pub use Rattle.cp_endless.proofs.steps.Rounds.{from_there, happens_early, rounds}
-pub use Rattle.cp_endless.specs.Moments.{AnyOf, Moment, moments_by}
-unfoldable pub use Rattle.cp_endless.specs.Moments.{stretch_moments}
-pub use Rattle.cp_endless.specs.Reachable.{EndsAfter}
-pub use Rattle.cp_endless.specs.Repeats.{CallsAt, IsKernelCall, Repeats, repeated_part}
-pub use Rattle.cp_endless.specs.Rounds.{IsCut, IsRound, SetsOut, spot_after, spot_by}
-pub use Rattle.cp_endless.specs.Silent.{named_without_output, silent_slots}
+pub use Rattle.cp_machine_laws.proofs.Alike.{may_go}
+pub use Rattle.cp_machine_laws.proofs.control.Moving.{same_or_other as same_or_not}
+pub use Rattle.cp_machine_laws.proofs.expressions.Members.{not_equal as different}
+pub use Rattle.cp_machine_laws.proofs.steps.Going.{ready_is as status_told}
+pub use Rattle.cp_machine_laws.specs.InStep.{CanGo, GoInStep}
+pub use Rattle.cp_machine_laws.specs.Named.{event_of, is_some, named, shown_of}
+pub use Rattle.cp_machine_laws.specs.Running.{met_first}
+pub use Rattle.cp_endless_laws.proofs.Basics.{distance}
+pub use Rattle.cp_endless_laws.proofs.steps.Rounds.{from_there, happens_early, rounds}
+pub use Rattle.cp_endless_laws.specs.Moments.{AnyOf, Moment, moments_by}
+unfoldable pub use Rattle.cp_endless_laws.specs.Moments.{stretch_moments}
+pub use Rattle.cp_endless_laws.specs.Reachable.{EndsAfter}
+pub use Rattle.cp_endless_laws.specs.Repeats.{CallsAt, IsKernelCall, Repeats, repeated_part}
+pub use Rattle.cp_endless_laws.specs.Rounds.{IsCut, IsRound, SetsOut, spot_after, spot_by}
+pub use Rattle.cp_endless_laws.specs.Silent.{named_without_output, silent_slots}
 pub use Rattle.cp_at_once_laws.specs.AtOnce.{Comes, Commutes, Fails, GoalStays, Leg, Marks, NobodyReady, OwnGoal, PicksQuiet, QuietLeg, Spins, after_local, after_quiet}
 pub use Rattle.cp_at_once_laws.specs.AtOnce.{after_steps, calls, calls_quietly, done, fails, goes, is_call, later_fails, meets}
 pub use Rattle.cp_at_once_laws.specs.Found.{ShowsValue}

@@ -2,7 +2,7 @@
 use Rattle.std.specs.Prelude.{◌≡◌, ℕ, suc, List, true, Option, Some}
 use Rattle.cp_run.specs.System.{System}
 use Rattle.cp_run.specs.Run.{Node, Choosing, may, chosen, opened}
-use Rattle.cp_endless.specs.Reachable.{LeadsTo}
+use Rattle.cp_endless_laws.specs.Reachable.{LeadsTo}
 use Rattle.cp_at_once_laws.specs.AtOnce.{IsNode}
 
 -- where the search at once leads: a choice that is made at once counts, a stretch without a choice does not

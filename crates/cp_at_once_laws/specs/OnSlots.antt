@@ -4,17 +4,17 @@ use Rattle.cp_tree.specs.Read.{IsRead}
 use Rattle.cp_tree.specs.Syntax.{Tree}
 use Rattle.cp_layout.specs.Laid.{plain, laid}
 use Rattle.cp_slots.specs.Tables.{Tables}
-use Rattle.cp_lawful.specs.Accepted.{IsAccepted}
+use Rattle.cp_meaning_laws.specs.Accepted.{IsAccepted}
 use Rattle.cp_meaning.specs.State.{book_discipline}
 use Rattle.cp_machine.specs.Machine.{Machine}
 use Rattle.cp_machine.specs.declared.discipline.Discipline.{Discipline}
 use Rattle.cp_machine.specs.declared.shown.Shown.{Shown}
 use Rattle.cp_run.specs.declared.outcome.OutcomeKind.{OutcomeKind}
 use Rattle.cp_run.specs.Slots.{slots}
-use Rattle.cp_refine.specs.Named.{named, discipline_of}
-use Rattle.cp_endless.specs.Repeats.{IsAloneAfter, SpinsAfter}
-use Rattle.cp_endless.specs.Shown.{ShowsAfter}
-use Rattle.cp_endless.specs.Silent.{silent_slots, named_without_output}
+use Rattle.cp_machine_laws.specs.Named.{named, discipline_of}
+use Rattle.cp_endless_laws.specs.Repeats.{IsAloneAfter, SpinsAfter}
+use Rattle.cp_endless_laws.specs.Shown.{ShowsAfter}
+use Rattle.cp_endless_laws.specs.Silent.{silent_slots, named_without_output}
 use Rattle.cp_at_once_laws.specs.AtOnce.{QuietLeg}
 use Rattle.cp_at_once_laws.specs.Quiet.{names, is_quiet}
 use Rattle.cp_at_once_laws.specs.Search.{SearchesAtOnce}

@@ -2,15 +2,15 @@
 use Rattle.std.specs.Prelude.{◌≡◌, ℕ, List, Bool, true, false}
 use Rattle.cp_tree.specs.Read.{IsRead}
 use Rattle.cp_tree.specs.Syntax.{Tree}
-use Rattle.cp_lawful.specs.Accepted.{IsAccepted}
+use Rattle.cp_meaning_laws.specs.Accepted.{IsAccepted}
 use Rattle.cp_meaning.specs.State.{component_at, book_discipline, State}
 use Rattle.cp_machine.specs.declared.event.Event.{Event}
 use Rattle.cp_machine.specs.declared.event.Event.TheVariants.{Local, Kernel, Ended, Fault, OutputFull}
 use Rattle.cp_machine.specs.declared.event.Kernel.{Kernel as Call}
 use Rattle.cp_machine.specs.declared.event.Kernel.TheVariants as call
 use Rattle.cp_run.specs.System.{System}
-use Rattle.cp_refine.specs.Running.{Happening, IsMet}
-use Rattle.cp_endless.specs.Silent.{silent_named}
+use Rattle.cp_machine_laws.specs.Running.{Happening, IsMet}
+use Rattle.cp_endless_laws.specs.Silent.{silent_named}
 use Rattle.cp_at_once_laws.specs.AtOnce.{Commutes}
 
 -- the meaning that shows nothing, where the first of a line goes in and the caller of `continue` returns at once

@@ -3,10 +3,10 @@ use Rattle.std.specs.Prelude.{◌≡◌, ◌⊎◌, ℕ, zero, suc, true, false,
 use Rattle.cp_run.specs.declared.outcome.OutcomeKind.{OutcomeKind}
 use Rattle.cp_run.specs.System.{System}
 use Rattle.cp_run.specs.Run.{may, turn_at, stretch}
-use Rattle.cp_endless.specs.Moments.{AnyOf}
-use Rattle.cp_endless.specs.Repeats.{CallsAt, Repeats, repeated_part}
-use Rattle.cp_endless.specs.Rounds.{IsCut, spot_after}
-use Rattle.cp_endless.specs.Settled.{IsIn}
+use Rattle.cp_endless_laws.specs.Moments.{AnyOf}
+use Rattle.cp_endless_laws.specs.Repeats.{CallsAt, Repeats, repeated_part}
+use Rattle.cp_endless_laws.specs.Rounds.{IsCut, spot_after}
+use Rattle.cp_endless_laws.specs.Settled.{IsIn}
 use Rattle.cp_at_once_laws.specs.Through.{IsOpeningKnown}
 
 -- `AtOnce` says whose leg may be made at once in a state, `kept` which states are gone on from with each choice. Told are ends (`known`), who is alone for ever (`alone`), who spins (`spins`), and

@@ -5,7 +5,7 @@ use Rattle.cp_run.specs.declared.outcome.Turn.{Turn}
 use Rattle.cp_run.specs.declared.outcome.Turn.TheVariants.{Over, Due, Goes}
 use Rattle.cp_run.specs.System.{System}
 use Rattle.cp_run.specs.Run.{may, turn_at, turn_after}
-use Rattle.cp_endless.specs.Rounds.{spot_after}
+use Rattle.cp_endless_laws.specs.Rounds.{spot_after}
 use Rattle.cp_at_once_laws.specs.AtOnce.{QuietLeg}
 
 -- `among c s`: the choice that is due in state s is gone on from, and c legs may still be made at once. `begun c b f`: the stretch that begins in

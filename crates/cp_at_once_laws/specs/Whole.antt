@@ -4,9 +4,9 @@ use Rattle.cp_machine.specs.declared.event.Event.TheVariants.{Local}
 use Rattle.cp_run.specs.declared.outcome.OutcomeKind.{OutcomeKind}
 use Rattle.cp_run.specs.declared.outcome.OutcomeKind.TheVariants.{StepLimit}
 use Rattle.cp_run.specs.System.{System}
-use Rattle.cp_endless.specs.Reachable.{EndsAfter}
-use Rattle.cp_endless.specs.Repeats.{IsKernelCall}
-use Rattle.cp_endless.specs.Rounds.{SetsOut, spot_after}
+use Rattle.cp_endless_laws.specs.Reachable.{EndsAfter}
+use Rattle.cp_endless_laws.specs.Repeats.{IsKernelCall}
+use Rattle.cp_endless_laws.specs.Rounds.{SetsOut, spot_after}
 
 -- the stretch to which the word leads goes on for ever, and from some step on q makes each of its steps
 pub record GoesOnBy {S : Type 0} (sys : System S) (limit : ℕ) (word : List ℕ) (q : ℕ) : Type 0 where

@@ -16,7 +16,7 @@ use Rattle.cp_ends.specs.Holds.{same_key, AreRows, AreStates, IsBefore, IsWordOf
 use Rattle.cp_ends.specs.declared.origin.Origin.TheVariants.{Start, Choice}
 use Rattle.cp_ends.proofs.Searching.Lists.{all_at}
 use Rattle.cp_ends.proofs.named.Keys.{key_same, key_self}
-use Rattle.cp_refine.proofs.expressions.SetRanges.{same_truth as both_true}
+use Rattle.cp_machine_laws.proofs.expressions.SetRanges.{same_truth as both_true}
 use Rattle.cp_resolved.proofs.names.Entries.{last_or_before as get_cases}
 
 abbrev pub Entry : Type 0

@@ -7,8 +7,8 @@ use Rattle.cp_run.specs.declared.outcome.Turn.TheVariants.{Over, Due, Goes}
 use Rattle.cp_run.specs.Fold.{Fold, beside, fold_chosen, fold_opened, fold_stretch, fold_turn, walked, walked_chosen, walked_opened}
 use Rattle.cp_run.specs.Run.{node_at, turn_after, settled_turn, turn_at, stretch, opened, chosen}
 use Rattle.cp_run.proofs.Walking.{halts_so, walked_up}
-use Rattle.cp_endless.specs.Moments.{moments_by, stretch_moments, moments}
-use Rattle.cp_endless.specs.Rounds.{spot_after, spot_by}
+use Rattle.cp_endless_laws.specs.Moments.{moments_by, stretch_moments, moments}
+use Rattle.cp_endless_laws.specs.Rounds.{spot_after, spot_by}
 use Rattle.cp_ends.proofs.Halting.{spot_at, spot_walked}
 use Rattle.cp_ends.proofs.Stretches.{moments_there}
 use Rattle.cp_ends.proofs.named.Keys.{key_same, key_self}

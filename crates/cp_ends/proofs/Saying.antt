@@ -3,8 +3,8 @@ use Rattle.std.proofs.Common.{◌≡◌, ℕ, [], ◌∷◌, ◌++◌, Option, N
 use Rattle.std.specs.Prelude.{Decides, IfOk, Result}
 use Rattle.cp_ends.proofs.Vocabulary.{bytes_decides, IsRead, Tree, plain, laid, Tables, IsAccepted, key_of, Machine, Discipline, Shown, slots, without_output, Graph}
 use Rattle.cp_ends.proofs.Vocabulary.{Findings, gone_on, searched, Found, MOST_VALUES}
-use Rattle.cp_refine.specs.Named.{named_discipline, discipline_of}
-use Rattle.cp_refine.proofs.Disciplines.{same_discipline}
+use Rattle.cp_machine_laws.specs.Named.{named_discipline, discipline_of}
+use Rattle.cp_machine_laws.proofs.Disciplines.{same_discipline}
 use Rattle.cp_key.proofs.Keys.{key_tells}
 use Rattle.cp_ends.specs.Answer.{ends_tests, slot_graph, with_shown, IsDone, IsStopped, IsSearch}
 use Rattle.cp_ends.specs.Holds.{same_key, SlotFindings, Holds, HasFindings}

@@ -8,21 +8,21 @@ pub use Rattle.std.proofs.lemmas.Option.{same_Some, slice_get_cases, slice_get_w
 pub use Rattle.std.specs.Cmp.Lexicographic.{bytes_decides}
 pub use Rattle.std.specs.List.{AllByRecursion as Each, list_any}
 pub use Rattle.std.specs.Prelude.{All, Contains, Decides, IfOk, nat_eq, nat_lt, slice_get, ◌&&◌, ◌==◌, ◌||◌}
-pub use Rattle.cp_endless.proofs.Basics.{distance}
-pub use Rattle.cp_endless.proofs.possible.Walks.{each_append}
-pub use Rattle.cp_endless.proofs.possible.Words.{after_append, after_first}
-pub use Rattle.cp_endless.proofs.steps.Repeating.{repeating}
-pub use Rattle.cp_endless.proofs.steps.Rounds.{from_there, happens_early}
-pub use Rattle.cp_endless.specs.Forgetting.{forgetting_system}
-pub use Rattle.cp_endless.specs.Moments.{AnyOf, Moment, moments_by}
-unfoldable pub use Rattle.cp_endless.specs.Moments.{stretch_moments}
-pub use Rattle.cp_endless.specs.Reachable.{EndsAfter, LeadsTo, node_after}
-pub use Rattle.cp_endless.specs.Repeats.{Repeats, repeated_part}
-pub use Rattle.cp_endless.specs.Rounds.{SetsOut, chosen_spot, spot_after, spot_by}
-pub use Rattle.cp_endless.specs.Shown.{ShowsAfter, shown_at}
-pub use Rattle.cp_endless.specs.Silent.{silent_slots, without_output}
+pub use Rattle.cp_endless_laws.proofs.Basics.{distance}
+pub use Rattle.cp_endless_laws.proofs.possible.Walks.{each_append}
+pub use Rattle.cp_endless_laws.proofs.possible.Words.{after_append, after_first}
+pub use Rattle.cp_endless_laws.proofs.steps.Repeating.{repeating}
+pub use Rattle.cp_endless_laws.proofs.steps.Rounds.{from_there, happens_early}
+pub use Rattle.cp_endless_laws.specs.Forgetting.{forgetting_system}
+pub use Rattle.cp_endless_laws.specs.Moments.{AnyOf, Moment, moments_by}
+unfoldable pub use Rattle.cp_endless_laws.specs.Moments.{stretch_moments}
+pub use Rattle.cp_endless_laws.specs.Reachable.{EndsAfter, LeadsTo, node_after}
+pub use Rattle.cp_endless_laws.specs.Repeats.{Repeats, repeated_part}
+pub use Rattle.cp_endless_laws.specs.Rounds.{SetsOut, chosen_spot, spot_after, spot_by}
+pub use Rattle.cp_endless_laws.specs.Shown.{ShowsAfter, shown_at}
+pub use Rattle.cp_endless_laws.specs.Silent.{silent_slots, without_output}
 unfoldable pub use Rattle.cp_key.specs.Key.{key_of}
-pub use Rattle.cp_lawful.specs.Accepted.{IsAccepted}
+pub use Rattle.cp_meaning_laws.specs.Accepted.{IsAccepted}
 pub use Rattle.cp_layout.specs.Laid.{plain}
 unfoldable pub use Rattle.cp_layout.specs.Laid.{laid}
 pub use Rattle.cp_machine.specs.Statements.{Stepped}

@@ -8,7 +8,7 @@ use Rattle.cp_machine.specs.System.{Machine}
 use Rattle.cp_run.specs.Slots.{slots}
 use Rattle.cp_run.specs.declared.outcome.Halt.{Halt}
 use Rattle.cp_run.specs.declared.outcome.Halt.TheVariants as halt
-use Rattle.cp_endless.specs.Silent.{without_output}
+use Rattle.cp_endless_laws.specs.Silent.{without_output}
 use Rattle.cp_ends.specs.Arrivals.{ends_graph}
 use Rattle.cp_ends.specs.Graph as graph
 use Rattle.cp_ends.specs.Graph.{Goal, Place, Graph}

@@ -12,10 +12,10 @@ use Rattle.cp_run.specs.System.{System}
 use Rattle.cp_run.specs.Fold.{Fold}
 use Rattle.cp_run.specs.Run.{Node, Halted, Choosing, may, turn_at, settled_turn, stretch}
 use Rattle.cp_run.specs.Table.{each}
-use Rattle.cp_endless.specs.Forgetting.{forgetting_system}
-use Rattle.cp_endless.specs.Moments.{Moment, stretch_moments}
-use Rattle.cp_endless.specs.Rounds.{spot_after}
-use Rattle.cp_endless.specs.Shown.{shown_at}
+use Rattle.cp_endless_laws.specs.Forgetting.{forgetting_system}
+use Rattle.cp_endless_laws.specs.Moments.{Moment, stretch_moments}
+use Rattle.cp_endless_laws.specs.Rounds.{spot_after}
+use Rattle.cp_endless_laws.specs.Shown.{shown_at}
 use Rattle.cp_ends.specs.Graph.{Goal, Place, End, Arrival, Graph}
 use Rattle.cp_ends.specs.declared.end.End as code
 use Rattle.cp_ends.specs.declared.end.End.TheVariants.{Over, Alone, Spins}

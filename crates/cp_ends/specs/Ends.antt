@@ -4,11 +4,11 @@ use Rattle.cp_machine.specs.declared.shown.Shown.{Shown}
 use Rattle.cp_run.specs.declared.outcome.OutcomeKind.TheVariants.{StepLimit}
 use Rattle.cp_run.specs.System.{System}
 use Rattle.cp_run.specs.Table.{each}
-use Rattle.cp_endless.specs.Forgetting.{forgetting_system}
-use Rattle.cp_endless.specs.Reachable.{EndsAfter}
-use Rattle.cp_endless.specs.Repeats.{Repeats, repeated_part, IsAloneAfter, SpinsAfter}
-use Rattle.cp_endless.specs.Rounds.{SetsOut}
-use Rattle.cp_endless.specs.Shown.{shown_at, ShowsAfter}
+use Rattle.cp_endless_laws.specs.Forgetting.{forgetting_system}
+use Rattle.cp_endless_laws.specs.Reachable.{EndsAfter}
+use Rattle.cp_endless_laws.specs.Repeats.{Repeats, repeated_part, IsAloneAfter, SpinsAfter}
+use Rattle.cp_endless_laws.specs.Rounds.{SetsOut}
+use Rattle.cp_endless_laws.specs.Shown.{shown_at, ShowsAfter}
 use Rattle.cp_ends.specs.declared.end.End as code
 use Rattle.cp_ends.specs.declared.end.End.TheVariants.{Over, Alone, Spins}
 

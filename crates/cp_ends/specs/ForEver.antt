@@ -1,9 +1,9 @@
 -- Stretches that go on for ever without a choice, whether or not they come back to one state.
 use Rattle.std.specs.Prelude.{◌≡◌, ◌≤◌, ℕ, List}
 use Rattle.cp_run.specs.System.{System}
-use Rattle.cp_endless.specs.Repeats.{CallsAt}
-use Rattle.cp_endless.specs.Rounds.{SetsOut}
-use Rattle.cp_endless.specs.Standstill.{GoesOn}
+use Rattle.cp_endless_laws.specs.Repeats.{CallsAt}
+use Rattle.cp_endless_laws.specs.Rounds.{SetsOut}
+use Rattle.cp_endless_laws.specs.Standstill.{GoesOn}
 
 -- The stretch to which the word leads goes on for ever, and after as many steps as the limit this process makes the next one.
 pub record GoesOnForEver {S : Type 0} (sys : System S) (steps : ℕ) (word : List ℕ) (q : ℕ) : Type 0 where

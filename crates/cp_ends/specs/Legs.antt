@@ -9,10 +9,10 @@ use Rattle.cp_run.specs.Run.{Node, Halted, Choosing, node_at, stretch, opened, c
 use Rattle.cp_run.specs.declared.outcome.Halt.{Halt}
 use Rattle.cp_run.specs.declared.outcome.Halt.TheVariants.{Choice, Ended}
 use Rattle.cp_run.specs.declared.outcome.Turn.{Turn}
-use Rattle.cp_endless.specs.Moments.{Moment, moments_by, stretch_moments, moments}
-use Rattle.cp_endless.specs.Repeats.{Repeats, repeated_part}
-use Rattle.cp_endless.specs.Rounds.{spot_after, spot_by, opening_spot, chosen_spot}
-use Rattle.cp_endless.specs.Silent.{silent_slots}
+use Rattle.cp_endless_laws.specs.Moments.{Moment, moments_by, stretch_moments, moments}
+use Rattle.cp_endless_laws.specs.Repeats.{Repeats, repeated_part}
+use Rattle.cp_endless_laws.specs.Rounds.{spot_after, spot_by, opening_spot, chosen_spot}
+use Rattle.cp_endless_laws.specs.Silent.{silent_slots}
 use Rattle.cp_ends.specs.declared.end.End.{End}
 
 -- where it leads, where its stretch begins, if there is one, and its moments, of at most so many steps

@@ -11,14 +11,14 @@ use Rattle.cp_run.specs.declared.outcome.OutcomeKind.{OutcomeKind}
 use Rattle.cp_run.specs.declared.outcome.OutcomeKind.TheVariants.{StepLimit}
 use Rattle.cp_run.specs.Run.{Choosing}
 use Rattle.cp_run.specs.Slots.{slots}
-use Rattle.cp_refine.specs.Named.{named, discipline_of}
-use Rattle.cp_endless.specs.Layers.{AreAllEndsTo}
-use Rattle.cp_endless.specs.Meaning.{OfPrograms, IsSettledOf}
-use Rattle.cp_endless.specs.Reachable.{LeadsTo, EndsAfter}
-use Rattle.cp_endless.specs.Repeats.{EndsAtEachLimit}
-use Rattle.cp_endless.specs.Shown.{ShowsAfter}
-use Rattle.cp_endless.specs.Silent.{without_output, silent_slots, named_without_output, silent_named}
-use Rattle.cp_endless.specs.Tables.{RunsTo}
+use Rattle.cp_machine_laws.specs.Named.{named, discipline_of}
+use Rattle.cp_endless_laws.specs.Layers.{AreAllEndsTo}
+use Rattle.cp_endless_laws.specs.Meaning.{OfPrograms, IsSettledOf}
+use Rattle.cp_endless_laws.specs.Reachable.{LeadsTo, EndsAfter}
+use Rattle.cp_endless_laws.specs.Repeats.{EndsAtEachLimit}
+use Rattle.cp_endless_laws.specs.Shown.{ShowsAfter}
+use Rattle.cp_endless_laws.specs.Silent.{without_output, silent_slots, named_without_output, silent_named}
+use Rattle.cp_endless_laws.specs.Tables.{RunsTo}
 use Rattle.cp_ends.specs.Ends.{EndsSo, ShowsSo}
 use Rattle.cp_ends.specs.Firsts.{is_up_to, IsFirst, AreFirsts, AreFirstOnes, Within}
 use Rattle.cp_ends.specs.ForEver.{IsAloneForEver, SpinsForEver}

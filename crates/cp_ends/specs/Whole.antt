@@ -6,7 +6,7 @@ use Rattle.cp_tree.specs.Read.{IsRead}
 use Rattle.cp_tree.specs.Syntax.{Tree}
 use Rattle.cp_layout.specs.Laid.{plain, laid}
 use Rattle.cp_slots.specs.Tables.{Tables}
-use Rattle.cp_lawful.specs.Accepted.{IsAccepted}
+use Rattle.cp_meaning_laws.specs.Accepted.{IsAccepted}
 use Rattle.cp_meaning.specs.State as named
 use Rattle.cp_machine.specs.System.{Machine}
 use Rattle.cp_machine.specs.declared.discipline.Discipline.{Discipline}
@@ -14,10 +14,10 @@ use Rattle.cp_machine.specs.declared.shown.Shown.{Shown}
 use Rattle.cp_run.specs.Slots.{slots}
 use Rattle.cp_run.specs.System.{System}
 use Rattle.cp_run.specs.Run.{Choosing}
-use Rattle.cp_refine.specs.Named.{named_discipline}
-use Rattle.cp_endless.specs.Forgetting.{forgetting_system}
-use Rattle.cp_endless.specs.Reachable.{LeadsTo}
-use Rattle.cp_endless.specs.Silent.{without_output}
+use Rattle.cp_machine_laws.specs.Named.{named_discipline}
+use Rattle.cp_endless_laws.specs.Forgetting.{forgetting_system}
+use Rattle.cp_endless_laws.specs.Reachable.{LeadsTo}
+use Rattle.cp_endless_laws.specs.Silent.{without_output}
 use Rattle.cp_ends.specs.Ends.{EndsSo, ShowsSo}
 use Rattle.cp_ends.specs.Firsts.{AreFirsts, AreFirstOnes, Within, those_within}
 use Rattle.cp_ends.specs.Holds.{Holds}

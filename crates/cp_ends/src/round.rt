@@ -8,7 +8,7 @@ ghost use Rattle.cp_run.specs.Fold.{fold_stretch};
 ghost use Rattle.cp_run.specs.Run.{turn_after};
 ghost use Rattle.cp_run.specs.Silent.{silent_slots};
 ghost use Rattle.cp_run.specs.Slots.{slots};
-ghost use Rattle.cp_endless.specs.Rounds.{spot_after};
+ghost use Rattle.cp_endless_laws.specs.Rounds.{spot_after};
 ghost use Rattle.cp_ends.specs.Arrivals.{cut_arrival, return_within};
 ghost use Rattle.cp_ends.specs.Graph as graph;
 ghost use Rattle.cp_ends.specs.Holds.{same_key};

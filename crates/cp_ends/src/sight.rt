@@ -9,7 +9,7 @@ pub trait Sight: Copy + Drop {
     ghost use Rattle.cp_slots.specs.Tables.{Tables};
     ghost use Rattle.cp_machine.specs.System.{Machine, machine_of, IsStateOf};
     ghost use Rattle.cp_machine.specs.declared.discipline.Discipline.{Discipline};
-    ghost use Rattle.cp_endless.specs.Moments.{Moment};
+    ghost use Rattle.cp_endless_laws.specs.Moments.{Moment};
 
     /// This is what is seen of these due choices and of the moments after them.
     ghost sees: { Self → Tables → Discipline → List Machine → List (Moment Machine) → Type 0 };

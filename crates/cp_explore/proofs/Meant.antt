@@ -4,9 +4,9 @@ use Rattle.cp_slots.specs.Tables.{Tables}
 use Rattle.cp_machine.specs.declared.discipline.Discipline.{Discipline}
 use Rattle.cp_run.specs.Slots.{slots}
 use Rattle.cp_run.specs.Table.{Line, table}
-use Rattle.cp_lawful.proofs.Accepting.{keeps_exclusion}
-use Rattle.cp_refine.specs.Named.{named_discipline}
-use Rattle.cp_refine.proofs.Meaning.{runs_as_meant}
+use Rattle.cp_meaning_laws.proofs.Accepting.{keeps_exclusion}
+use Rattle.cp_machine_laws.specs.Named.{named_discipline}
+use Rattle.cp_machine_laws.proofs.Meaning.{runs_as_meant}
 use Rattle.cp_explore.specs.Meant.{AreExclusive, AreMeant, AreTallied}
 use Rattle.cp_merged.specs.Tallies.{tally}
 use Rattle.cp_walk.specs.Groups.{Tally}

@@ -9,8 +9,8 @@ use Rattle.cp_merged.proofs.Completing.{complete, closed_table}
 use Rattle.cp_merged.proofs.Exact.{exact_outcomes}
 use Rattle.cp_merged.proofs.Sorted.{layers_tally}
 use Rattle.cp_merged.proofs.Telling.{told_report}
-use Rattle.cp_endless.specs.MoreSteps.{HasStepsEnough}
-use Rattle.cp_endless.proofs.steps.Tables.{more_steps_tables}
+use Rattle.cp_endless_laws.specs.MoreSteps.{HasStepsEnough}
+use Rattle.cp_endless_laws.proofs.steps.Tables.{more_steps_tables}
 use Rattle.cp_explore.specs.Statements.{LayersLaw, ReportLaw, CompleteLaw, ClosedLaw, PrefixFreeLaw, MoreStepsLaw, GreaterLimitsLaw}
 
 module _ {S : Type 0} (sys : System S) where

@@ -9,7 +9,7 @@ use Rattle.cp_merged.specs.Complete.{IsComplete, IsClosed, IsKnown}
 use Rattle.cp_merged.specs.Layers.{IsSound, by_layers, by_first}
 use Rattle.cp_merged.specs.Tallies.{Sameness, IsExact, tally}
 use Rattle.cp_merged.specs.Told.{told_text}
-use Rattle.cp_endless.specs.MoreSteps.{HasStepsEnough}
+use Rattle.cp_endless_laws.specs.MoreSteps.{HasStepsEnough}
 
 -- no word of a table begins another word of it
 abbrev pub PrefixFreeLaw : {S : Type 0} → System S → Type 0

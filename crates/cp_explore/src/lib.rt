@@ -6,7 +6,7 @@ pub mod merged;
 pub mod one_thread;
 pub mod threads;
 
-pub use cp_lawful::{law_exclusive, law_ownership};
+pub use cp_meaning_laws::{law_exclusive, law_ownership};
 pub use cp_merged::{MergeFault, Tallies, merged_report};
 pub use cp_walk::{
     Cutting, ExploreFault, GatherFault, Job, MOST_MEMBERS, NoGate, Report, Row, RowPiece as Piece,

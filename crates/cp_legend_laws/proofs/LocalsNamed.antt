@@ -14,7 +14,7 @@ use Rattle.cp_layout.specs.Laid.{whole}
 use Rattle.cp_layout.specs.Layers as layers
 use Rattle.cp_layout.specs.Layers.{Heading, own_result, result_slot}
 use Rattle.cp_layout.specs.Symbols.{name_of_routine}
-use Rattle.cp_lawful.specs.Accepted.{IsAccepted}
+use Rattle.cp_meaning_laws.specs.Accepted.{IsAccepted}
 use Rattle.cp_legend.specs.Names as legend
 use Rattle.cp_legend.specs.Names.{RoutineNames, Source, bare_routine, local_meant, local_named, parameter_meant, parameter_named, routine_names_seen, routine_of, routines_from, source_seen, with_result_if}
 use Rattle.cp_legend.specs.declared.legend.LegendParameter.{LegendParameter}

@@ -8,8 +8,8 @@ use Rattle.cp_symbols.specs.declared.symbols.Symbols as code_symbols
 use Rattle.cp_slots.specs.Tables.{Tables}
 use Rattle.cp_layout.specs.Laid.{plain, laid, whole}
 use Rattle.cp_layout.specs.Symbols.{AreSymbolsOf}
-use Rattle.cp_lawful.specs.Accepted.{IsAccepted}
-use Rattle.cp_lawful.proofs.Earlier.{TyBelow, VariablesBelow, systems_below}
+use Rattle.cp_meaning_laws.specs.Accepted.{IsAccepted}
+use Rattle.cp_meaning_laws.proofs.Earlier.{TyBelow, VariablesBelow, systems_below}
 use Rattle.cp_meaning.specs.Steps.{parameter_variables}
 use Rattle.cp_meaning.specs.Types.{Ty, array_over, component_of, length_of_range}
 use Rattle.cp_meaning.specs.Systems.{program_system, system_of}

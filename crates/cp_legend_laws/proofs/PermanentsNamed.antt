@@ -12,7 +12,7 @@ use Rattle.cp_symbols.specs.Kinds.{most}
 use Rattle.cp_layout.specs.Laid.{plain, laid, whole}
 use Rattle.cp_layout.specs.Layers as layers
 use Rattle.cp_layout.specs.Symbols.{AreSymbolsOf}
-use Rattle.cp_lawful.specs.Accepted.{IsAccepted}
+use Rattle.cp_meaning_laws.specs.Accepted.{IsAccepted}
 use Rattle.cp_legend.specs.Names as legend
 use Rattle.cp_legend.specs.Names.{Source, at_each, permanent_meant, permanent_named, permanents_of, source_seen}
 use Rattle.cp_legend.specs.Places.{variables_at}

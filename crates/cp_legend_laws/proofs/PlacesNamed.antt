@@ -9,7 +9,7 @@ use Rattle.cp_symbols.specs.declared.symbols.Symbols as code_symbols
 use Rattle.cp_symbols.specs.Kinds.{most}
 use Rattle.cp_layout.specs.Laid.{plain, laid, whole}
 use Rattle.cp_layout.specs.Symbols.{AreSymbolsOf}
-use Rattle.cp_lawful.specs.Accepted.{IsAccepted}
+use Rattle.cp_meaning_laws.specs.Accepted.{IsAccepted}
 use Rattle.cp_legend.specs.declared.legend.Legend as code_legend
 use Rattle.cp_legend.specs.Names as legend
 use Rattle.cp_legend.specs.Names.{IsLegendOf, Named, RoutineNames, Source, legend_seen, source_seen}

@@ -5,7 +5,7 @@ use Rattle.cp_tree.specs.Read.{IsRead}
 use Rattle.cp_symbols.specs.declared.symbols.Symbols as code_symbols
 use Rattle.cp_layout.specs.Laid.{whole}
 use Rattle.cp_layout.specs.Symbols.{AreSymbolsOf}
-use Rattle.cp_lawful.specs.Accepted.{IsAccepted}
+use Rattle.cp_meaning_laws.specs.Accepted.{IsAccepted}
 use Rattle.cp_meaning.specs.Declarations.{Parameter, RoutineMeaning}
 use Rattle.cp_meaning.specs.Steps.{parameter_variables}
 use Rattle.cp_meaning.specs.Systems.{SystemMeaning, system_of}

@@ -7,7 +7,7 @@ use Rattle.cp_slots.specs.Tables.{RoutineView, Tables}
 use Rattle.cp_layout.specs.Laid.{plain, laid, whole}
 use Rattle.cp_layout.specs.Symbols.{AreSymbolsOf}
 use Rattle.cp_meaning.specs.Components as language
-use Rattle.cp_lawful.specs.Accepted.{IsAccepted}
+use Rattle.cp_meaning_laws.specs.Accepted.{IsAccepted}
 use Rattle.cp_legend.specs.declared.legend.Legend as code_legend
 use Rattle.cp_legend.specs.Names as legend
 use Rattle.cp_legend.specs.Names.{IsLegendOf, Named, RoutineNames, component_seen, components_of, legend_seen, routine_names_seen, source_seen}

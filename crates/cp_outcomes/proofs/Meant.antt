@@ -10,7 +10,7 @@ use Rattle.cp_walk.specs.Report.{same_outcome}
 use Rattle.cp_merged.specs.Code.{tally_of}
 use Rattle.cp_merged.specs.Tallies.{tally}
 use Rattle.cp_merged.specs.TooMany.{HasTooManyOutcomes, MoreThan}
-use Rattle.cp_refine.proofs.Meaning.{runs_as_meant}
+use Rattle.cp_machine_laws.proofs.Meaning.{runs_as_meant}
 use Rattle.cp_outcomes.specs.Findings.{IsFoundOf, IsExcessOf, IsKnownOf}
 use Rattle.cp_outcomes.specs.Meant.{IsExcessIn, IsFoundIn, IsMeantFinding}
 use Rattle.cp_outcomes.specs.declared.known.Known.{Known}

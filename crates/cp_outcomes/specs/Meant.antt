@@ -4,14 +4,14 @@ use Rattle.cp_tree.specs.Read.{IsRead}
 use Rattle.cp_tree.specs.Syntax.{Tree}
 use Rattle.cp_layout.specs.Laid.{plain, laid}
 use Rattle.cp_slots.specs.Tables.{Tables}
-use Rattle.cp_lawful.specs.Accepted.{IsAccepted}
+use Rattle.cp_meaning_laws.specs.Accepted.{IsAccepted}
 use Rattle.cp_machine.specs.declared.discipline.Discipline.{Discipline}
 use Rattle.cp_run.specs.Table.{Line, table}
 use Rattle.cp_walk.specs.Report.{same_outcome}
 use Rattle.cp_merged.specs.Code.{tally_of}
 use Rattle.cp_merged.specs.Tallies.{tally}
 use Rattle.cp_merged.specs.TooMany.{MoreThan}
-use Rattle.cp_refine.specs.Named.{named, named_discipline}
+use Rattle.cp_machine_laws.specs.Named.{named, named_discipline}
 use Rattle.cp_outcomes.specs.declared.subject.Excess.{Excess}
 use Rattle.cp_outcomes.specs.declared.subject.Excess.TheVariants.{States, Outcomes}
 use Rattle.cp_outcomes.specs.declared.telling.Finding.{Finding}

@@ -86,13 +86,13 @@ pub use Rattle.cp_check.specs.declared.operand.OperandUse.{OperandUse}
 pub use Rattle.cp_check.specs.declared.statement.Target.{Target}
 pub use Rattle.cp_check.specs.declared.types.Holding.{Holding}
 pub use Rattle.cp_check.specs.declared.types.Spot.{Spot}
-pub use Rattle.cp_lawful.proofs.Accepting.{well_formed}
-pub use Rattle.cp_lawful.proofs.Classes.{reserved_names, reserved_new}
-pub use Rattle.cp_lawful.proofs.Kept.{Keeps, constants_kept, last_is, names_added, parts_kept, system_group_kept, types_kept, variable_kept, written_kept}
-pub use Rattle.cp_lawful.proofs.Loud.{Heard, Loud, arguments_loud, statements_loud}
-pub use Rattle.cp_lawful.proofs.Once.{declarations_sound, defined_sound, inside_sound, itself, no_first, no_first as none_first, no_left, no_right, none_before, or_left}
-pub use Rattle.cp_lawful.proofs.Once.{or_right, parts_sound}
-pub use Rattle.cp_lawful.specs.Accepted.{IsAccepted}
+pub use Rattle.cp_meaning_laws.proofs.Accepting.{well_formed}
+pub use Rattle.cp_meaning_laws.proofs.Classes.{reserved_names, reserved_new}
+pub use Rattle.cp_meaning_laws.proofs.Kept.{Keeps, constants_kept, last_is, names_added, parts_kept, system_group_kept, types_kept, variable_kept, written_kept}
+pub use Rattle.cp_meaning_laws.proofs.Loud.{Heard, Loud, arguments_loud, statements_loud}
+pub use Rattle.cp_meaning_laws.proofs.Once.{declarations_sound, defined_sound, inside_sound, itself, no_first, no_first as none_first, no_left, no_right, none_before, or_left}
+pub use Rattle.cp_meaning_laws.proofs.Once.{or_right, parts_sound}
+pub use Rattle.cp_meaning_laws.specs.Accepted.{IsAccepted}
 pub use Rattle.cp_slots.specs.Code.{Action, Argument, Arm, ComponentPlace, SetExpression, action_seen, item_seen}
 pub use Rattle.cp_slots.specs.Fits.{IsSound}
 pub use Rattle.cp_slots.specs.Systems.{ActionNames, parameter_count}

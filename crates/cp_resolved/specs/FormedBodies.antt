@@ -1,7 +1,7 @@
 -- That the statements of each routine and of each initial statement have the forms that their items want, as a law.
 use Rattle.std.specs.Prelude.{◌<◌, ℕ, length}
 use Rattle.cp_tree.specs.Syntax.{Tree}
-use Rattle.cp_lawful.specs.Accepted.{IsAccepted}
+use Rattle.cp_meaning_laws.specs.Accepted.{IsAccepted}
 use Rattle.cp_resolved.specs.BodiesStand.{CallsFormed}
 use Rattle.cp_resolved.specs.Calls.{all_calls_laid}
 use Rattle.cp_resolved.specs.FormedStatements.{AllFormed}

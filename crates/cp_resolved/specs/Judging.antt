@@ -14,7 +14,7 @@ use Rattle.cp_check.specs.Routines.{routine_context, routine_step}
 use Rattle.cp_check.specs.Systems.{group_steps, inside, initial_context, definition_step, program_part_step, program_part_steps}
 use Rattle.cp_check.specs.Statements.{statements}
 use Rattle.cp_check.specs.Faults.{declarations, program_context}
-use Rattle.cp_lawful.specs.Accepted.{IsAccepted}
+use Rattle.cp_meaning_laws.specs.Accepted.{IsAccepted}
 use Rattle.cp_meaning.specs.Names.{Name}
 use Rattle.cp_meaning.specs.Scopes.{find}
 use Rattle.cp_meaning.specs.Systems.{system_of}

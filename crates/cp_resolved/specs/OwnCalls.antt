@@ -4,7 +4,7 @@ use Rattle.cp_tree.specs.Read.{IsRead}
 use Rattle.cp_tree.specs.Syntax.{Tree}
 use Rattle.cp_layout.specs.Laid.{plain, laid}
 use Rattle.cp_slots.specs.Tables.{Tables, item_at}
-use Rattle.cp_lawful.specs.Accepted.{IsAccepted}
+use Rattle.cp_meaning_laws.specs.Accepted.{IsAccepted}
 use Rattle.cp_resolved.specs.Soundness.{IsOwnCall}
 
 -- The premise `calls` of `NamesHold`, by rule C10. No routine is called as that of invariants is, since it was read.

@@ -1,7 +1,7 @@
 -- What holds of each program that was read and breaks no rule.
 use Rattle.cp_tree.specs.Read.{IsRead}
 use Rattle.cp_tree.specs.Syntax.{Tree}
-use Rattle.cp_lawful.specs.Accepted.{IsAccepted}
+use Rattle.cp_meaning_laws.specs.Accepted.{IsAccepted}
 use Rattle.cp_resolved.specs.Names.{IsPlain, NamesAre}
 
 abbrev pub PlainLaw : Type 0

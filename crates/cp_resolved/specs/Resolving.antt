@@ -5,7 +5,7 @@ use Rattle.cp_tree.specs.Syntax.{Tree}
 use Rattle.cp_slots.specs.Fits.{IsSound}
 use Rattle.cp_layout.specs.Laid.{plain, laid}
 use Rattle.cp_slots.specs.Tables.{Tables}
-use Rattle.cp_lawful.specs.Accepted.{IsAccepted}
+use Rattle.cp_meaning_laws.specs.Accepted.{IsAccepted}
 use Rattle.cp_resolved.specs.BodiesStand.{ground_of}
 use Rattle.cp_resolved.specs.Enumerations.{constants_before}
 use Rattle.cp_resolved.specs.Resolved.{Stands, IsResolved}

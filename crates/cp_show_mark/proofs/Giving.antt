@@ -8,11 +8,11 @@ use Rattle.std.specs.Str.{encode_utf8_all}
 use Rattle.cp_tree.specs.Read.{IsRead}
 use Rattle.cp_tree.specs.Syntax.{Tree}
 use Rattle.cp_slots.specs.Tables.{Tables}
-use Rattle.cp_lawful.specs.Accepted.{IsAccepted}
+use Rattle.cp_meaning_laws.specs.Accepted.{IsAccepted}
 use Rattle.cp_resolved.proofs.Resolving.{read_names}
 use Rattle.cp_resolved.specs.Enumerations.{constant_names}
 use Rattle.cp_resolved.specs.Resolving.{IsProgramOf}
-use Rattle.cp_refine.specs.Named.{named_discipline}
+use Rattle.cp_machine_laws.specs.Named.{named_discipline}
 use Rattle.cp_tool.specs.declared.options.Options.{Options}
 use Rattle.cp_legend.specs.Names.{Named}
 use Rattle.cp_walk.specs.Text.{Spellings}

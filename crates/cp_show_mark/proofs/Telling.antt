@@ -3,7 +3,7 @@ use Rattle.std.proofs.Common.{◌≡◌, ◌∙◌, ℕ, Bool, true, false, List
 use Rattle.cp_slots.specs.Tables.{Tables}
 use Rattle.cp_machine.specs.declared.discipline.Discipline.{Discipline}
 use Rattle.cp_tree.specs.Syntax.{Tree}
-use Rattle.cp_refine.specs.Named.{named, named_discipline}
+use Rattle.cp_machine_laws.specs.Named.{named, named_discipline}
 use Rattle.cp_run.specs.Slots.{slots}
 use Rattle.cp_run.specs.Table.{table}
 use Rattle.cp_run.specs.declared.limits.Limits.{Limits}

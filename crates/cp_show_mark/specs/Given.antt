@@ -7,7 +7,7 @@ use Rattle.cp_resolved.specs.Enumerations.{constant_names}
 use Rattle.cp_machine.specs.declared.discipline.Discipline.{Discipline}
 use Rattle.cp_run.specs.Slots.{slots}
 use Rattle.cp_run.specs.Table.{table}
-use Rattle.cp_refine.specs.Named.{named, named_discipline}
+use Rattle.cp_machine_laws.specs.Named.{named, named_discipline}
 use Rattle.cp_tool.specs.declared.options.Options.{Options}
 use Rattle.cp_legend.specs.Names.{Named}
 use Rattle.cp_verdict.specs.Comments.{AreHeld, and_text, comments_of}

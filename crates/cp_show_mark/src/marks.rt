@@ -1,10 +1,10 @@
 //! The mark of a program, as an answer.
 
 ghost use Rattle.std.specs.Prelude.{◌≡◌, IfOk, List, Some, ℕ, false, map, option_map, string_bytes};
-ghost use Rattle.cp_lawful.specs.Accepted.{IsAccepted};
+ghost use Rattle.cp_meaning_laws.specs.Accepted.{IsAccepted};
 ghost use Rattle.cp_legend.specs.Names.{component_seen};
 ghost use Rattle.cp_merged.specs.Code.{tally_of};
-ghost use Rattle.cp_refine.specs.Named.{named, named_discipline};
+ghost use Rattle.cp_machine_laws.specs.Named.{named, named_discipline};
 ghost use Rattle.cp_resolved.specs.Enumerations.{constant_names};
 ghost use Rattle.cp_resolved.specs.Resolving.{IsProgramOf};
 ghost use Rattle.cp_run.specs.Slots.{slots};

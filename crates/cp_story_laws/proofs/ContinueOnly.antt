@@ -34,8 +34,8 @@ use Rattle.cp_machine.specs.Step.{act, step_at, take_top}
 use Rattle.cp_meaning.specs.State as named
 use Rattle.cp_meaning.specs.State.{CallKind, own_statement, initial_statement, local_routine, entry_routine, current}
 use Rattle.cp_resolved.specs.Layouts.{Layouts}
-use Rattle.cp_refine.specs.Law.{ground_of}
-use Rattle.cp_refine.specs.Represents.{StackIs, monitor_left}
+use Rattle.cp_machine_laws.specs.Law.{ground_of}
+use Rattle.cp_machine_laws.specs.Represents.{StackIs, monitor_left}
 use Rattle.cp_story.specs.Aimed.{is_continue}
 
 abbrev is_continued : Event → Bool

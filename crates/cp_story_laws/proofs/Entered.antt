@@ -22,17 +22,17 @@ use Rattle.cp_meaning.specs.State as named
 use Rattle.cp_meaning.specs.State.{CallKind, entry_routine, initial_statement, own_statement, Call, current, Item, Discipline, State, Status, unstarted, ready, at_gate, delayed, ended, Process, book_discipline}
 use Rattle.cp_meaning.specs.Steps.{opening, first_components}
 use Rattle.cp_meaning.proofs.LocalLaw.{within}
-use Rattle.cp_lawful.specs.Accepted.{IsAccepted}
+use Rattle.cp_meaning_laws.specs.Accepted.{IsAccepted}
 use Rattle.cp_resolved.specs.Layouts.{Layouts}
 use Rattle.cp_resolved.specs.Resolved.{KindIs, Stands}
-use Rattle.cp_refine.specs.Kinds.{SameKind}
-use Rattle.cp_refine.specs.Law.{Simulates, ground_of}
-use Rattle.cp_refine.specs.Represents as slots
-use Rattle.cp_refine.specs.Represents.{CallsHold, Runs, StackIs, StatusIs, own_memory}
-use Rattle.cp_refine.proofs.HoldsInReached.{HoldsInReached, reached_stands}
-use Rattle.cp_refine.proofs.ReachedKinds.{kinds_agree, monitor_there, monitor_known}
-use Rattle.cp_refine.proofs.control.Control.{call_scope, top_frame}
-use Rattle.cp_refine.proofs.gates.MonitorNumbers.{one_number}
+use Rattle.cp_machine_laws.specs.Kinds.{SameKind}
+use Rattle.cp_machine_laws.specs.Law.{Simulates, ground_of}
+use Rattle.cp_machine_laws.specs.Represents as slots
+use Rattle.cp_machine_laws.specs.Represents.{CallsHold, Runs, StackIs, StatusIs, own_memory}
+use Rattle.cp_machine_laws.proofs.HoldsInReached.{HoldsInReached, reached_stands}
+use Rattle.cp_machine_laws.proofs.ReachedKinds.{kinds_agree, monitor_there, monitor_known}
+use Rattle.cp_machine_laws.proofs.control.Control.{call_scope, top_frame}
+use Rattle.cp_machine_laws.proofs.gates.MonitorNumbers.{one_number}
 use Rattle.cp_story.specs.Story as story
 use Rattle.cp_story_laws.specs.Events.{EntryCall, call_begun}
 use Rattle.cp_story_laws.specs.MonitorNumbers.{monitor_of}

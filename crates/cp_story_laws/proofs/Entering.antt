@@ -18,7 +18,7 @@ use Rattle.cp_meaning.specs.State.{Environment, Component, component_at, CallKin
 use Rattle.cp_meaning.specs.Steps.{step_of, settled, view_of}
 use Rattle.cp_meaning.specs.Systems.{SystemMeaning, system_of}
 use Rattle.cp_meaning.proofs.Taken.{AllOf, whatever, if_all, Rules, takes_all}
-use Rattle.cp_refine.specs.Named.{event_of}
+use Rattle.cp_machine_laws.specs.Named.{event_of}
 
 -- ---- what an item does
 

@@ -7,7 +7,7 @@ use Rattle.cp_tree.specs.Read.{IsRead}
 use Rattle.cp_tree.specs.Syntax.{Tree}
 use Rattle.cp_layout.specs.Laid.{plain, laid}
 use Rattle.cp_slots.specs.Tables.{Tables}
-use Rattle.cp_lawful.specs.Accepted.{IsAccepted}
+use Rattle.cp_meaning_laws.specs.Accepted.{IsAccepted}
 use Rattle.cp_legend.specs.Names.{Legend, RoutineNames}
 use Rattle.cp_legend_laws.specs.Called.{called_in_legend, tabled}
 use Rattle.cp_legend_laws.specs.Paths.{called_in_language}
@@ -37,12 +37,12 @@ use Rattle.cp_run.specs.Trace.{holders_in}
 use Rattle.cp_run.proofs.Choosing.{those_same}
 use Rattle.cp_resolved.specs.Openings.{openings_of}
 use Rattle.cp_resolved.specs.TreeLayouts.{layouts_of}
-use Rattle.cp_refine.specs.InStep.{CanGo, CanEnter, GoInStep, LooksAlike}
-use Rattle.cp_refine.specs.Named.{named, named_discipline, named_signals, is_some}
-use Rattle.cp_refine.specs.Prepared.{Prepared}
-use Rattle.cp_refine.proofs.Disciplines.{discipline_back}
-use Rattle.cp_refine.proofs.Alike.{holders_same, may_same}
-use Rattle.cp_refine.proofs.HoldsInReached.{reached_stands}
+use Rattle.cp_machine_laws.specs.InStep.{CanGo, CanEnter, GoInStep, LooksAlike}
+use Rattle.cp_machine_laws.specs.Named.{named, named_discipline, named_signals, is_some}
+use Rattle.cp_machine_laws.specs.Prepared.{Prepared}
+use Rattle.cp_machine_laws.proofs.Disciplines.{discipline_back}
+use Rattle.cp_machine_laws.proofs.Alike.{holders_same, may_same}
+use Rattle.cp_machine_laws.proofs.HoldsInReached.{reached_stands}
 use Rattle.cp_story.specs.Aimed.{aim_in, no_aim}
 use Rattle.cp_story.specs.Changes.{changes_in}
 use Rattle.cp_story.specs.Passed.{Given, arguments, given_back}

@@ -5,9 +5,9 @@ use Rattle.cp_run.specs.declared.outcome.Turn.{Turn}
 use Rattle.cp_run.specs.declared.outcome.Turn.TheVariants.{Over, Due, Goes}
 use Rattle.cp_run.specs.Run.{Node, Halted, Choosing, node_at, turn_at, turn_after, settled_turn, stretch, opened, may, chosen}
 use Rattle.cp_run.specs.System.{System}
-use Rattle.cp_refine.specs.InStep.{CanGo, CanEnter, GoInStep}
-use Rattle.cp_refine.proofs.Alike.{NodesAlike, goes_on, goes_same, opening_goes, may_same, may_go, may_enter, admitted_same, admitted_goes}
-use Rattle.cp_refine.proofs.Turns.{turn_same}
+use Rattle.cp_machine_laws.specs.InStep.{CanGo, CanEnter, GoInStep}
+use Rattle.cp_machine_laws.proofs.Alike.{NodesAlike, goes_on, goes_same, opening_goes, may_same, may_go, may_enter, admitted_same, admitted_goes}
+use Rattle.cp_machine_laws.proofs.Turns.{turn_same}
 use Rattle.cp_run.specs.Fold.{Fold, fold_run, fold_turn, fold_stretch, fold_opened, fold_chosen, fold_from}
 use Rattle.cp_run.specs.Stop.{last_state, last_state_from}
 

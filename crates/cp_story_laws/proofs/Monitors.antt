@@ -9,7 +9,7 @@ use Rattle.cp_layout.specs.Laid.{plain, laid}
 use Rattle.cp_slots.specs.declared.tables.ComponentKind.{ComponentKind}
 use Rattle.cp_slots.specs.declared.tables.ComponentKind.TheVariants as kind
 use Rattle.cp_slots.specs.Tables.{Tables, component_at}
-use Rattle.cp_lawful.specs.Accepted.{IsAccepted}
+use Rattle.cp_meaning_laws.specs.Accepted.{IsAccepted}
 use Rattle.cp_machine.specs.declared.discipline.Discipline as slot_gates
 use Rattle.cp_meaning.specs.Components.{components_of}
 use Rattle.cp_meaning.specs.Readings.{monitors_of, monitors_from}
@@ -23,10 +23,10 @@ use Rattle.cp_legend_laws.proofs.PathsOfTree.{legend_law}
 use Rattle.cp_resolved.specs.Layouts.{Layouts}
 use Rattle.cp_resolved.specs.Resolved.{KindIs, Stands}
 use Rattle.cp_resolved.specs.TreeLayouts.{layouts_of}
-use Rattle.cp_refine.specs.Law.{ground_of}
-use Rattle.cp_refine.specs.Named.{named_discipline}
-use Rattle.cp_refine.proofs.ReachedKinds.{monitor_known}
-use Rattle.cp_refine.proofs.gates.MonitorNumbers.{IsAMonitor, is_a_monitor, one_number}
+use Rattle.cp_machine_laws.specs.Law.{ground_of}
+use Rattle.cp_machine_laws.specs.Named.{named_discipline}
+use Rattle.cp_machine_laws.proofs.ReachedKinds.{monitor_known}
+use Rattle.cp_machine_laws.proofs.gates.MonitorNumbers.{IsAMonitor, is_a_monitor, one_number}
 use Rattle.cp_story_laws.specs.Statements.{MonitorsAre, MonitorsLaw}
 use Rattle.cp_story_laws.proofs.Paths.{monitor_path}
 use Rattle.cp_story_laws.proofs.Together.{prepared}

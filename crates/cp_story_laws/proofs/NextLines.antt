@@ -13,10 +13,10 @@ use Rattle.cp_meaning.specs.State as named
 use Rattle.cp_meaning.specs.Steps.{at_statement, at_item}
 use Rattle.cp_resolved.specs.Layouts.{Layouts, Here, here}
 use Rattle.cp_resolved.specs.Stands.{Ground, Own, Performed, InvokedBy, first_of}
-use Rattle.cp_refine.specs.Law.{ground_of}
-use Rattle.cp_refine.specs.Remaining.{ItemIs}
-use Rattle.cp_refine.specs.Represents.{StackIs}
-use Rattle.cp_refine.proofs.steps.Going.{Going, takes_one}
+use Rattle.cp_machine_laws.specs.Law.{ground_of}
+use Rattle.cp_machine_laws.specs.Remaining.{ItemIs}
+use Rattle.cp_machine_laws.specs.Represents.{StackIs}
+use Rattle.cp_machine_laws.proofs.steps.Going.{Going, takes_one}
 use Rattle.cp_story.specs.Aimed.{aim_in, aim_of_top}
 use Rattle.cp_story_laws.specs.Lines.{line_of_item, first_line, next_line}
 

@@ -12,8 +12,8 @@ use Rattle.cp_slots.specs.declared.tables.ComponentKind.{ComponentKind}
 use Rattle.cp_slots.specs.declared.tables.ComponentKind.TheVariants as kind
 use Rattle.cp_slots.specs.Tables.{Tables}
 use Rattle.cp_slots.specs.Tables as tables
-use Rattle.cp_lawful.specs.Accepted.{IsAccepted}
-use Rattle.cp_lawful.proofs.Accepting.{well_formed}
+use Rattle.cp_meaning_laws.specs.Accepted.{IsAccepted}
+use Rattle.cp_meaning_laws.proofs.Accepting.{well_formed}
 use Rattle.cp_machine.specs.declared.event.Event as slot_event
 use Rattle.cp_machine.specs.declared.event.Event.TheVariants as slot
 use Rattle.cp_machine.specs.declared.event.Kernel.TheVariants.{Enter, Leave, Continue}
@@ -31,14 +31,14 @@ use Rattle.cp_run.specs.declared.line.TraceEvent.TheVariants.{Admit}
 use Rattle.cp_run.specs.Slots.{slots}
 use Rattle.cp_run.specs.System.{System}
 use Rattle.cp_resolved.specs.TreeLayouts.{layouts_of}
-use Rattle.cp_refine.specs.InStep.{CanGo, CanEnter, GoInStep}
-use Rattle.cp_refine.specs.Kinds.{SameKind}
-use Rattle.cp_refine.specs.Law.{ground_of}
-use Rattle.cp_refine.specs.Named.{event_of, named, named_discipline, signals_of}
-use Rattle.cp_refine.specs.Represents.{StatusIs}
-use Rattle.cp_refine.proofs.HoldsInReached.{HoldsInReached, reached_stands}
-use Rattle.cp_refine.proofs.ReachedKinds.{kinds_agree, monitor_there}
-use Rattle.cp_refine.proofs.steps.Going.{Going}
+use Rattle.cp_machine_laws.specs.InStep.{CanGo, CanEnter, GoInStep}
+use Rattle.cp_machine_laws.specs.Kinds.{SameKind}
+use Rattle.cp_machine_laws.specs.Law.{ground_of}
+use Rattle.cp_machine_laws.specs.Named.{event_of, named, named_discipline, signals_of}
+use Rattle.cp_machine_laws.specs.Represents.{StatusIs}
+use Rattle.cp_machine_laws.proofs.HoldsInReached.{HoldsInReached, reached_stands}
+use Rattle.cp_machine_laws.proofs.ReachedKinds.{kinds_agree, monitor_there}
+use Rattle.cp_machine_laws.proofs.steps.Going.{Going}
 use Rattle.cp_run.specs.Fold.{Fold}
 use Rattle.cp_run.specs.Stop.{last_state}
 use Rattle.cp_story.specs.Story.{NamedQueue}

@@ -19,8 +19,8 @@ use Rattle.cp_legend_laws.specs.Called.{Called, called_in_legend, tabled}
 use Rattle.cp_legend_laws.specs.Paths.{called_in_language, path_text}
 use Rattle.cp_resolved.specs.Layouts.{Layouts}
 use Rattle.cp_resolved.specs.Resolved.{Stands}
-use Rattle.cp_refine.specs.Law.{ground_of}
-use Rattle.cp_refine.proofs.ReachedKinds.{kind_within, monitor_there, own_numbers, process_component}
+use Rattle.cp_machine_laws.specs.Law.{ground_of}
+use Rattle.cp_machine_laws.proofs.ReachedKinds.{kind_within, monitor_there, own_numbers, process_component}
 use Rattle.cp_story_laws.proofs.Lists.{find_only}
 
 abbrev no_name : Named

@@ -17,16 +17,16 @@ use Rattle.cp_meaning.specs.State as named
 use Rattle.cp_meaning.specs.State.{Discipline, State, Status, unstarted, ready, at_gate, delayed, ended, Process, Place, Holder, in_component}
 use Rattle.cp_meaning.specs.Steps.{view_of}
 use Rattle.cp_meaning.specs.Types.{queue_type}
-use Rattle.cp_lawful.specs.Accepted.{IsAccepted}
+use Rattle.cp_meaning_laws.specs.Accepted.{IsAccepted}
 use Rattle.cp_legend.specs.Names.{Legend}
 use Rattle.cp_legend_laws.specs.Called.{called_in_legend, tabled}
 use Rattle.cp_legend_laws.specs.Paths.{called_in_language, path_text}
 use Rattle.cp_resolved.specs.Layouts.{Layouts, cells_of}
-use Rattle.cp_refine.specs.Law.{Simulates, ground_of}
-use Rattle.cp_refine.specs.Prepared.{Prepared}
-use Rattle.cp_refine.specs.Represents.{BeginsAt, InComponent, PlaceAt, StatusIs, further}
-use Rattle.cp_refine.proofs.HoldsInReached.{HoldsInReached, reached_stands}
-use Rattle.cp_refine.proofs.assignments.Overlaps.{part_ends}
+use Rattle.cp_machine_laws.specs.Law.{Simulates, ground_of}
+use Rattle.cp_machine_laws.specs.Prepared.{Prepared}
+use Rattle.cp_machine_laws.specs.Represents.{BeginsAt, InComponent, PlaceAt, StatusIs, further}
+use Rattle.cp_machine_laws.proofs.HoldsInReached.{HoldsInReached, reached_stands}
+use Rattle.cp_machine_laws.proofs.assignments.Overlaps.{part_ends}
 use Rattle.cp_story.specs.Story.{statuses_in}
 use Rattle.cp_story_laws.specs.Standings.{at_gate_of, in_queue_of, standing_of, standings}
 use Rattle.cp_story_laws.specs.Statements.{standing_told}

@@ -7,7 +7,7 @@ use Rattle.cp_tree.specs.Syntax.{Tree}
 use Rattle.cp_layout.specs.Laid.{plain, laid}
 use Rattle.cp_slots.specs.Tables as slot_tables
 use Rattle.cp_slots.specs.Tables.{Tables}
-use Rattle.cp_lawful.specs.Accepted.{IsAccepted}
+use Rattle.cp_meaning_laws.specs.Accepted.{IsAccepted}
 use Rattle.cp_legend.specs.Names.{Legend, RoutineNames, monitor_in, path_in}
 use Rattle.cp_legend_laws.specs.Called.{called_in_legend, tabled}
 use Rattle.cp_legend_laws.specs.Paths.{called_in_language, path_text}
@@ -32,13 +32,13 @@ use Rattle.cp_run.specs.System.{System}
 use Rattle.cp_resolved.specs.Openings.{openings_of}
 use Rattle.cp_resolved.specs.Small.{Each}
 use Rattle.cp_resolved.specs.TreeLayouts.{layouts_of}
-use Rattle.cp_refine.specs.Law.{ground_of}
-use Rattle.cp_refine.specs.Named.{named, named_discipline}
-use Rattle.cp_refine.specs.Prepared.{Prepared}
-use Rattle.cp_refine.proofs.Alike.{run_same}
-use Rattle.cp_refine.proofs.HoldsInReached.{HoldsInReached, reached_stands}
-use Rattle.cp_refine.proofs.control.Moving.{delayed_process}
-use Rattle.cp_refine.proofs.steps.Executed.{variables_of_components}
+use Rattle.cp_machine_laws.specs.Law.{ground_of}
+use Rattle.cp_machine_laws.specs.Named.{named, named_discipline}
+use Rattle.cp_machine_laws.specs.Prepared.{Prepared}
+use Rattle.cp_machine_laws.proofs.Alike.{run_same}
+use Rattle.cp_machine_laws.proofs.HoldsInReached.{HoldsInReached, reached_stands}
+use Rattle.cp_machine_laws.proofs.control.Moving.{delayed_process}
+use Rattle.cp_machine_laws.proofs.steps.Executed.{variables_of_components}
 use Rattle.cp_store.specs.declared.error.ErrorName.{ErrorName}
 use Rattle.cp_store.specs.declared.error.ErrorName.TheVariants.{QueueInUse}
 use Rattle.cp_story.specs.Halted.{Halted, error_text, first_in_cell, halted_after, halted_as, halted_at, halted_by, in_use_text, is_in_cell, process_of, waiting_at_error, waiting_in_cell}

@@ -7,7 +7,7 @@ use Rattle.cp_symbols.specs.declared.symbols.Symbols.{Symbols}
 use Rattle.cp_layout.specs.Laid.{plain, laid, whole}
 use Rattle.cp_layout.specs.Symbols.{AreSymbolsOf}
 use Rattle.cp_slots.specs.Tables.{Tables}
-use Rattle.cp_lawful.specs.Accepted.{IsAccepted}
+use Rattle.cp_meaning_laws.specs.Accepted.{IsAccepted}
 use Rattle.cp_legend.specs.declared.legend.Legend as code_legend
 use Rattle.cp_legend.specs.Names.{IsLegendOf, Legend, RoutineNames, legend_seen, source_seen}
 use Rattle.cp_legend_laws.specs.Called.{called_in_legend, tabled}
@@ -25,7 +25,7 @@ use Rattle.cp_machine.specs.Machine.{Machine}
 use Rattle.cp_meaning.specs.Components.{components_of}
 use Rattle.cp_meaning.specs.State.{Component, Place, State}
 use Rattle.cp_meaning.specs.Steps.{view_of}
-use Rattle.cp_refine.specs.Named.{named_discipline}
+use Rattle.cp_machine_laws.specs.Named.{named_discipline}
 use Rattle.cp_story.specs.Aimed.{aim_in}
 use Rattle.cp_story.specs.Story.{queue_told}
 use Rattle.cp_story_laws.specs.Aims.{queue_named, queue_place}

@@ -4,22 +4,22 @@ use Rattle.cp_tree.specs.Read.{IsRead}
 use Rattle.cp_tree.specs.Syntax.{Tree}
 use Rattle.cp_layout.specs.Laid.{plain, laid}
 use Rattle.cp_slots.specs.Tables.{Tables}
-use Rattle.cp_lawful.specs.Accepted.{IsAccepted}
+use Rattle.cp_meaning_laws.specs.Accepted.{IsAccepted}
 use Rattle.cp_machine.specs.declared.discipline.Discipline as slot_gates
 use Rattle.cp_machine.specs.Machine.{Machine}
 use Rattle.cp_meaning.specs.State.{State}
 use Rattle.cp_run.specs.Slots.{slots}
 use Rattle.cp_resolved.specs.Resolving.{AreTablesOf}
 use Rattle.cp_resolved.specs.TreeLayouts.{layouts_of}
-use Rattle.cp_refine.specs.AllKnown.{AllKnown}
-use Rattle.cp_refine.specs.InStep.{CanGo, GoInStep}
-use Rattle.cp_refine.specs.Law.{Simulates, ground_of}
-use Rattle.cp_refine.specs.Named.{named, named_discipline}
-use Rattle.cp_refine.specs.Prepared.{Prepared}
-use Rattle.cp_refine.proofs.Disciplines.{same_discipline}
-use Rattle.cp_refine.proofs.Meaning.{goes_in_step, it, known}
-use Rattle.cp_refine.proofs.steps.Going.{Going}
-use Rattle.cp_refine.proofs.steps.GoingInStep.{goes_now}
+use Rattle.cp_machine_laws.specs.AllKnown.{AllKnown}
+use Rattle.cp_machine_laws.specs.InStep.{CanGo, GoInStep}
+use Rattle.cp_machine_laws.specs.Law.{Simulates, ground_of}
+use Rattle.cp_machine_laws.specs.Named.{named, named_discipline}
+use Rattle.cp_machine_laws.specs.Prepared.{Prepared}
+use Rattle.cp_machine_laws.proofs.Disciplines.{same_discipline}
+use Rattle.cp_machine_laws.proofs.Meaning.{goes_in_step, it, known}
+use Rattle.cp_machine_laws.proofs.steps.Going.{Going}
+use Rattle.cp_machine_laws.proofs.steps.GoingInStep.{goes_now}
 
 module _ (t : Tree) (r : Tables) (g : slot_gates.Discipline) (read : IsRead t.program) (ok : IsAccepted t) (same : plain r ≡ laid t) where
   abbrev pub Related : State → Machine → Type 0

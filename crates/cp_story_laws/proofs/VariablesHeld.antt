@@ -9,7 +9,7 @@ use Rattle.cp_layout.specs.Laid.{plain, laid}
 use Rattle.cp_slots.specs.declared.tables.Component.{Component}
 use Rattle.cp_slots.specs.Tables.{Tables, component_at, no_component}
 use Rattle.cp_symbols.specs.Kinds.{most}
-use Rattle.cp_lawful.specs.Accepted.{IsAccepted}
+use Rattle.cp_meaning_laws.specs.Accepted.{IsAccepted}
 use Rattle.cp_legend.specs.Names as legend
 use Rattle.cp_legend.specs.Names.{Legend, Named, legend_seen}
 use Rattle.cp_legend.specs.Places.{variables_at}
@@ -37,10 +37,10 @@ use Rattle.cp_resolved.proofs.components.ListedSystems.{systems_within}
 use Rattle.cp_resolved.proofs.counts.FewComponents.{accepted_few}
 use Rattle.cp_resolved.proofs.declarations.SystemVariables.{accepted_permanents}
 use Rattle.cp_resolved.proofs.systems.SystemKnown.{found_among}
-use Rattle.cp_refine.specs.Law.{ground_of}
-use Rattle.cp_refine.specs.Named.{named, named_discipline}
-use Rattle.cp_refine.specs.Represents.{ComponentIs, LiesAt, all_permanents}
-use Rattle.cp_refine.proofs.expressions.Parts.{encode_length}
+use Rattle.cp_machine_laws.specs.Law.{ground_of}
+use Rattle.cp_machine_laws.specs.Named.{named, named_discipline}
+use Rattle.cp_machine_laws.specs.Represents.{ComponentIs, LiesAt, all_permanents}
+use Rattle.cp_machine_laws.proofs.expressions.Parts.{encode_length}
 use Rattle.cp_run.specs.Slots.{slots}
 use Rattle.cp_run.specs.Stop.{last_state}
 use Rattle.cp_store.specs.declared.memory.Address.TheVariants.{Permanent}

@@ -7,7 +7,7 @@ use Rattle.cp_tree.specs.Read.{IsRead}
 use Rattle.cp_tree.specs.Syntax.{Program, Tree}
 use Rattle.cp_layout.specs.Laid.{plain, laid}
 use Rattle.cp_slots.specs.Tables.{Tables}
-use Rattle.cp_lawful.specs.Accepted.{IsAccepted}
+use Rattle.cp_meaning_laws.specs.Accepted.{IsAccepted}
 use Rattle.cp_legend.specs.Names.{Legend, RoutineNames}
 use Rattle.cp_legend_laws.specs.Called.{called_in_legend, tabled}
 use Rattle.cp_legend_laws.specs.Paths.{called_in_language}
@@ -26,7 +26,7 @@ use Rattle.cp_run.specs.System.{System}
 use Rattle.cp_run.proofs.Choosing.{those_same}
 use Rattle.cp_resolved.specs.Openings.{openings_of}
 use Rattle.cp_resolved.specs.TreeLayouts.{layouts_of}
-use Rattle.cp_refine.specs.Named.{named, named_discipline}
+use Rattle.cp_machine_laws.specs.Named.{named, named_discipline}
 use Rattle.cp_run.specs.Stop.{last_state}
 use Rattle.cp_story.specs.Story.{calls_of, telling}
 use Rattle.cp_story.specs.Waiting as story

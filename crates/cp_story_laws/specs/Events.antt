@@ -17,7 +17,7 @@ use Rattle.cp_meaning.specs.Places.{View}
 use Rattle.cp_meaning.specs.State.{Call, Component, current, process_at, Discipline, Signals, return_signals, Place, State}
 use Rattle.cp_meaning.specs.Steps.{opening, view_of}
 use Rattle.cp_legend.specs.Values.{Value}
-use Rattle.cp_refine.specs.Named.{named, is_some}
+use Rattle.cp_machine_laws.specs.Named.{named, is_some}
 use Rattle.cp_resolved.specs.Openings.{openings_of}
 use Rattle.cp_run.specs.Fold.{Fold, fold_run}
 use Rattle.cp_story.specs.Changes.{Changed}

@@ -6,7 +6,7 @@ use Rattle.cp_symbols.specs.declared.symbols.Symbols.{Symbols}
 use Rattle.cp_layout.specs.Laid.{plain, laid, whole}
 use Rattle.cp_layout.specs.Symbols.{AreSymbolsOf}
 use Rattle.cp_slots.specs.Tables.{Tables}
-use Rattle.cp_lawful.specs.Accepted.{IsAccepted}
+use Rattle.cp_meaning_laws.specs.Accepted.{IsAccepted}
 use Rattle.cp_legend.specs.declared.legend.Legend as code_legend
 use Rattle.cp_legend.specs.Names.{Legend, Named, IsLegendOf, legend_seen, monitor_in, name_of_routine, path_in, source_seen}
 use Rattle.cp_legend.specs.Places.{owner, variables_at}
@@ -22,7 +22,7 @@ use Rattle.cp_run.specs.declared.line.TraceEvent.TheVariants.{Kernel, End, Admit
 use Rattle.cp_meaning.specs.Names.{Name}
 use Rattle.cp_meaning.specs.State as meaning
 use Rattle.cp_meaning.specs.Steps.{opening}
-use Rattle.cp_refine.specs.Named.{monitor_number, named, named_discipline, named_signals}
+use Rattle.cp_machine_laws.specs.Named.{monitor_number, named, named_discipline, named_signals}
 use Rattle.cp_resolved.specs.TreeLayouts.{layouts_of}
 use Rattle.cp_run.specs.Slots.{slots}
 use Rattle.cp_run.specs.Stop.{last_state}

@@ -11,7 +11,7 @@ use Rattle.cp_meaning.specs.Places.{View, value_at}
 use Rattle.cp_meaning.specs.State.{Discipline, Place, State, process_at}
 use Rattle.cp_meaning.specs.Steps.{view_of}
 use Rattle.cp_meaning.specs.Values.{waiting_in}
-use Rattle.cp_refine.specs.Named.{named}
+use Rattle.cp_machine_laws.specs.Named.{named}
 use Rattle.cp_story.specs.Halted.{Halted, error_text}
 use Rattle.cp_story_laws.specs.Aims.{component_of}
 use Rattle.cp_story_laws.specs.Events.{LastStep, names_telling}

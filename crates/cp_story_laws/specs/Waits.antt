@@ -4,7 +4,7 @@ use Rattle.cp_tree.specs.Syntax.{Tree}
 use Rattle.cp_run.specs.Run.{those_below}
 use Rattle.cp_meaning.specs.Readings.{is_waiting}
 use Rattle.cp_meaning.specs.State.{process_at, Discipline, State}
-use Rattle.cp_refine.specs.Named.{named}
+use Rattle.cp_machine_laws.specs.Named.{named}
 use Rattle.cp_run.specs.Stop.{last_state}
 use Rattle.cp_story_laws.specs.Events.{EntryCall, stack_of, names_telling}
 use Rattle.cp_story_laws.specs.Standings.{Standing, standing_of}

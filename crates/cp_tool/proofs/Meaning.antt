@@ -5,7 +5,7 @@ use Rattle.arrayvec.specs.ArrayVec.{ArrayVec}
 use Rattle.cp_tree.specs.Read.{IsRead}
 use Rattle.cp_tree.specs.Syntax.{Tree}
 use Rattle.cp_slots.specs.Tables.{Tables}
-use Rattle.cp_lawful.specs.Accepted.{IsAccepted}
+use Rattle.cp_meaning_laws.specs.Accepted.{IsAccepted}
 use Rattle.cp_meaning.specs.State.{State}
 use Rattle.cp_resolved.specs.Enumerations.{constant_names}
 use Rattle.cp_resolved.specs.Resolving.{IsProgramOf}
@@ -14,10 +14,10 @@ use Rattle.cp_run.specs.System.{System}
 use Rattle.cp_run.specs.Table.{Line, table}
 use Rattle.cp_run.specs.Trace.{trace}
 use Rattle.cp_run.specs.declared.line.TraceLine.{TraceLine}
-use Rattle.cp_refine.specs.Law.{SameRuns}
-use Rattle.cp_refine.specs.Named.{named, named_discipline}
-use Rattle.cp_lawful.proofs.Accepting.{keeps_exclusion}
-use Rattle.cp_refine.proofs.Meaning.{runs_as_meant}
+use Rattle.cp_machine_laws.specs.Law.{SameRuns}
+use Rattle.cp_machine_laws.specs.Named.{named, named_discipline}
+use Rattle.cp_meaning_laws.proofs.Accepting.{keeps_exclusion}
+use Rattle.cp_machine_laws.proofs.Meaning.{runs_as_meant}
 use Rattle.cp_resolved.proofs.Resolving.{read_names}
 use Rattle.cp_walk.specs.Text.{Spellings}
 use Rattle.cp_walk.specs.TraceText.{trace_text}

@@ -9,8 +9,8 @@ use Rattle.cp_run.specs.System.{System}
 use Rattle.cp_run.specs.Run.{run}
 use Rattle.cp_run.specs.Table.{Line, table}
 use Rattle.cp_run.specs.Trace.{trace}
-use Rattle.cp_lawful.specs.Accepted.{KeepsExclusion}
-use Rattle.cp_refine.specs.Named.{named, named_discipline}
+use Rattle.cp_meaning_laws.specs.Accepted.{KeepsExclusion}
+use Rattle.cp_machine_laws.specs.Named.{named, named_discipline}
 use Rattle.cp_walk.specs.Text.{Spellings}
 use Rattle.cp_walk.specs.Report.{report_text}
 use Rattle.cp_walk.specs.TraceText.{trace_text}

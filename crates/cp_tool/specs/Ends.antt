@@ -7,9 +7,9 @@ use Rattle.cp_slots.specs.Tables.{Tables}
 use Rattle.cp_resolved.specs.Enumerations.{constant_names}
 use Rattle.cp_resolved.specs.Resolving.{IsProgramOf}
 use Rattle.cp_run.specs.Slots.{slots}
-use Rattle.cp_lawful.specs.Accepted.{KeepsExclusion}
-use Rattle.cp_refine.specs.Named.{named_discipline}
-use Rattle.cp_endless.specs.Silent.{without_output}
+use Rattle.cp_meaning_laws.specs.Accepted.{KeepsExclusion}
+use Rattle.cp_machine_laws.specs.Named.{named_discipline}
+use Rattle.cp_endless_laws.specs.Silent.{without_output}
 use Rattle.cp_ends.specs.Firsts.{those_within}
 use Rattle.cp_ends.specs.Holds.{SlotFindings}
 use Rattle.cp_ends.specs.Named.{IsAnswerOnNames, IsAnswerToOnNames}

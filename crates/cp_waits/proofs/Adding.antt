@@ -11,8 +11,8 @@ use Rattle.cp_ends.specs.declared.origin.Origin.TheVariants.{Start, Choice}
 use Rattle.cp_waits.specs.Building.{IsStillOf, AddsStill, AddsChoices, IsGraphTo}
 use Rattle.cp_waits.specs.Graphs.{IsNumber, IsChoice, AreChoices, AreEdges, IsLegFrom, LetsWait, IsStill, HasStill, IsGraphOf}
 use Rattle.cp_waits.proofs.Graphs.{may_be_those}
-use Rattle.cp_endless.proofs.Basics.{each_append}
-use Rattle.cp_endless.proofs.waiting.Example.{none_in as no_element}
+use Rattle.cp_endless_laws.proofs.Basics.{each_append}
+use Rattle.cp_endless_laws.proofs.waiting.Example.{none_in as no_element}
 use Rattle.cp_ends.proofs.Answering.{below as may_below}
 
 -- ---- standstills stay

@@ -1,11 +1,11 @@
 -- In two systems whose choices lead to states that are related, one word is a fair schedule in both, and lets the same processes wait.
 use Rattle.std.proofs.Common.{◌≡◌, ◌⊎◌, inl, inr, ⊎_elim, ◌∙◌, ◌<◌, ℕ, zero, suc, Bool, true, false, List, Some, sym, ap, subst}
 use Rattle.cp_waits.proofs.Words.{System, Node, Choosing, chosen, opened, Moment, moments, WaitsForGood}
-use Rattle.cp_refine.proofs.Alike.{NodesAlike}
-use Rattle.cp_endless.specs.Fair.{IsEndless, IsServed}
-use Rattle.cp_endless.specs.Traps.{IsStuck}
-use Rattle.cp_endless.specs.WaitsForEver.{MayWaitForEver, WaitsSometime}
-use Rattle.cp_endless.proofs.names.Together.{ChoicesAlike, after_there, any_alike, choosing_alike, each_alike, turned}
+use Rattle.cp_machine_laws.proofs.Alike.{NodesAlike}
+use Rattle.cp_endless_laws.specs.Fair.{IsEndless, IsServed}
+use Rattle.cp_endless_laws.specs.Traps.{IsStuck}
+use Rattle.cp_endless_laws.specs.WaitsForEver.{MayWaitForEver, WaitsSometime}
+use Rattle.cp_endless_laws.proofs.names.Together.{ChoicesAlike, after_there, any_alike, choosing_alike, each_alike, turned}
 use Rattle.cp_waits.specs.Named.{LingersBy, WaitsBy, followed_by}
 
 module _ {S T : Type 0} (a : System S) (b : System T) (steps : ℕ) (R : S → T → Type 0) (V : S → T → ℕ → Type 0) (h : ChoicesAlike a b steps R V) where

@@ -3,9 +3,9 @@ use Rattle.std.proofs.Common.{◌≡◌, ◌⊎◌, inl, inr, ⊎_elim, ◌∙�
 use Rattle.cp_waits.proofs.Words.{Contains, nat_lt, slice_get, System, Node, Choosing, may, chosen, IsServed, AnyOf, Moment, moments, IsClosedSet, some_same}
 use Rattle.cp_waits.proofs.Words.{place_of, Edge, Graph, PassingSets, IsChoice, IsNumber, keeps, Seen, has, IsEdge}
 use Rattle.std.proofs.lemmas.Bool.{lt-ltb, ltb-true}
-use Rattle.cp_endless.specs.Ranks.{GoesWaiting, RankForbidsWaiting, RankForbidsLingering, WaitsOrIsServed}
-use Rattle.cp_endless.specs.WaitsForEver.{MayLinger, NeverWaitsForEver, WaitsIn}
-use Rattle.cp_endless.proofs.waiting.Ranks.{no_waiting, no_linger}
+use Rattle.cp_endless_laws.specs.Ranks.{GoesWaiting, RankForbidsWaiting, RankForbidsLingering, WaitsOrIsServed}
+use Rattle.cp_endless_laws.specs.WaitsForEver.{MayLinger, NeverWaitsForEver, WaitsIn}
+use Rattle.cp_endless_laws.proofs.waiting.Ranks.{no_waiting, no_linger}
 use Rattle.cp_ends.proofs.named.Kinds.{contains_unmap}
 use Rattle.cp_waits.specs.declared.passing.Keeping.{Keeping}
 use Rattle.cp_waits.specs.declared.passing.Keeping.TheVariants.{Waiting, Inside}

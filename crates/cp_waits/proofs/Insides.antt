@@ -7,8 +7,8 @@ use Rattle.std.proofs.lemmas.List.Folds.{list_any-append}
 use Rattle.cp_machine.specs.Machine.{thread_of, thread_at}
 use Rattle.cp_machine.specs.declared.process.Entry.{Entry}
 use Rattle.cp_machine.specs.declared.process.Entry.TheVariants.{Rest, Successor, Return, InitEnd}
-use Rattle.cp_endless.specs.Silent.{has_monitor_return}
-use Rattle.cp_refine.proofs.gates.Gates.{and_false as both_none}
+use Rattle.cp_endless_laws.specs.Silent.{has_monitor_return}
+use Rattle.cp_machine_laws.proofs.gates.Gates.{and_false as both_none}
 
 abbrev pub leaves : Entry → Bool
 leaves e = has_monitor_return (e ∷ [])

@@ -3,14 +3,14 @@ use Rattle.std.proofs.Common.{◌≡◌, ◌⊎◌, inl, inr, ⊎_elim, ◌∙�
 use Rattle.cp_waits.proofs.Words.{slice_get, Each, System, Node, Halted, Choosing, may, chosen, IsServed, LeadsTo, node_after, some_same, Edge, Graph, Halt, Option, PassingSets}
 use Rattle.cp_waits.proofs.Words.{IsChoice, IsNumber, keeps, AreLasso, AreLingeringLasso, Seen, has}
 use Rattle.cp_run.specs.declared.outcome.Halt.TheVariants as halt
-use Rattle.cp_endless.specs.Lasso.{HasLasso, IsWaitingLoop, WaitsAlong}
-use Rattle.cp_endless.specs.Moments.{AnyOf, Moment, moments, moments_along, states_along}
+use Rattle.cp_endless_laws.specs.Lasso.{HasLasso, IsWaitingLoop, WaitsAlong}
+use Rattle.cp_endless_laws.specs.Moments.{AnyOf, Moment, moments, moments_along, states_along}
 use Rattle.cp_waits.specs.declared.passing.Keeping.{Keeping}
 use Rattle.cp_waits.specs.declared.passing.Keeping.TheVariants.{Waiting, Inside}
 use Rattle.cp_ends.specs.Legs.{IsHalted, choice_leg}
 use Rattle.cp_waits.specs.Legs.{ComesTo}
 use Rattle.cp_waits.specs.Walks.{IsEdge, IsWay, IsRound}
-use Rattle.cp_endless.proofs.Basics.{any_left, any_right, each_append as each_joined}
+use Rattle.cp_endless_laws.proofs.Basics.{any_left, any_right, each_append as each_joined}
 
 -- an edge that leads to the state of this number
 pub record Goes {S : Type 0} (sys : System S) (inside waiting : S → ℕ → Bool) (steps : ℕ) (states : List (S × List ℕ)) (s : S) (e : Edge) (j : ℕ) : Type 0 where

@@ -4,8 +4,8 @@ use Rattle.cp_waits.proofs.Words.{Contains, slice_get, cases_order, Tables, Mach
 use Rattle.std.specs.List.{AllPairs}
 use Rattle.std.proofs.lemmas.List.Elements.{Contains-get_or, Contains-push, Contains-push_cases, Contains-append_left}
 use Rattle.std.proofs.lemmas.List.Quantifiers.{all_pairs_push}
-use Rattle.cp_endless.specs.WaitsForEver.{MayLinger, NeverWaitsForEver}
-use Rattle.cp_endless.proofs.waiting.Lassos.{lassos, lingers}
+use Rattle.cp_endless_laws.specs.WaitsForEver.{MayLinger, NeverWaitsForEver}
+use Rattle.cp_endless_laws.proofs.waiting.Lassos.{lassos, lingers}
 use Rattle.cp_ends.specs.Holds.{AreStates, IsWordOf, origin_at}
 use Rattle.cp_ends.specs.declared.states.States.{States}
 use Rattle.cp_waits.specs.declared.passing.Keeping.TheVariants as keeping
@@ -16,7 +16,7 @@ use Rattle.cp_waits.specs.declared.waiting.Waits.{Waits}
 use Rattle.cp_waits.specs.declared.waiting.Waits.TheVariants.{Known, NotSettled}
 use Rattle.cp_waits.specs.Lines.{AreLines, HasNoLine, HasRanks, IsShown, NeverWaits, SayWhoWaits, ShowsRound, ShowsStandstill, StandsStillNever}
 use Rattle.cp_waits.specs.MayWait.{AreLasso, AreLingeringLasso, AreStandstill, AreWaits, HasLine, MayWait, ShowWaiting, StandsStillAfter, TellWaits, WaitsForGood}
-use Rattle.cp_endless.proofs.waiting.Example.{none_in as none_there}
+use Rattle.cp_endless_laws.proofs.waiting.Example.{none_in as none_there}
 
 -- ---- lists of lines
 

@@ -1,13 +1,13 @@
 -- A lasso is a schedule without end: its first word, and then its loop again and again.
 use Rattle.std.proofs.Common.{◌≡◌, ◌⊎◌, inl, inr, ⊎_elim, ◌∙◌, ◌<◌, ◌≤◌, ℕ, zero, suc, Bool, true, false, List, [], ◌∷◌, length, Some, refl, sym, ap, subst, arith}
 use Rattle.cp_waits.proofs.Words.{Each, System, Node, Halted, Choosing, may, chosen, opened, node_after, some_same, AreLasso, AreLingeringLasso}
-use Rattle.cp_endless.specs.Fair.{IsFair, IsServed}
-use Rattle.cp_endless.specs.Lasso.{HasLasso, WaitsAlong}
-use Rattle.cp_endless.specs.Moments.{AnyOf, Moment, moments, moments_along, states_along}
-use Rattle.cp_endless.specs.WaitsForEver.{WaitsFrom, WaitsIn, WaitsSometime}
-use Rattle.cp_endless.proofs.possible.Words.{after_first, after_choosing}
+use Rattle.cp_endless_laws.specs.Fair.{IsFair, IsServed}
+use Rattle.cp_endless_laws.specs.Lasso.{HasLasso, WaitsAlong}
+use Rattle.cp_endless_laws.specs.Moments.{AnyOf, Moment, moments, moments_along, states_along}
+use Rattle.cp_endless_laws.specs.WaitsForEver.{WaitsFrom, WaitsIn, WaitsSometime}
+use Rattle.cp_endless_laws.proofs.possible.Words.{after_first, after_choosing}
 use Rattle.cp_waits.specs.Named.{LingersBy, WaitsBy, followed_by}
-use Rattle.cp_endless.proofs.Basics.{any_split, each_left, each_right}
+use Rattle.cp_endless_laws.proofs.Basics.{any_split, each_left, each_right}
 
 state_in : {S : Type 0} → S → Node S → S
 state_in s (Halted kind t) = s

@@ -3,7 +3,7 @@ use Rattle.std.proofs.Common.{◌≡◌, ◌∙◌, ◌⊎◌, inl, inr, ⊎_eli
 use Rattle.std.specs.Prelude.{⊤, ◌↔◌, ◌&&◌, ◌||◌, not, nat_eq}
 use Rattle.cp_waits.proofs.Words.{Each, eqb-true, eq-eqb, System, Moment, AnyOf, has, PassingSets, Set}
 use Rattle.cp_waits.specs.Passings.{AreThose, Seen}
-use Rattle.cp_endless.proofs.Basics.{any_split as any_apart, each_append as each_both}
+use Rattle.cp_endless_laws.proofs.Basics.{any_split as any_apart, each_append as each_both}
 
 differ : false ≡ true → ⊥
 differ e = cc

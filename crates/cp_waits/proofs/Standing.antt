@@ -7,14 +7,14 @@ use Rattle.std.proofs.lemmas.List.Elements.{Contains-append_left, Contains-push,
 use Rattle.cp_run.specs.declared.outcome.OutcomeKind.TheVariants.{StepLimit}
 use Rattle.cp_run.specs.declared.outcome.Halt.TheVariants.{Choice, Ended}
 use Rattle.cp_run.specs.Run.{Node, Halted, Choosing, node_at, settled_turn, turn_at, stretch, opened, chosen}
-use Rattle.cp_endless.specs.Rounds.{IsRound, spot_by}
-use Rattle.cp_endless.specs.Standstill.{StandsStill, IsStandstill}
-use Rattle.cp_endless.proofs.steps.Rounds.{standstills, standstills_found}
+use Rattle.cp_endless_laws.specs.Rounds.{IsRound, spot_by}
+use Rattle.cp_endless_laws.specs.Standstill.{StandsStill, IsStandstill}
+use Rattle.cp_endless_laws.proofs.steps.Rounds.{standstills, standstills_found}
 use Rattle.cp_ends.proofs.words.Returns.{cut_there}
 use Rattle.cp_waits.specs.Building.{IsOfStretch, IsStillOf, AddsStill}
 use Rattle.cp_ends.specs.Legs.{Leg, first_leg, choice_leg}
 use Rattle.cp_waits.specs.Legs.{GoesRound, ComesTo}
-use Rattle.cp_refine.proofs.gates.Gates.{and_false as and_none}
+use Rattle.cp_machine_laws.proofs.gates.Gates.{and_false as and_none}
 
 -- ---- where legs lead
 

@@ -2,7 +2,7 @@
 use Rattle.std.proofs.Common.{◌≡◌, inl, inr, ◌∙◌, ◌<◌, ℕ, Bool, true, List, [], ◌∷◌, ◌++◌, Some, refl, sym, ap}
 use Rattle.cp_waits.proofs.Words.{Contains, slice_get, Machine, System, Choosing, LeadsTo, Origin, Graph, Standstill, Leg, choice_leg, first_leg}
 use Rattle.cp_waits.proofs.Words.{StandsStillAfter, has}
-use Rattle.cp_endless.specs.Rounds.{SetsOut}
+use Rattle.cp_endless_laws.specs.Rounds.{SetsOut}
 use Rattle.cp_ends.specs.Holds.{IsWordOf}
 use Rattle.cp_ends.specs.declared.origin.Origin.TheVariants.{Start, Choice}
 use Rattle.cp_waits.specs.Graphs.{HasStill, IsLegFrom, IsStill, LetsWait}

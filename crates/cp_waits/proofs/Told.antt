@@ -4,27 +4,27 @@ use Rattle.cp_waits.proofs.Words.{chosen, opened, slots, System, LeadsTo, IsClos
 use Rattle.cp_tree.specs.Syntax.{Tree}
 use Rattle.cp_tree.specs.Read.{IsRead}
 use Rattle.cp_layout.specs.Laid.{plain, laid}
-use Rattle.cp_lawful.specs.Accepted.{IsAccepted}
+use Rattle.cp_meaning_laws.specs.Accepted.{IsAccepted}
 use Rattle.cp_machine.specs.declared.discipline.Discipline as slot_discipline
-use Rattle.cp_refine.proofs.Disciplines.{same_discipline}
+use Rattle.cp_machine_laws.proofs.Disciplines.{same_discipline}
 use Rattle.cp_meaning.specs.State.{Discipline, State}
 use Rattle.cp_resolved.specs.TreeLayouts.{layouts_of}
-use Rattle.cp_refine.specs.InStep.{CanGo, GoInStep}
-use Rattle.cp_refine.specs.Law.{Simulates, ground_of}
-use Rattle.cp_refine.specs.Named.{discipline_of, named, named_discipline}
-use Rattle.cp_refine.proofs.Forgetting.{forgets}
-use Rattle.cp_refine.proofs.HoldsInReached.{reached_stands}
-use Rattle.cp_refine.proofs.Meaning.{goes_in_step, it}
-use Rattle.cp_refine.proofs.ReachedKinds.{kinds_agree}
-use Rattle.cp_endless.specs.Meaning.{MeansTheSame}
-use Rattle.cp_endless.specs.Silent.{in_call_on_names, in_call_on_slots, named_without_output, silent_named, silent_slots, waits_on_names, waits_on_slots, without_output}
-use Rattle.cp_endless.specs.Standstill.{MayStandStill}
-use Rattle.cp_endless.specs.WaitsForEver.{MayLinger, MayWaitForEver}
-use Rattle.cp_endless.proofs.names.Going.{in_choices, silent_in_step}
-use Rattle.cp_endless.proofs.names.InCalls.{in_call_so}
-use Rattle.cp_endless.proofs.names.Meant.{endless_meaning, leaves}
-use Rattle.cp_endless.proofs.names.Processes.{waits_so}
-use Rattle.cp_endless.proofs.names.Together.{ChoicesAlike, turned}
+use Rattle.cp_machine_laws.specs.InStep.{CanGo, GoInStep}
+use Rattle.cp_machine_laws.specs.Law.{Simulates, ground_of}
+use Rattle.cp_machine_laws.specs.Named.{discipline_of, named, named_discipline}
+use Rattle.cp_machine_laws.proofs.Forgetting.{forgets}
+use Rattle.cp_machine_laws.proofs.HoldsInReached.{reached_stands}
+use Rattle.cp_machine_laws.proofs.Meaning.{goes_in_step, it}
+use Rattle.cp_machine_laws.proofs.ReachedKinds.{kinds_agree}
+use Rattle.cp_endless_laws.specs.Meaning.{MeansTheSame}
+use Rattle.cp_endless_laws.specs.Silent.{in_call_on_names, in_call_on_slots, named_without_output, silent_named, silent_slots, waits_on_names, waits_on_slots, without_output}
+use Rattle.cp_endless_laws.specs.Standstill.{MayStandStill}
+use Rattle.cp_endless_laws.specs.WaitsForEver.{MayLinger, MayWaitForEver}
+use Rattle.cp_endless_laws.proofs.names.Going.{in_choices, silent_in_step}
+use Rattle.cp_endless_laws.proofs.names.InCalls.{in_call_so}
+use Rattle.cp_endless_laws.proofs.names.Meant.{endless_meaning, leaves}
+use Rattle.cp_endless_laws.proofs.names.Processes.{waits_so}
+use Rattle.cp_endless_laws.proofs.names.Together.{ChoicesAlike, turned}
 use Rattle.cp_ends.specs.Ends.{EndsSo}
 use Rattle.cp_ends.specs.Firsts.{AreFirsts}
 use Rattle.cp_ends.specs.Holds.{Holds, SlotFindings, same_key}

@@ -5,11 +5,11 @@ use Rattle.cp_waits.proofs.Words.{Waiting, PassingSets, Halt, IsChoice, IsNumber
 use Rattle.cp_waits.proofs.Words.{LeadsToTrap, IsEdge}
 use Rattle.cp_run.specs.Run.{Node, Halted, Choosing, may, chosen, settled_turn, turn_after}
 use Rattle.cp_run.specs.declared.outcome.Halt.TheVariants as halt
-use Rattle.cp_endless.specs.Fair.{IsEndless, IsFair, IsServed}
-use Rattle.cp_endless.specs.Moments.{Moment, moments, moments_by, stretch_moments}
-use Rattle.cp_endless.specs.Traps.{IsTrap}
-use Rattle.cp_endless.specs.WaitsForEver.{WaitsFrom}
-use Rattle.cp_endless.proofs.waiting.Traps.{trapped}
+use Rattle.cp_endless_laws.specs.Fair.{IsEndless, IsFair, IsServed}
+use Rattle.cp_endless_laws.specs.Moments.{Moment, moments, moments_by, stretch_moments}
+use Rattle.cp_endless_laws.specs.Traps.{IsTrap}
+use Rattle.cp_endless_laws.specs.WaitsForEver.{WaitsFrom}
+use Rattle.cp_endless_laws.proofs.waiting.Traps.{trapped}
 use Rattle.cp_ends.proofs.named.Kinds.{contains_map}
 use Rattle.cp_waits.specs.Ranks.{IsPassedOver, IsRanked}
 use Rattle.cp_waits.proofs.Falling.{AreApart, along, at_of, index_here, index_in, keeps_on, who, who_below, who_is}

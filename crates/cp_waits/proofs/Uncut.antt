@@ -3,14 +3,14 @@ use Rattle.std.proofs.Common.{◌≡◌, inl, inr, ◌∙◌, ℕ, Bool, if◌th
 use Rattle.cp_run.specs.declared.outcome.OutcomeKind.{OutcomeKind}
 use Rattle.cp_run.specs.declared.outcome.OutcomeKind.TheVariants.{StepLimit}
 use Rattle.cp_waits.proofs.Words.{System, Node, Choosing, chosen, opened, stretch, Repeats, StandsStillAfter}
-use Rattle.cp_endless.specs.Forgetting.{forgetting_system}
-use Rattle.cp_endless.specs.Reachable.{EndsAfter, node_after}
-use Rattle.cp_endless.specs.Rounds.{IsRound, SetsOut, chosen_spot, spot_after}
-use Rattle.cp_endless.specs.Standstill.{MayStandStill, StandsStill}
-use Rattle.cp_endless.proofs.possible.Words.{after_append}
-use Rattle.cp_endless.proofs.steps.Alone.{chosen_at, opened_spot}
-use Rattle.cp_endless.proofs.steps.Nodes.{cut_node}
-use Rattle.cp_endless.proofs.steps.Rounds.{cut_if_on, standstills, standstills_found}
+use Rattle.cp_endless_laws.specs.Forgetting.{forgetting_system}
+use Rattle.cp_endless_laws.specs.Reachable.{EndsAfter, node_after}
+use Rattle.cp_endless_laws.specs.Rounds.{IsRound, SetsOut, chosen_spot, spot_after}
+use Rattle.cp_endless_laws.specs.Standstill.{MayStandStill, StandsStill}
+use Rattle.cp_endless_laws.proofs.possible.Words.{after_append}
+use Rattle.cp_endless_laws.proofs.steps.Alone.{chosen_at, opened_spot}
+use Rattle.cp_endless_laws.proofs.steps.Nodes.{cut_node}
+use Rattle.cp_endless_laws.proofs.steps.Rounds.{cut_if_on, standstills, standstills_found}
 use Rattle.cp_ends.specs.Ends.{EndsSo}
 use Rattle.cp_ends.specs.Firsts.{AreFirsts}
 use Rattle.cp_ends.specs.Named.{HasNoCut, kind_of}

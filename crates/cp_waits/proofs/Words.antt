@@ -6,14 +6,14 @@ pub use Rattle.std.proofs.lemmas.List.{length-map}
 pub use Rattle.std.proofs.lemmas.Option.{slice_get_within}
 pub use Rattle.std.specs.List.{AllByRecursion as Each, list_any}
 pub use Rattle.std.specs.Prelude.{Contains, nat_eq, nat_lt, not, slice_get, slice_index_or, ◌&&◌, ◌||◌}
-pub use Rattle.cp_endless.specs.Fair.{IsServed}
-pub use Rattle.cp_endless.specs.Moments.{AnyOf, Moment}
-unfoldable pub use Rattle.cp_endless.specs.Moments.{moments, stretch_moments}
-pub use Rattle.cp_endless.specs.Reachable.{LeadsTo, node_after}
-pub use Rattle.cp_endless.specs.Repeats.{Repeats}
-pub use Rattle.cp_endless.specs.Rounds.{spot_after}
-pub use Rattle.cp_endless.specs.Settled.{IsClosedSet, IsIn}
-pub use Rattle.cp_endless.specs.Silent.{in_call_on_slots, silent_slots, waits_on_slots, without_output}
+pub use Rattle.cp_endless_laws.specs.Fair.{IsServed}
+pub use Rattle.cp_endless_laws.specs.Moments.{AnyOf, Moment}
+unfoldable pub use Rattle.cp_endless_laws.specs.Moments.{moments, stretch_moments}
+pub use Rattle.cp_endless_laws.specs.Reachable.{LeadsTo, node_after}
+pub use Rattle.cp_endless_laws.specs.Repeats.{Repeats}
+pub use Rattle.cp_endless_laws.specs.Rounds.{spot_after}
+pub use Rattle.cp_endless_laws.specs.Settled.{IsClosedSet, IsIn}
+pub use Rattle.cp_endless_laws.specs.Silent.{in_call_on_slots, silent_slots, waits_on_slots, without_output}
 pub use Rattle.cp_ends.proofs.Searching.Lists.{contains_at, contains_cases, place_of}
 pub use Rattle.cp_ends.proofs.named.Keys.{key_self}
 pub use Rattle.cp_ends.proofs.words.Edges.{some_same}

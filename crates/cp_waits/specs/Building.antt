@@ -6,7 +6,7 @@ use Rattle.cp_machine.specs.System.{Machine}
 use Rattle.cp_machine.specs.declared.discipline.Discipline.{Discipline}
 use Rattle.cp_run.specs.Run.{may, stretch}
 use Rattle.cp_run.specs.System.{System}
-use Rattle.cp_endless.specs.Silent.{silent_slots, in_call_on_slots, waits_on_slots}
+use Rattle.cp_endless_laws.specs.Silent.{silent_slots, in_call_on_slots, waits_on_slots}
 use Rattle.cp_ends.specs.Answer.{HoldsFew, IsDone, IsStopped, ends_tests, slot_graph}
 use Rattle.cp_ends.specs.Holds.{SlotFindings}
 use Rattle.cp_ends.specs.Legs.{Leg, first_leg, choice_leg}

@@ -8,9 +8,9 @@ use Rattle.cp_run.specs.Run.{Node, Halted, Choosing, may, chosen, those_below}
 use Rattle.cp_run.specs.Slots.{slots}
 use Rattle.cp_run.specs.System.{System}
 use Rattle.cp_run.specs.declared.outcome.Halt.{Halt}
-use Rattle.cp_endless.specs.Repeats.{Repeats}
-use Rattle.cp_endless.specs.Silent.{without_output, silent_slots, in_call_on_slots, waits_on_slots}
-use Rattle.cp_endless.specs.Standstill.{IsStandstill}
+use Rattle.cp_endless_laws.specs.Repeats.{Repeats}
+use Rattle.cp_endless_laws.specs.Silent.{without_output, silent_slots, in_call_on_slots, waits_on_slots}
+use Rattle.cp_endless_laws.specs.Standstill.{IsStandstill}
 use Rattle.cp_ends.specs.Holds.{Holds, SlotFindings}
 use Rattle.cp_ends.specs.Whole.{IsWhole}
 use Rattle.cp_ends.specs.declared.found.Found.{Found}

@@ -5,7 +5,7 @@ use Rattle.cp_machine.specs.System.{Machine}
 use Rattle.cp_machine.specs.declared.discipline.Discipline.{Discipline}
 use Rattle.cp_run.specs.System.{System}
 use Rattle.cp_run.specs.declared.outcome.Halt.{Halt}
-use Rattle.cp_endless.specs.Silent.{silent_slots, in_call_on_slots, waits_on_slots}
+use Rattle.cp_endless_laws.specs.Silent.{silent_slots, in_call_on_slots, waits_on_slots}
 use Rattle.cp_ends.specs.Legs.{Leg}
 use Rattle.cp_ends.specs.Legs as legs
 use Rattle.cp_waits.specs.Passings.{Seen}

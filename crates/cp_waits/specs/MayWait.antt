@@ -2,12 +2,12 @@
 use Rattle.std.specs.Prelude.{◌≡◌, ◌⊎◌, ◌↔◌, ◌<◌, ℕ, suc, List, [], ◌∷◌, Bool, Contains}
 use Rattle.std.specs.List.{AllPairs}
 use Rattle.cp_run.specs.System.{System}
-use Rattle.cp_endless.specs.Lasso.{HasLasso, HasLingeringLasso}
-use Rattle.cp_endless.specs.Repeats.{Repeats}
-use Rattle.cp_endless.specs.Rounds.{SetsOut}
-use Rattle.cp_endless.specs.Standstill.{IsStandstill}
-use Rattle.cp_endless.specs.Traps.{IsStuck}
-use Rattle.cp_endless.specs.WaitsForEver.{MayWaitForEver, MayLinger}
+use Rattle.cp_endless_laws.specs.Lasso.{HasLasso, HasLingeringLasso}
+use Rattle.cp_endless_laws.specs.Repeats.{Repeats}
+use Rattle.cp_endless_laws.specs.Rounds.{SetsOut}
+use Rattle.cp_endless_laws.specs.Standstill.{IsStandstill}
+use Rattle.cp_endless_laws.specs.Traps.{IsStuck}
+use Rattle.cp_endless_laws.specs.WaitsForEver.{MayWaitForEver, MayLinger}
 use Rattle.cp_waits.specs.declared.waiting.How.{How}
 use Rattle.cp_waits.specs.declared.waiting.How.TheVariants.{Throughout, ForGood, InItsCall}
 use Rattle.cp_waits.specs.declared.waiting.Waiting.{Waiting}

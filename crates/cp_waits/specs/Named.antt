@@ -7,11 +7,11 @@ use Rattle.cp_machine.specs.declared.discipline.Discipline as slot_discipline
 use Rattle.cp_meaning.specs.State.{Discipline}
 use Rattle.cp_run.specs.Slots.{slots}
 use Rattle.cp_run.specs.System.{System}
-use Rattle.cp_refine.specs.Named.{named_discipline}
-use Rattle.cp_endless.specs.Fair.{IsEndless, IsFair}
-use Rattle.cp_endless.specs.Silent.{in_call_on_names, in_call_on_slots, silent_named, silent_slots, waits_on_names, waits_on_slots, without_output}
-use Rattle.cp_endless.specs.Standstill.{MayStandStill}
-use Rattle.cp_endless.specs.WaitsForEver.{MayWaitForEver, MayLinger, WaitsFrom, WaitsSometime}
+use Rattle.cp_machine_laws.specs.Named.{named_discipline}
+use Rattle.cp_endless_laws.specs.Fair.{IsEndless, IsFair}
+use Rattle.cp_endless_laws.specs.Silent.{in_call_on_names, in_call_on_slots, silent_named, silent_slots, waits_on_names, waits_on_slots, without_output}
+use Rattle.cp_endless_laws.specs.Standstill.{MayStandStill}
+use Rattle.cp_endless_laws.specs.WaitsForEver.{MayWaitForEver, MayLinger, WaitsFrom, WaitsSometime}
 use Rattle.cp_ends.specs.Holds.{Holds, SlotFindings}
 use Rattle.cp_ends.specs.Named.{HasNoCut}
 use Rattle.cp_ends.specs.Whole.{IsAnswer, IsWhole, OfItsPrograms}

@@ -5,9 +5,9 @@ use Rattle.cp_slots.specs.Tables.{Tables}
 use Rattle.cp_machine.specs.System.{Machine}
 use Rattle.cp_machine.specs.declared.discipline.Discipline.{Discipline}
 use Rattle.cp_run.specs.System.{System}
-use Rattle.cp_endless.specs.Fair.{IsServed}
-use Rattle.cp_endless.specs.Moments.{Moment, AnyOf}
-use Rattle.cp_endless.specs.Silent.{silent_slots, in_call_on_slots, waits_on_slots}
+use Rattle.cp_endless_laws.specs.Fair.{IsServed}
+use Rattle.cp_endless_laws.specs.Moments.{Moment, AnyOf}
+use Rattle.cp_endless_laws.specs.Silent.{silent_slots, in_call_on_slots, waits_on_slots}
 use Rattle.cp_waits.specs.Sets.{has}
 use Rattle.cp_waits.specs.declared.passing.PassingSets.{PassingSets}
 use Rattle.cp_waits.specs.declared.set.Set.{Set}

@@ -1,7 +1,7 @@
 -- Walks along the edges of a graph.
 use Rattle.std.specs.Prelude.{◌≡◌, ◌≤◌, ◌<◌, ℕ, zero, suc, List, [], ◌∷◌, map, length, Some, true, slice_get, slice_index}
 use Rattle.std.specs.List.{AllByRecursion as Each}
-use Rattle.cp_endless.specs.Moments.{AnyOf}
+use Rattle.cp_endless_laws.specs.Moments.{AnyOf}
 use Rattle.cp_waits.specs.declared.graph.Edge.{Edge}
 use Rattle.cp_waits.specs.declared.graph.Graph.{Graph}
 use Rattle.cp_waits.specs.declared.passing.Keeping.{Keeping}

@@ -4,7 +4,7 @@ ghost use Rattle.std.specs.Prelude.{◌≡◌, ◌≤◌, ℕ, List, IfOk, None,
 ghost use Rattle.cp_slots.specs.Tables.{Tables};
 ghost use Rattle.cp_machine.specs.System.{Machine};
 ghost use Rattle.cp_machine.specs.declared.discipline.Discipline as slot_discipline;
-ghost use Rattle.cp_endless.specs.Silent.{silent_slots, in_call_on_slots, waits_on_slots};
+ghost use Rattle.cp_endless_laws.specs.Silent.{silent_slots, in_call_on_slots, waits_on_slots};
 ghost use Rattle.cp_ends.specs.Holds.{HasFindings};
 ghost use Rattle.cp_ends.specs.Legs.{Leg};
 ghost use Rattle.cp_ends.specs.Whole.{IsAnswer};

@@ -5,16 +5,16 @@ use Rattle.cp_tree.specs.Read.{IsRead}
 use Rattle.cp_tree.specs.Syntax.{Tree}
 use Rattle.cp_layout.specs.Laid.{plain, laid}
 use Rattle.cp_slots.specs.Tables.{Tables}
-use Rattle.cp_lawful.specs.Accepted.{IsAccepted}
+use Rattle.cp_meaning_laws.specs.Accepted.{IsAccepted}
 use Rattle.cp_legend.specs.declared.legend.Legend as code_legend
 use Rattle.cp_legend.specs.Names.{legend_seen}
 use Rattle.cp_machine.specs.declared.discipline.Discipline.{Discipline}
 use Rattle.cp_resolved.proofs.Resolving.{read_names}
 use Rattle.cp_run.specs.Slots.{slots}
 use Rattle.cp_run.specs.Table.{table}
-use Rattle.cp_refine.specs.Law.{SameRuns}
-use Rattle.cp_refine.specs.Named.{named, named_discipline}
-use Rattle.cp_refine.proofs.Meaning.{runs_as_meant}
+use Rattle.cp_machine_laws.specs.Law.{SameRuns}
+use Rattle.cp_machine_laws.specs.Named.{named, named_discipline}
+use Rattle.cp_machine_laws.proofs.Meaning.{runs_as_meant}
 use Rattle.cp_story_laws.specs.Statements.{TellsEvents, TellsStop, TellsWaits, event_on_names, wait_on_names}
 use Rattle.cp_story_laws.proofs.StoriesOfTrees.{events_law, stop_law, waits_law}
 use Rattle.cp_outcomes.specs.Meant.{IsFoundIn}

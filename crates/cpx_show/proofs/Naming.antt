@@ -5,7 +5,7 @@ use Rattle.cp_symbols.specs.declared.symbols.Symbols.{Symbols}
 use Rattle.cp_slots.specs.Tables.{Tables}
 use Rattle.cp_layout.specs.Laid.{whole}
 use Rattle.cp_layout.specs.Symbols.{AreSymbolsOf}
-use Rattle.cp_lawful.specs.Accepted.{IsAccepted}
+use Rattle.cp_meaning_laws.specs.Accepted.{IsAccepted}
 use Rattle.cp_resolved.specs.Resolving.{IsProgramOf}
 use Rattle.cp_legend.specs.declared.legend.Legend as code_legend
 use Rattle.cp_legend.specs.Names.{IsLegendOf, source_seen}

@@ -14,7 +14,7 @@ use Rattle.cp_run.specs.Code.{answer_of}
 use Rattle.cp_run.specs.Run.{run}
 use Rattle.cp_run.specs.Table.{table}
 use Rattle.cp_run.specs.Trace.{trace}
-use Rattle.cp_refine.specs.Named.{named, named_discipline}
+use Rattle.cp_machine_laws.specs.Named.{named, named_discipline}
 use Rattle.cp_tool.specs.declared.options.Options.{Options}
 use Rattle.cp_story.specs.Halted.{halted_seen}
 use Rattle.cp_story.specs.Told.{lines_of}

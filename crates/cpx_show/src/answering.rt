@@ -6,7 +6,7 @@ ghost use Rattle.cp_layout.specs.Laid.{whole};
 ghost use Rattle.cp_layout.specs.Symbols.{AreSymbolsOf};
 ghost use Rattle.cp_front.specs.Transfer.{code_by, faults_in};
 ghost use Rattle.cp_front.specs.declared.transfer.StreamFault.{StreamFault};
-ghost use Rattle.cp_lawful.specs.Accepted.{IsAccepted};
+ghost use Rattle.cp_meaning_laws.specs.Accepted.{IsAccepted};
 ghost use Rattle.cp_resolved.specs.Resolving.{IsProgramOf};
 ghost use Rattle.cp_show_mark.specs.Showing.{code_of};
 ghost use Rattle.cp_show_mark.specs.declared.answer.ShowVerdict.{ShowVerdict};

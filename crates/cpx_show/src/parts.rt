@@ -4,7 +4,7 @@ ghost use Rattle.std.specs.Prelude.{◌≡◌, false, IfOk, MatchOption, codes, 
 ghost use Rattle.cp_tree.specs.Read.{IsRead};
 ghost use Rattle.cp_tree.specs.Syntax.{Tree};
 ghost use Rattle.cp_tree.specs.TreeView.{tree_view};
-ghost use Rattle.cp_lawful.specs.Accepted.{IsAccepted};
+ghost use Rattle.cp_meaning_laws.specs.Accepted.{IsAccepted};
 ghost use Rattle.cp_refusal.specs.Text.{BeginsWith};
 ghost use Rattle.cp_resolved.specs.Resolving.{IsProgramOf};
 ghost use Rattle.cp_show_mark.specs.declared.answer.ShowVerdict.TheVariants.{Reported};

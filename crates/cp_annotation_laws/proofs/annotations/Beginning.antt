@@ -5,7 +5,7 @@ use Rattle.cp_tree.specs.Read.{IsRead}
 use Rattle.cp_tree.specs.declared.declaration.SystemKind.{SystemKind}
 use Rattle.cp_tree.specs.declared.declaration.SystemKind.TheVariants as system_kind
 use Rattle.cp_tree.specs.Syntax.{Program, Tree}
-use Rattle.cp_lawful.specs.Accepted.{IsAccepted}
+use Rattle.cp_meaning_laws.specs.Accepted.{IsAccepted}
 use Rattle.cp_meaning.specs.Components.{Listed, components_of}
 use Rattle.cp_meaning.specs.Declarations.{RoutineMeaning}
 use Rattle.cp_meaning.specs.Systems.{SystemMeaning}
@@ -13,10 +13,10 @@ use Rattle.cp_meaning.specs.State.{Component, Process, process_at, Discipline, S
 use Rattle.cp_meaning.specs.Readings.{is_ready, monitors_from, first_inside}
 use Rattle.cp_meaning.specs.Steps.{first_environment, first_component, first_components, unstarted_process, process_first, processes_from, own_begun, opening}
 use Rattle.cp_run.specs.System.{System}
-use Rattle.cp_refine.specs.InStep.{CanGo, LooksAlike}
-use Rattle.cp_refine.specs.Named.{named, shown_of, in_line_of, monitor_number}
-use Rattle.cp_refine.proofs.steps.OpeningState.{processes_are}
-use Rattle.cp_refine.proofs.reached.KnownRoutines.{routines_known}
+use Rattle.cp_machine_laws.specs.InStep.{CanGo, LooksAlike}
+use Rattle.cp_machine_laws.specs.Named.{named, shown_of, in_line_of, monitor_number}
+use Rattle.cp_machine_laws.proofs.steps.OpeningState.{processes_are}
+use Rattle.cp_machine_laws.proofs.reached.KnownRoutines.{routines_known}
 use Rattle.cp_annotation_laws.specs.Plain.{plain_program, plain_tree}
 use Rattle.cp_annotation_laws.proofs.annotations.Spoken.{SpokenProgram, AreFine}
 use Rattle.cp_annotation_laws.proofs.annotations.Systems.{system_of_plain, components_plain, constants_before_plain}

@@ -8,8 +8,8 @@ use Rattle.cp_meaning.specs.Lifting.{own_call, is_call, expression_calls, sum_ca
 use Rattle.cp_resolved.specs.Openings.{meaning_at}
 use Rattle.cp_resolved.specs.Small.{Each}
 use Rattle.cp_resolved.specs.Stands.{calls_in}
-use Rattle.cp_refine.specs.Bodies.{IsAmong, IsAmongArms, IsPartOf, IsWithin, listed, inside, IsAmongItems, IsAmongStarts, OwnStands}
-use Rattle.cp_refine.specs.Remaining.{calls_before}
+use Rattle.cp_machine_laws.specs.Bodies.{IsAmong, IsAmongArms, IsPartOf, IsWithin, listed, inside, IsAmongItems, IsAmongStarts, OwnStands}
+use Rattle.cp_machine_laws.specs.Remaining.{calls_before}
 use Rattle.cp_annotation_laws.proofs.annotations.Spoken.{SpokenExpression, SpokenSum, SpokenTerms, SpokenTerm, SpokenFactors, SpokenFactor, SpokenExpressions, SpokenDesignator, SpokenSelectors, SpokenSelector, SpokenStart, SpokenScope, SpokenProgram, IsFine, AreFine, AreFineArms}
 
 pub record Facts (p : Program) : Type 0 where

@@ -11,11 +11,11 @@ use Rattle.cp_run.specs.Run.{those_below, settled_turn, turn_after, Node, Halted
 use Rattle.cp_run.specs.Stop.{last_state_from}
 use Rattle.cp_run.specs.System.{System}
 use Rattle.cp_run.proofs.Wanting.{goes_on}
-use Rattle.cp_refine.specs.InStep.{CanGo, CanEnter, LooksAlike}
-use Rattle.cp_refine.proofs.Alike.{may_same, may_go, may_enter}
+use Rattle.cp_machine_laws.specs.InStep.{CanGo, CanEnter, LooksAlike}
+use Rattle.cp_machine_laws.proofs.Alike.{may_same, may_go, may_enter}
 use Rattle.cp_run.proofs.Choosing.{those_same}
 use Rattle.cp_run.specs.Code.{IfGoes}
-use Rattle.cp_refine.proofs.Turns.{after_ready, settled_ready, turn_ready, settled_same, turn_same, after_same}
+use Rattle.cp_machine_laws.proofs.Turns.{after_ready, settled_ready, turn_ready, settled_same, turn_same, after_same}
 
 -- how a run may end earlier
 abbrev pub IsEarly : {S : Type 0} → (OutcomeKind → S → Type 0) → S → Event → Type 0

@@ -3,8 +3,8 @@ use Rattle.cp_meaning.specs.Systems.{system_of}
 use Rattle.std.proofs.Common.{◌≡◌, ◌∙◌, inl, inr, ℕ, zero, suc, ◌<◌, ◌==◌, Bool, true, false, List, [], ◌∷◌, ◌++◌, length, slice_set, slice_index, Option, Some, None, Ok, Err, ap, sym, refl, subst, arith}
 use Rattle.cp_tree.specs.Read.{IsRead}
 use Rattle.cp_tree.specs.Syntax.{Program, Tree}
-use Rattle.cp_lawful.specs.Accepted.{IsAccepted}
-use Rattle.cp_lawful.proofs.Accepting.{well_formed}
+use Rattle.cp_meaning_laws.specs.Accepted.{IsAccepted}
+use Rattle.cp_meaning_laws.proofs.Accepting.{well_formed}
 use Rattle.cp_machine.specs.declared.event.Event.TheVariants.{Local}
 use Rattle.cp_meaning.specs.Outcome.{Outcome}
 use Rattle.cp_meaning.specs.State.{Environment, Component, Call, Item, Status, unstarted, ready, at_gate, delayed, ended, Process, process_at, Discipline, Shown, State, local_routine, return}
@@ -18,13 +18,13 @@ use Rattle.cp_meaning.proofs.OwnershipLemmas.{reached}
 use Rattle.cp_run.specs.System.{System}
 use Rattle.cp_resolved.specs.Layouts.{Layouts}
 use Rattle.cp_resolved.specs.TreeLayouts.{layouts_of}
-use Rattle.cp_refine.specs.InStep.{CanGo, CanEnter}
-use Rattle.cp_refine.specs.Named.{named, event_of, is_some, in_line_of}
-use Rattle.cp_refine.specs.RoutinesKnown.{Traits, CallsFit, CallFits, ItemsFit, RoutinesKnown, StandsInBodies}
-use Rattle.cp_refine.proofs.HoldsInReached.{holds_in_reached}
-use Rattle.cp_refine.proofs.reached.BodiesInReached.{reached_in_bodies}
-use Rattle.cp_refine.proofs.reached.BodiesKept.{OutcomeFits, takes_fits, SystemsKept}
-use Rattle.cp_refine.proofs.reached.KnownRoutines.{traits, routines_known}
+use Rattle.cp_machine_laws.specs.InStep.{CanGo, CanEnter}
+use Rattle.cp_machine_laws.specs.Named.{named, event_of, is_some, in_line_of}
+use Rattle.cp_machine_laws.specs.RoutinesKnown.{Traits, CallsFit, CallFits, ItemsFit, RoutinesKnown, StandsInBodies}
+use Rattle.cp_machine_laws.proofs.HoldsInReached.{holds_in_reached}
+use Rattle.cp_machine_laws.proofs.reached.BodiesInReached.{reached_in_bodies}
+use Rattle.cp_machine_laws.proofs.reached.BodiesKept.{OutcomeFits, takes_fits, SystemsKept}
+use Rattle.cp_machine_laws.proofs.reached.KnownRoutines.{traits, routines_known}
 use Rattle.cp_annotation_laws.specs.Annotations.{IsBroken, MeansTheSameBut}
 use Rattle.cp_annotation_laws.specs.Plain.{plain_program, plain_tree}
 use Rattle.cp_annotation_laws.proofs.annotations.Following.{Follows, IsEarly, Stepping}

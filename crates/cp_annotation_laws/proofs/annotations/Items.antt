@@ -10,8 +10,8 @@ use Rattle.cp_meaning.specs.Calls.{last_checks}
 use Rattle.cp_meaning.specs.Lifting.{is_call, own_call, expression_calls, sum_calls, terms_calls, term_calls, factors_calls, factor_calls, expressions_calls, designator_calls, selectors_calls, selector_calls, start_items, has_invariants, check_statement, check_items, waits_meant, first_name, checks_before, items_of, items_of_all, until_items}
 use Rattle.cp_meaning.specs.LocalRules.{after_return}
 use Rattle.cp_meaning.proofs.Frames.{Frame, ItemsFit}
-use Rattle.cp_refine.specs.Bodies.{AllStand, listed}
-use Rattle.cp_refine.proofs.reached.BodyItems.{statement_stands}
+use Rattle.cp_machine_laws.specs.Bodies.{AllStand, listed}
+use Rattle.cp_machine_laws.proofs.reached.BodyItems.{statement_stands}
 use Rattle.cp_resolved.specs.Small.{Each}
 use Rattle.cp_annotation_laws.specs.Plain.{plain_statement, plain_statements}
 use Rattle.cp_annotation_laws.proofs.annotations.Scopes.{IsSpoken, plain_scope, plain_found, find_plain, no_invariants}

@@ -3,7 +3,7 @@ use Rattle.std.proofs.Common.{◌≡◌, ℕ, false, [], Ok, sym, refl, subst}
 use Rattle.cp_tree.specs.Read.{IsRead}
 use Rattle.cp_tree.specs.View.{expression_at}
 use Rattle.cp_tree.specs.Syntax.{Expression, Statement, empty, assign, invoke, block, if_then, if_else, case_of, while_do, repeat_until, for_do, cycle, init, asserted, Statements, no_statements, more_statements, Arms, no_arms, more_arms, arm, Tree}
-use Rattle.cp_lawful.specs.Accepted.{IsAccepted}
+use Rattle.cp_meaning_laws.specs.Accepted.{IsAccepted}
 use Rattle.cp_scope.specs.Counts.{no_use}
 use Rattle.cp_scope.specs.Judged.{both}
 use Rattle.cp_scope.specs.Scopes.{Scopes}

@@ -7,7 +7,7 @@ use Rattle.cp_run.specs.System.{System}
 use Rattle.cp_run.specs.Table.{words, lines_of, each, table}
 use Rattle.cp_run.proofs.Prefixes.{UsesWholly, goes_no_further}
 use Rattle.cp_meaning.specs.State.{State}
-use Rattle.cp_refine.proofs.Alike.{each_same}
+use Rattle.cp_machine_laws.proofs.Alike.{each_same}
 use Rattle.cp_annotation_laws.specs.Annotations.{IsSchedule, IsBroken, IsBrokenSchedule, HasBrokenBeginning, MeansTheSameBut}
 use Rattle.cp_annotation_laws.proofs.annotations.Following.{Follows, openings, runs_compared, Compared}
 

@@ -3,7 +3,7 @@ use Rattle.std.proofs.Common.{◌≡◌, ◌∙◌, ◌⊎◌, inl, inr, ℕ, Bo
 use Rattle.cp_tree.specs.Read.{IsRead}
 use Rattle.cp_tree.specs.declared.statement.AssertionKind.{AssertionKind}
 use Rattle.cp_tree.specs.Syntax.{Expression, Expressions, no_expressions, Designator, designator, no_selectors, Statement, empty, assign, invoke, block, if_then, if_else, case_of, while_do, repeat_until, for_do, cycle, init, asserted, nameless, Statements, no_statements, more_statements, Routine, Program, Tree}
-use Rattle.cp_lawful.specs.Accepted.{IsAccepted}
+use Rattle.cp_meaning_laws.specs.Accepted.{IsAccepted}
 use Rattle.cp_meaning.specs.Outcome.{ErrorName, Outcome, ◌>>=◌}
 use Rattle.cp_meaning.specs.Scopes.{Meaning, routine_meaning, Scope, find, since}
 use Rattle.cp_meaning.specs.Declarations.{Parameter, RoutineMeaning, routine_in}
@@ -21,9 +21,9 @@ use Rattle.cp_resolved.proofs.declarations.Nameless.{IsSaid, SaysSome, IsNameles
 use Rattle.cp_resolved.proofs.declarations.WordsOfTrees.{read_nameless}
 use Rattle.cp_resolved.specs.Openings.{meaning_at}
 use Rattle.cp_resolved.specs.TreeLayouts.{layouts_of}
-use Rattle.cp_refine.specs.Bodies.{IsWithin, IsCheck, ItemStands}
-use Rattle.cp_refine.specs.RoutinesKnown.{ItemsFit, RoutinesKnown}
-use Rattle.cp_refine.proofs.reached.KnownRoutines.{traits, routines_known}
+use Rattle.cp_machine_laws.specs.Bodies.{IsWithin, IsCheck, ItemStands}
+use Rattle.cp_machine_laws.specs.RoutinesKnown.{ItemsFit, RoutinesKnown}
+use Rattle.cp_machine_laws.proofs.reached.KnownRoutines.{traits, routines_known}
 use Rattle.cp_annotation_laws.specs.Annotations.{IsAnnotation}
 use Rattle.cp_annotation_laws.specs.Plain.{plain_program}
 use Rattle.cp_annotation_laws.proofs.annotations.Spoken.{IsFine, AreFine}

@@ -3,7 +3,7 @@ use Rattle.std.proofs.Common.{◌≡◌, refl, [], ◌∷◌, None}
 use Rattle.std.specs.Prelude.{codes, pos}
 use Rattle.cp_machine.specs.declared.shown.Shown.TheVariants as shown
 use Rattle.cp_meaning.specs.State.{book_discipline}
-use Rattle.cp_refine.specs.Named.{named}
+use Rattle.cp_machine_laws.specs.Named.{named}
 use Rattle.cp_run.specs.declared.outcome.OutcomeKind.TheVariants.{Finished, RunError}
 use Rattle.cp_run.specs.Run.{Ended, stretch, opened, run_from, run}
 use Rattle.cp_store.specs.declared.error.ErrorName.TheVariants as error

@@ -11,8 +11,8 @@ use Rattle.cp_slots.specs.declared.tables.ComponentKind.TheVariants as kind
 use Rattle.cp_store.specs.declared.memory.Frame.{Frame}
 use Rattle.cp_machine.specs.Machine.{Machine, thread_at}
 use Rattle.cp_run.specs.Slots.{slots}
-use Rattle.cp_lawful.specs.Accepted.{IsAccepted}
-use Rattle.cp_lawful.proofs.Accepting.{well_formed}
+use Rattle.cp_meaning_laws.specs.Accepted.{IsAccepted}
+use Rattle.cp_meaning_laws.proofs.Accepting.{well_formed}
 use Rattle.cp_meaning.specs.Components.{Listed, components_of}
 use Rattle.cp_meaning.specs.Declarations.{RoutineMeaning, routine_in}
 use Rattle.cp_meaning.specs.Expressions.{name_of, routine_called, meaning_here}
@@ -38,24 +38,24 @@ use Rattle.cp_resolved.proofs.statements.CalleesKnown.{At, numbered}
 use Rattle.cp_resolved.proofs.statements.CallsKnown as calls_known
 use Rattle.cp_resolved.proofs.statements.ChecksKnown.{no_invariants}
 use Rattle.cp_resolved.proofs.statements.RoutinesNoted.{Numbered, InitialNumbered}
-use Rattle.cp_refine.specs.AllKnown.{AllKnown}
-use Rattle.cp_refine.specs.Bodies.{check_name, ItemStands}
-use Rattle.cp_refine.specs.Prepared.{Prepared}
-use Rattle.cp_refine.specs.InStep.{GoInStep}
-use Rattle.cp_refine.specs.Kinds.{SameKind}
-use Rattle.cp_refine.specs.Law.{ground_of, Simulates}
-use Rattle.cp_refine.specs.Named.{named as on_names, discipline_of, is_some, in_line_of}
-use Rattle.cp_refine.specs.Represents.{CallIs, CallsHold, frames_of, own_memory}
-use Rattle.cp_refine.specs.RoutinesKnown.{scope_of, body_of, Callee, CalledAs, RoutinesKnown, ItemsFit}
-use Rattle.cp_refine.proofs.Forgetting.{forgets}
-use Rattle.cp_refine.proofs.HoldsInReached.{HoldsInReached, reached_stands}
-use Rattle.cp_refine.proofs.Meaning.{it, known as all_known, goes_in_step}
-use Rattle.cp_refine.proofs.reached.KnownEntries.{counted}
-use Rattle.cp_refine.proofs.reached.KnownRoutines.{traits, routines_known}
-use Rattle.cp_refine.proofs.reached.NextInReached.{Executed, executed}
-use Rattle.cp_refine.proofs.reached.ReadyInReached.{ReadyInReached, ready_in_reached}
-use Rattle.cp_refine.proofs.steps.Beginning.{same_count}
-use Rattle.cp_refine.proofs.steps.Going.{Going, going}
+use Rattle.cp_machine_laws.specs.AllKnown.{AllKnown}
+use Rattle.cp_machine_laws.specs.Bodies.{check_name, ItemStands}
+use Rattle.cp_machine_laws.specs.Prepared.{Prepared}
+use Rattle.cp_machine_laws.specs.InStep.{GoInStep}
+use Rattle.cp_machine_laws.specs.Kinds.{SameKind}
+use Rattle.cp_machine_laws.specs.Law.{ground_of, Simulates}
+use Rattle.cp_machine_laws.specs.Named.{named as on_names, discipline_of, is_some, in_line_of}
+use Rattle.cp_machine_laws.specs.Represents.{CallIs, CallsHold, frames_of, own_memory}
+use Rattle.cp_machine_laws.specs.RoutinesKnown.{scope_of, body_of, Callee, CalledAs, RoutinesKnown, ItemsFit}
+use Rattle.cp_machine_laws.proofs.Forgetting.{forgets}
+use Rattle.cp_machine_laws.proofs.HoldsInReached.{HoldsInReached, reached_stands}
+use Rattle.cp_machine_laws.proofs.Meaning.{it, known as all_known, goes_in_step}
+use Rattle.cp_machine_laws.proofs.reached.KnownEntries.{counted}
+use Rattle.cp_machine_laws.proofs.reached.KnownRoutines.{traits, routines_known}
+use Rattle.cp_machine_laws.proofs.reached.NextInReached.{Executed, executed}
+use Rattle.cp_machine_laws.proofs.reached.ReadyInReached.{ReadyInReached, ready_in_reached}
+use Rattle.cp_machine_laws.proofs.steps.Beginning.{same_count}
+use Rattle.cp_machine_laws.proofs.steps.Going.{Going, going}
 use Rattle.cp_annotation_laws.specs.Invariants.{all_said, invariants_meant, invariants_in, InvariantsHold, InvariantsLaw}
 use Rattle.cp_annotation_laws.proofs.invariants.Blocks.{IsInBlock, all_in_blocks, each_at}
 use Rattle.cp_annotation_laws.proofs.invariants.Entries.{entry_looked}

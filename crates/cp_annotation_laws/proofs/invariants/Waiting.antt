@@ -26,21 +26,21 @@ use Rattle.cp_meaning.specs.Values.{queue_value, part_at}
 use Rattle.cp_resolved.specs.Encoded.{HasType}
 use Rattle.cp_resolved.specs.Layouts.{Layouts, Here, here}
 use Rattle.cp_resolved.specs.Stands.{Ground, InvokedBy, QueueItem}
-use Rattle.cp_refine.specs.Agrees.{TargetAgrees}
-use Rattle.cp_refine.specs.Prepared.{Prepared}
-use Rattle.cp_refine.specs.ItemsKnown.{QueueKnown, InvokeKnown, ItemKnown}
-use Rattle.cp_refine.specs.Law.{ground_of}
-use Rattle.cp_refine.specs.PlainValues.{plain_address}
-use Rattle.cp_refine.specs.Represents.{LiesAt, BeginsAt, PlaceAt, frames_of, StackIs, all_permanents}
-use Rattle.cp_refine.specs.StatesKnown.{StateKnown}
-use Rattle.cp_refine.proofs.calls.Kept.{kept_left, kept_right}
-use Rattle.cp_refine.proofs.control.Control.{Taken, scope_is}
-use Rattle.cp_refine.proofs.control.Running.{Executes}
-use Rattle.cp_refine.proofs.expressions.Reading.{part_lies}
-use Rattle.cp_refine.proofs.queues.Delaying.{QueueNamed, queue_is}
-use Rattle.cp_refine.proofs.queues.QueueNames.{queue_named}
-use Rattle.cp_refine.proofs.steps.Executed.{executes}
-use Rattle.cp_refine.proofs.steps.Going.{Going, takes_one}
+use Rattle.cp_machine_laws.specs.Agrees.{TargetAgrees}
+use Rattle.cp_machine_laws.specs.Prepared.{Prepared}
+use Rattle.cp_machine_laws.specs.ItemsKnown.{QueueKnown, InvokeKnown, ItemKnown}
+use Rattle.cp_machine_laws.specs.Law.{ground_of}
+use Rattle.cp_machine_laws.specs.PlainValues.{plain_address}
+use Rattle.cp_machine_laws.specs.Represents.{LiesAt, BeginsAt, PlaceAt, frames_of, StackIs, all_permanents}
+use Rattle.cp_machine_laws.specs.StatesKnown.{StateKnown}
+use Rattle.cp_machine_laws.proofs.calls.Kept.{kept_left, kept_right}
+use Rattle.cp_machine_laws.proofs.control.Control.{Taken, scope_is}
+use Rattle.cp_machine_laws.proofs.control.Running.{Executes}
+use Rattle.cp_machine_laws.proofs.expressions.Reading.{part_lies}
+use Rattle.cp_machine_laws.proofs.queues.Delaying.{QueueNamed, queue_is}
+use Rattle.cp_machine_laws.proofs.queues.QueueNames.{queue_named}
+use Rattle.cp_machine_laws.proofs.steps.Executed.{executes}
+use Rattle.cp_machine_laws.proofs.steps.Going.{Going, takes_one}
 use Rattle.cp_annotation_laws.proofs.invariants.Stepping.{QueueThere}
 
 -- the queue that the next item names

@@ -2,8 +2,8 @@
 use Rattle.std.proofs.Common.{◌≡◌, ◌⊎◌, inl, inr, ◌∙◌, ℕ, zero, suc, true, false, Some, ap, sym, refl, subst}
 use Rattle.cp_at_once_laws.proofs.Words.{OutcomeKind, Turn, Over, Due, Goes, System, may, turn_at, turn_after, CanGo, GoInStep, spot_after, spot_by, some_same}
 use Rattle.cp_run.specs.Code.{IfGoes}
-use Rattle.cp_refine.proofs.Alike.{goes_on, goes_same, may_go, may_same, opening_goes}
-use Rattle.cp_refine.proofs.Turns.{turn_same}
+use Rattle.cp_machine_laws.proofs.Alike.{goes_on, goes_same, may_go, may_same, opening_goes}
+use Rattle.cp_machine_laws.proofs.Turns.{turn_same}
 use Rattle.cp_at_once_laws.specs.Through.{IsTurnKnown, IsOpeningKnown, FollowsEach, HasQuietLeg, FollowsOne, GoesThrough}
 
 module _ {S T : Type 0} (a : System S) (b : System T) (R : S → T → Type 0) (go : GoInStep a b R) (free : (s : S) (t : T) → R s t → a.is_pending s ≡ false) where

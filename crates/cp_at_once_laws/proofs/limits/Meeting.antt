@@ -2,7 +2,7 @@
 use Rattle.std.proofs.Common.{◌≡◌, ◌≢◌, ◌⊎◌, inl, inr, ◌∙◌, ◌+◌, ◌≤◌, ◌<◌, ℕ, zero, suc, Bool, true, false, if◌then◌else◌, List, [], ◌∷◌, ◌++◌, Some, ap, sym, refl, subst, arith}
 use Rattle.cp_at_once_laws.proofs.Words.{Local, OutcomeKind, Turn, Goes, System, IsKernelCall, SetsOut, spot_after, HasQuietLeg, GoesThrough, IsPlain, same_or_not}
 use Rattle.cp_run.specs.Run.{those_below, settled_turn, turn_after}
-use Rattle.cp_refine.proofs.Turns.{Every, those_may, every_more as every_less}
+use Rattle.cp_machine_laws.proofs.Turns.{Every, those_may, every_more as every_less}
 use Rattle.cp_at_once_laws.specs.AtOnce.{is_call, QuietLeg, calls_quietly, after_quiet, after_steps, Spins, Marks, marks, later_marks, Commutes, GoalStays, OwnGoal}
 use Rattle.cp_at_once_laws.proofs.search.Goals.{loops_stay, own_loops, marks_stay, own_marks}
 use Rattle.cp_at_once_laws.proofs.limits.Turns.{CallTurn, nobody, alone, choice, call_turn, which_turn, none_ready, head_ready}

@@ -1,8 +1,8 @@
 -- An end that is no limit of steps is one with more steps too.
 use Rattle.std.proofs.Common.{◌≡◌, ◌≢◌, ◌∙◌, ◌+◌, ℕ, Bool, true, false, if◌then◌else◌, List, [], ◌∷◌, None, Some, ap, sym, refl, subst}
 use Rattle.cp_at_once_laws.proofs.Words.{OutcomeKind, StepLimit, System, some_same, Node, Halted, Choosing, may, opened, chosen, IsCut}
-use Rattle.cp_endless.specs.Reachable.{EndsAfter, node_after}
-use Rattle.cp_endless.proofs.steps.Nodes.{cut_node, chosen_same, opened_same}
+use Rattle.cp_endless_laws.specs.Reachable.{EndsAfter, node_after}
+use Rattle.cp_endless_laws.proofs.steps.Nodes.{cut_node, chosen_same, opened_same}
 use Rattle.cp_at_once_laws.specs.Whole.{GreaterLimits}
 
 module _ {S : Type 0} (sys : System S) (steps : ℕ) where

@@ -3,8 +3,8 @@ use Rattle.std.proofs.Common.{◌≡◌, ◌⊎◌, inl, inr, ◌∙◌, ◌+◌
 use Rattle.cp_at_once_laws.proofs.Words.{OutcomeKind, Turn, Over, Due, Goes, System, Repeats, repeated_part, IsTurnKnown, FollowsEach, FollowsOne, GoesThrough, some_same}
 use Rattle.cp_at_once_laws.proofs.Words.{distance, AnyOf, Moment, stretch_moments, IsCut, IsRound, spot_after, spot_by, from_there, rounds, happens_early}
 use Rattle.cp_run.specs.Run.{Node, Choosing, node_at, turn_after, stretch}
-use Rattle.cp_endless.specs.Settled.{IsIn}
-use Rattle.cp_endless.proofs.steps.Rounds.{times, many, arrives, any_moment, moment_of}
+use Rattle.cp_endless_laws.specs.Settled.{IsIn}
+use Rattle.cp_endless_laws.proofs.steps.Rounds.{times, many, arrives, any_moment, moment_of}
 use Rattle.cp_at_once_laws.specs.Search.{ComesOut, GoesRound, IsTaken, IsFollowed, SearchesAtOnce}
 
 module _ {S : Type 0} (sys : System S) where

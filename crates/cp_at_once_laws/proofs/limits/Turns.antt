@@ -2,7 +2,7 @@
 use Rattle.std.proofs.Common.{◌≡◌, ◌⊎◌, inl, inr, ◌∙◌, ℕ, zero, suc, ◌<◌, Bool, true, false, if◌then◌else◌, List, [], ◌∷◌, ◌++◌, ap, sym, refl, subst, arith}
 use Rattle.cp_at_once_laws.proofs.Words.{Event, Turn, Over, Due, Goes, Finished, AllWaiting, System, is_call, Local, Kernel, Ended}
 use Rattle.cp_run.specs.Run.{those_below, turn_among, settled_turn, turn_at, turn_after}
-use Rattle.cp_refine.proofs.Turns.{Every, those_may}
+use Rattle.cp_machine_laws.proofs.Turns.{Every, those_may}
 
 -- ---- who is among the numbers below a count
 

@@ -3,7 +3,7 @@ use Rattle.std.proofs.Common.{◌≡◌, ◌≢◌, ◌⊎◌, inl, inr, ◌∙�
 use Rattle.cp_at_once_laws.proofs.Words.{Event, Local, OutcomeKind, StepLimit, Turn, Goes, System, turn_after, CanGo, GoInStep, AnyOf, EndsAfter, SetsOut, spot_after}
 use Rattle.cp_at_once_laws.proofs.Words.{spot_by, is_call, after_steps, Spins, Commutes, HasQuietLeg, GoesThrough, IsPlain, some_same, distance, CallsAt, IsKernelCall}
 use Rattle.cp_at_once_laws.proofs.Words.{Repeats, repeated_part, ComesOut, GoesRound, SearchesAtOnce}
-use Rattle.cp_endless.proofs.steps.Rounds.{cut_if_on}
+use Rattle.cp_endless_laws.proofs.steps.Rounds.{cut_if_on}
 use Rattle.cp_at_once_laws.proofs.limits.Complete.{end_known}
 use Rattle.cp_at_once_laws.proofs.limits.InStep.{StandsAlike, stands_alike, Among, Begun, goes_through_too}
 use Rattle.cp_at_once_laws.proofs.limits.Meeting.{GoesAlone, MovesOn, loops_there, alone_there, MarkThere, marks_there}

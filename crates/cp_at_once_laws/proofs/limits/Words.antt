@@ -3,8 +3,8 @@ use Rattle.std.proofs.Common.{◌≡◌, ◌⊎◌, inl, inr, ◌∙◌, ℕ, ze
 use Rattle.cp_at_once_laws.proofs.Words.{Event, Local, Kernel, Ended, Fault, OutputFull, OutcomeKind, Finished, AllWaiting, RunError, StepLimit, OutputLimit, Turn, Over}
 use Rattle.cp_at_once_laws.proofs.Words.{Due, Goes, System, Halted, Choosing, node_at, may, settled_turn, turn_at, turn_after, stretch, opened, chosen, may_go, EndsAfter}
 use Rattle.cp_at_once_laws.proofs.Words.{SetsOut, spot_after, spot_by, is_call, Leg, calls, after_local, Comes, done, meets, goes, Commutes, IsPlain}
-use Rattle.cp_endless.specs.Settled.{IsClosed, IsIn}
-use Rattle.cp_endless.proofs.possible.Settled.{leads_in}
+use Rattle.cp_endless_laws.specs.Settled.{IsClosed, IsIn}
+use Rattle.cp_endless_laws.proofs.possible.Settled.{leads_in}
 use Rattle.cp_at_once_laws.proofs.limits.Landing.{local_goes}
 use Rattle.cp_at_once_laws.proofs.limits.Turns.{CallTurn, nobody, alone, choice, ready_in, call_turn, local_turn, which_turn, head_ready}
 use Rattle.cp_resolved.proofs.names.Alike.{same_inside as some_same}

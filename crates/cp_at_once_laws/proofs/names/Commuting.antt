@@ -7,7 +7,7 @@ use Rattle.cp_machine.specs.declared.shown.Shown as slot_shown
 use Rattle.cp_meaning.specs.Kernel.{Event, local_event, enter_event, fault_event, output_full, output_room, moved_to, process_of, starting_as, starting, displaying, kernel_step}
 use Rattle.cp_meaning.specs.State.{Environment, Status, unstarted, ready, Process, process_at, Shown, State}
 use Rattle.cp_meaning.specs.Steps.{settled, step_of, view_of, at_items, line_at}
-use Rattle.cp_refine.specs.Running.{steps, met_first, met_by_step}
+use Rattle.cp_machine_laws.specs.Running.{steps, met_first, met_by_step}
 use Rattle.cp_at_once_laws.proofs.names.Beside.{is_failure, QuietHere, Beside, BesideLaw}
 use Rattle.cp_at_once_laws.proofs.names.Opening.{first_ready, later_not_ready}
 use Rattle.cp_at_once_laws.proofs.names.States.{Kept, Known, known, fits, ready_told}

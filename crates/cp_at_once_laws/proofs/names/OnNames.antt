@@ -3,8 +3,8 @@ use Rattle.cp_at_once_laws.proofs.Words.{◌≡◌, ℕ, true, false, List, ap, 
 use Rattle.cp_at_once_laws.proofs.Words.{book_discipline, State, IsWellFormed, OutcomeKind, CanGo, GoInStep, Commutes, ShowsValue, names, IsSomewhere, IsQuietStep}
 use Rattle.cp_at_once_laws.proofs.Words.{SearchesAtOnce, HasQuietLeg, IsPlain, slots, named, is_some, named_without_output, silent_slots}
 use Rattle.cp_machine.specs.declared.shown.Shown.{Shown}
-use Rattle.cp_refine.proofs.Meaning.{goes_in_step}
-use Rattle.cp_endless.specs.Shown.{ShowsAfter}
+use Rattle.cp_machine_laws.proofs.Meaning.{goes_in_step}
+use Rattle.cp_endless_laws.specs.Shown.{ShowsAfter}
 use Rattle.cp_at_once_laws.specs.OnSlots.{IsQuietOnSlots, Tells, LeavesNone, LeavesNothingOut}
 use Rattle.cp_at_once_laws.proofs.rules.StartsKnown.{StartsKnown}
 use Rattle.cp_at_once_laws.proofs.limits.NothingLeft.{met_there, no_end_left}

@@ -14,13 +14,13 @@ use Rattle.cp_meaning.specs.State.{ComponentStatus, uninitialised, initialising,
 use Rattle.cp_meaning.proofs.Held.{kind_past}
 use Rattle.cp_resolved.specs.Resolved.{KindIs}
 use Rattle.cp_resolved.specs.TreeLayouts.{layouts_of}
-use Rattle.cp_refine.specs.Law.{Simulates}
-use Rattle.cp_refine.specs.Represents.{PhaseIs}
-use Rattle.cp_refine.proofs.Forgetting.{forgets}
-use Rattle.cp_refine.proofs.Meaning.{it, goes_in_step}
-use Rattle.cp_endless.specs.Silent.{named_without_output, silent_slots, without_output}
-use Rattle.cp_endless.proofs.names.Going.{silent_in_step}
-use Rattle.cp_endless.proofs.names.Meant.{leaves}
+use Rattle.cp_machine_laws.specs.Law.{Simulates}
+use Rattle.cp_machine_laws.specs.Represents.{PhaseIs}
+use Rattle.cp_machine_laws.proofs.Forgetting.{forgets}
+use Rattle.cp_machine_laws.proofs.Meaning.{it, goes_in_step}
+use Rattle.cp_endless_laws.specs.Silent.{named_without_output, silent_slots, without_output}
+use Rattle.cp_endless_laws.proofs.names.Going.{silent_in_step}
+use Rattle.cp_endless_laws.proofs.names.Meant.{leaves}
 use Rattle.cp_at_once_laws.specs.OnSlots.{IsQuietEvent, IsQuietOnSlots}
 use Rattle.cp_at_once_laws.proofs.rules.StartsKnown.{StartsKnown}
 use Rattle.cp_at_once_laws.proofs.names.Commuting.{within_of}
@@ -107,7 +107,7 @@ module _ (t : Tree) (r : Tables) (read : IsRead t.program) (ok : IsAccepted t) (
           record {
             below = can.below;
             ready = in_step.stays s m p stands can (event ∙ h);
-            free = ap Rattle.cp_refine.specs.Named.is_some (unpending t.program (well_formed t ok) rules ((names t).step s p) there.reached).none;
+            free = ap Rattle.cp_machine_laws.specs.Named.is_some (unpending t.program (well_formed t ok) rules ((names t).step s p) there.reached).none;
           }
 
       go : Along ((names t).step s p) p u → Along s p u

@@ -5,22 +5,22 @@ use Rattle.cp_at_once_laws.proofs.Words.{Choosing, opened, turn_after, CanGo, Go
 use Rattle.cp_at_once_laws.proofs.Words.{IsPlain, some_same, distance, Repeats, repeated_part, CallsAt, IsKernelCall, from_there, rounds, happens_early}
 use Rattle.cp_machine.specs.declared.event.Event as slot_event
 use Rattle.cp_machine.specs.declared.event.Event.TheVariants as event
-use Rattle.cp_endless.specs.Rounds.{IsRound, SetsOut, chosen_spot, opening_spot, spot_after, spot_by}
-use Rattle.cp_endless.proofs.names.Going.{in_choices}
-use Rattle.cp_endless.proofs.names.Together.{ChoicesAlike, after_there, choosing_alike, turned}
+use Rattle.cp_endless_laws.specs.Rounds.{IsRound, SetsOut, chosen_spot, opening_spot, spot_after, spot_by}
+use Rattle.cp_endless_laws.proofs.names.Going.{in_choices}
+use Rattle.cp_endless_laws.proofs.names.Together.{ChoicesAlike, after_there, choosing_alike, turned}
 use Rattle.cp_at_once_laws.specs.OnSlots.{RepeatsByOneLaw}
 use Rattle.cp_at_once_laws.proofs.rules.StartsKnown.{StartsKnown}
 use Rattle.cp_at_once_laws.specs.Whole.{GoesOnBy, IsAloneBy, SpinsBy}
 use Rattle.cp_at_once_laws.proofs.limits.NothingLeft.{met_there}
 use Rattle.cp_at_once_laws.proofs.limits.Searching.{calls_again}
-use Rattle.cp_endless.proofs.steps.Rounds.{any_moment}
+use Rattle.cp_endless_laws.proofs.steps.Rounds.{any_moment}
 use Rattle.cp_at_once_laws.proofs.names.Commuting.{plain as is_plain}
 use Rattle.cp_at_once_laws.proofs.names.Laws.{kept, beside_law, all_commute}
 use Rattle.cp_at_once_laws.proofs.names.OneMover.{Endless, one_mover, no_end}
 use Rattle.cp_at_once_laws.proofs.names.QuietLegs.{OnSlots, in_step}
 use Rattle.cp_at_once_laws.proofs.rules.Started.{starts_known}
-use Rattle.cp_endless.proofs.steps.Repeating.{none_of as each_none}
-use Rattle.cp_endless.proofs.names.WaitTogether.{plus as one_more_step, spot_there}
+use Rattle.cp_endless_laws.proofs.steps.Repeating.{none_of as each_none}
+use Rattle.cp_endless_laws.proofs.names.WaitTogether.{plus as one_more_step, spot_there}
 
 -- ---- spots of two systems that are alike
 

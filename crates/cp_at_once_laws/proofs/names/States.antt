@@ -5,7 +5,7 @@ use Rattle.cp_at_once_laws.proofs.Words.{SystemKind, Program, Tree, Component, r
 use Rattle.cp_at_once_laws.proofs.Words.{reached, OwnedState, is_some, names, IsSomewhere, status_told, program_kind}
 use Rattle.cp_tree.specs.declared.declaration.SystemKind.TheVariants as system_kind
 use Rattle.cp_meaning.specs.Steps.{first_components, process_first, processes_from, own_begun, opening, step_of, IsReached, at_first, by_step, by_forgetting}
-use Rattle.cp_refine.specs.Running.{Happening, IsMet, met_first, met_by_step, met_by_admission}
+use Rattle.cp_machine_laws.specs.Running.{Happening, IsMet, met_first, met_by_step, met_by_admission}
 use Rattle.cp_at_once_laws.proofs.pairs.Fit.{StartsKnown, Waiting, ProcessesUnknown, Fits}
 use Rattle.cp_at_once_laws.proofs.pairs.Facts.{facts}
 use Rattle.cp_at_once_laws.proofs.pairs.Shape.{step_stands}

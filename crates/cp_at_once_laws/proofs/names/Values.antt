@@ -10,9 +10,9 @@ use Rattle.cp_meaning.specs.State.{Call, Item, Signals, return_signals, continue
 use Rattle.cp_meaning.specs.Kernel.{Event, display_event, Stepped, output_room, line_of, moved_to, first_in, one_in, let_in, is_anybody_inside, entering, is_delayed_in, waits_inside, continuing, notifying, yielding, going_on, signalling, process_of, starting_as, starting, displaying, kernel_step}
 use Rattle.cp_meaning.specs.Steps.{settled, step_of, view_of, line_at}
 use Rattle.cp_run.specs.Table.{each}
-use Rattle.cp_endless.specs.Forgetting.{forgetting_system}
-use Rattle.cp_endless.specs.Moments.{Moment, moments_by, stretch_moments, moments, AnyOf}
-use Rattle.cp_endless.specs.Shown.{shown_at, ShowsAfter}
+use Rattle.cp_endless_laws.specs.Forgetting.{forgetting_system}
+use Rattle.cp_endless_laws.specs.Moments.{Moment, moments_by, stretch_moments, moments, AnyOf}
+use Rattle.cp_endless_laws.specs.Shown.{shown_at, ShowsAfter}
 
 -- ---- where it is shown
 

@@ -42,7 +42,7 @@ use Rattle.cp_resolved.proofs.declarations.EnumerationsRead.{read_few, read_diff
 use Rattle.cp_resolved.proofs.declarations.Reserving.{pending_fresh}
 use Rattle.cp_resolved.proofs.declarations.SmallTexts.{read_small}
 use Rattle.cp_at_once_laws.proofs.rules.StartsKnown.{HasNoProcess}
-use Rattle.cp_lawful.proofs.Once.{no_first as none_first, none_before}
+use Rattle.cp_meaning_laws.proofs.Once.{no_first as none_first, none_before}
 
 module _ (p : Program) where
   -- ---- one parameter

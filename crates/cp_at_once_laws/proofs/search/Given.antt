@@ -1,8 +1,8 @@
 -- From steps that commute to what the search finds on names; and what the search comes to with a limit of steps.
 use Rattle.std.proofs.Common.{◌≡◌, ◌∙◌, ℕ, suc, Bool, true, false, if◌then◌else◌, List, [], ◌∷◌, ◌++◌, Option, None, Some, ap, sym, refl}
 use Rattle.cp_at_once_laws.proofs.Words.{Tree, State, System, met_first, names, IsSomewhere, IsQuietStep, Node, Choosing, may, chosen, opened}
-use Rattle.cp_endless.specs.Reachable.{LeadsTo}
-use Rattle.cp_endless.proofs.possible.Words.{after_append}
+use Rattle.cp_endless_laws.specs.Reachable.{LeadsTo}
+use Rattle.cp_endless_laws.proofs.possible.Words.{after_append}
 use Rattle.cp_at_once_laws.specs.AtOnce.{Fails, Spins, IsAlone, Commutes, PicksQuiet, NobodyReady, GoalStays, OwnGoal}
 use Rattle.cp_at_once_laws.specs.Found.{IsOver, IsFound}
 use Rattle.cp_at_once_laws.specs.Limited.{Searches, search_begins, quickly, from_node, SearchesTrue}

@@ -5,9 +5,9 @@ use Rattle.cp_ends.proofs.Vocabulary.{stretch, opened, chosen, each, forgetting_
 use Rattle.cp_ends.proofs.Vocabulary.{repeated_part, shown_at, ShowsAfter, after_first, after_append, happens_early, goal_of, ShowsSo, AreFirsts, EndsSo, Over}
 use Rattle.cp_ends.proofs.Vocabulary.{each_append}
 use Rattle.cp_run.specs.declared.outcome.Turn.TheVariants as turn
-use Rattle.cp_endless.specs.Rounds.{IsCut, spot_after, spot_by}
-use Rattle.cp_endless.proofs.steps.Alone.{alone}
-use Rattle.cp_endless.proofs.steps.Nodes.{cut_node, cut_or_not, chosen_same, opened_same}
+use Rattle.cp_endless_laws.specs.Rounds.{IsCut, spot_after, spot_by}
+use Rattle.cp_endless_laws.proofs.steps.Alone.{alone}
+use Rattle.cp_endless_laws.proofs.steps.Nodes.{cut_node, cut_or_not, chosen_same, opened_same}
 use Rattle.cp_ends.specs.Named.{HasNoCut}
 use Rattle.cp_ends.specs.declared.end.End as code
 use Rattle.cp_ends.proofs.named.Kinds.{cut_round, no_steps_more}

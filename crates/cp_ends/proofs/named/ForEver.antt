@@ -2,15 +2,15 @@
 use Rattle.std.proofs.Common.{◌≡◌, inl, inr, ◌∙◌, ◌+◌, ◌≤◌, ℕ, zero, suc, List, Option, None, Some, refl, sym, ap, subst, arith}
 use Rattle.cp_ends.proofs.Vocabulary.{Each, Turn, System, turn_after, AnyOf, Moment, moments_by, stretch_moments}
 use Rattle.cp_run.specs.declared.outcome.Turn.TheVariants.{Over, Due, Goes}
-use Rattle.cp_endless.specs.Repeats.{CallsAt, IsAloneAfter, Repeats, SpinsAfter}
-use Rattle.cp_endless.specs.Rounds.{IsRound, SetsOut, spot_after, spot_by}
-use Rattle.cp_endless.proofs.steps.Rounds.{from_there, happens_early, rounds}
+use Rattle.cp_endless_laws.specs.Repeats.{CallsAt, IsAloneAfter, Repeats, SpinsAfter}
+use Rattle.cp_endless_laws.specs.Rounds.{IsRound, SetsOut, spot_after, spot_by}
+use Rattle.cp_endless_laws.proofs.steps.Rounds.{from_there, happens_early, rounds}
 use Rattle.cp_ends.specs.ForEver.{GoesOnForEver, IsAloneForEver, SpinsForEver}
 use Rattle.cp_ends.proofs.named.Kinds.{no_steps_more}
 use Rattle.cp_ends.proofs.named.Later.{moments_split}
 use Rattle.cp_ends.proofs.words.Edges.{some_same}
-use Rattle.cp_endless.proofs.steps.Repeating.{none_of}
-use Rattle.cp_endless.proofs.Basics.{any_right, distance}
+use Rattle.cp_endless_laws.proofs.steps.Repeating.{none_of}
+use Rattle.cp_endless_laws.proofs.Basics.{any_right, distance}
 
 module _ {S : Type 0} (sys : System S) where
   moment_of : (P : Moment S → Type 0) (n : ℕ) (s : S) (p : ℕ) → AnyOf P (stretch_moments sys n s p) → (i : ℕ) × (t : S) × (q : ℕ) × (spot_after sys i s p ≡ Some (t, q)) × P (record { state = t; mover = q })

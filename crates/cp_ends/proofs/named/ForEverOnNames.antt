@@ -3,21 +3,21 @@ use Rattle.cp_ends.proofs.Vocabulary.{◌≡◌, inl, inr, ◌∙◌, ℕ, zero,
 use Rattle.cp_ends.proofs.Vocabulary.{slots, System, Choosing, opened, from_there}
 use Rattle.cp_meaning.specs.State.{Discipline, State}
 use Rattle.cp_resolved.specs.TreeLayouts.{layouts_of}
-use Rattle.cp_refine.specs.InStep.{CanGo, GoInStep}
-use Rattle.cp_refine.specs.Law.{Simulates}
-use Rattle.cp_refine.specs.Named.{named, discipline_of}
-use Rattle.cp_refine.proofs.Forgetting.{forgets}
-use Rattle.cp_refine.proofs.Meaning.{goes_in_step}
-use Rattle.cp_endless.specs.Repeats.{IsKernelCall}
-use Rattle.cp_endless.specs.Rounds.{SetsOut, chosen_spot, opening_spot, spot_after}
-use Rattle.cp_endless.specs.Silent.{named_without_output, silent_named, silent_slots, without_output}
-use Rattle.cp_endless.specs.Standstill.{GoesOn}
-use Rattle.cp_endless.proofs.names.Going.{in_choices, silent_in_step}
-use Rattle.cp_endless.proofs.names.Meant.{leaves}
-use Rattle.cp_endless.proofs.names.Together.{ChoicesAlike, after_there, choosing_alike, turned}
+use Rattle.cp_machine_laws.specs.InStep.{CanGo, GoInStep}
+use Rattle.cp_machine_laws.specs.Law.{Simulates}
+use Rattle.cp_machine_laws.specs.Named.{named, discipline_of}
+use Rattle.cp_machine_laws.proofs.Forgetting.{forgets}
+use Rattle.cp_machine_laws.proofs.Meaning.{goes_in_step}
+use Rattle.cp_endless_laws.specs.Repeats.{IsKernelCall}
+use Rattle.cp_endless_laws.specs.Rounds.{SetsOut, chosen_spot, opening_spot, spot_after}
+use Rattle.cp_endless_laws.specs.Silent.{named_without_output, silent_named, silent_slots, without_output}
+use Rattle.cp_endless_laws.specs.Standstill.{GoesOn}
+use Rattle.cp_endless_laws.proofs.names.Going.{in_choices, silent_in_step}
+use Rattle.cp_endless_laws.proofs.names.Meant.{leaves}
+use Rattle.cp_endless_laws.proofs.names.Together.{ChoicesAlike, after_there, choosing_alike, turned}
 use Rattle.cp_ends.specs.ForEver.{GoesOnForEver, IsAloneForEver, SpinsForEver, CallsIn}
 use Rattle.cp_ends.proofs.words.Edges.{some_same}
-use Rattle.cp_endless.proofs.names.WaitTogether.{plus as one_more_step, spot_there}
+use Rattle.cp_endless_laws.proofs.names.WaitTogether.{plus as one_more_step, spot_there}
 
 -- where two systems are alike from choice to choice, and steps tell the same
 module _ {S T : Type 0} (a : System S) (b : System T) (steps : ℕ) (R : S → T → Type 0) (V : S → T → ℕ → Type 0) (h : ChoicesAlike a b steps R V) (tells : (s : S) (t : T) (p : ℕ) → V s t p → a.event s p ≡ b.event t p) where

@@ -2,11 +2,11 @@
 use Rattle.std.proofs.Common.{◌≡◌, ◌⊎◌, inl, inr, ◌∙◌, ◌+◌, ℕ, zero, suc, Bool, true, false, if◌then◌else◌, List, [], ◌∷◌, ◌++◌, map, None, Some, refl, sym, ap, subst, arith}
 use Rattle.cp_ends.proofs.Vocabulary.{Contains, OutcomeKind, StepLimit, Turn, System, Node, Halted, Choosing, may, opened, chosen, forgetting_system, node_after}
 use Rattle.cp_ends.proofs.Vocabulary.{LeadsTo, EndsAfter, Repeats, repeated_part, after_append, repeating, has_call, EndsSo, AreFirsts, Over, Alone, Spins}
-use Rattle.cp_endless.specs.MoreSteps.{CutsAreRounds}
-use Rattle.cp_endless.specs.Rounds.{IsCut, IsRound, SetsOut, opening_spot, chosen_spot}
-use Rattle.cp_endless.specs.Settled.{IsIn, IsSettled}
-use Rattle.cp_endless.proofs.steps.MoreSteps.{more_steps_rounds}
-use Rattle.cp_endless.proofs.steps.Nodes.{cut_node}
+use Rattle.cp_endless_laws.specs.MoreSteps.{CutsAreRounds}
+use Rattle.cp_endless_laws.specs.Rounds.{IsCut, IsRound, SetsOut, opening_spot, chosen_spot}
+use Rattle.cp_endless_laws.specs.Settled.{IsIn, IsSettled}
+use Rattle.cp_endless_laws.proofs.steps.MoreSteps.{more_steps_rounds}
+use Rattle.cp_endless_laws.proofs.steps.Nodes.{cut_node}
 use Rattle.cp_ends.specs.Named.{kind_of, kinds_of}
 use Rattle.cp_ends.specs.declared.end.End as code
 use Rattle.cp_ends.proofs.words.Edges.{last_same, not_empty, choosing_same, edge_node, EndsWith, node_edge}

@@ -3,8 +3,8 @@ use Rattle.std.proofs.Common.{◌≡◌, inl, inr, ◌∙◌, ◌+◌, ℕ, zero
 use Rattle.cp_ends.proofs.Vocabulary.{Contains, Contains-append_left, Contains-append_right, Shown, Turn, System, turn_after, each, forgetting_system, Moment}
 use Rattle.cp_ends.proofs.Vocabulary.{moments_by, stretch_moments, SetsOut, spot_after, spot_by, shown_at, ShowsAfter, each_append, distance}
 use Rattle.cp_run.specs.declared.outcome.Turn.TheVariants as turn
-use Rattle.cp_endless.specs.Repeats.{Repeats, repeated_part, EndsAtEachLimit}
-use Rattle.cp_endless.proofs.steps.Alone.{alone, leads_more}
+use Rattle.cp_endless_laws.specs.Repeats.{Repeats, repeated_part, EndsAtEachLimit}
+use Rattle.cp_endless_laws.proofs.steps.Alone.{alone, leads_more}
 use Rattle.cp_ends.specs.Ends.{ShowsAgain}
 use Rattle.cp_ends.proofs.words.Edges.{some_same, edge_spot, edge_moments, spot_edge, edge_shows}
 

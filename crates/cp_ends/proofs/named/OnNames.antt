@@ -5,15 +5,15 @@ use Rattle.cp_ends.proofs.Vocabulary.{All, Contains, Tree, IsRead, plain, laid, 
 use Rattle.cp_ends.proofs.Vocabulary.{EndsAfter, repeating, EndsSo, ShowsSo, same_key, Over, Alone, Spins}
 use Rattle.std.proofs.lemmas.Bool.{cases_order, lt-ltb}
 use Rattle.cp_meaning.specs.State.{Discipline}
-use Rattle.cp_refine.specs.Named.{discipline_of}
-use Rattle.cp_refine.proofs.Meaning.{meaning_law}
-use Rattle.cp_endless.specs.Layers.{IsPossibleTo}
-use Rattle.cp_endless.specs.Meaning.{MeansTheSame}
-use Rattle.cp_endless.specs.Repeats.{EndsAtEachLimit}
-use Rattle.cp_endless.specs.Silent.{ShowsLess, without_output, silent_slots, silent_named}
-use Rattle.cp_endless.proofs.names.Meant.{endless_meaning, settled_meaning}
-use Rattle.cp_endless.proofs.possible.Tables.{witnesses}
-use Rattle.cp_endless.proofs.slots.Output.{slots_forget}
+use Rattle.cp_machine_laws.specs.Named.{discipline_of}
+use Rattle.cp_machine_laws.proofs.Meaning.{meaning_law}
+use Rattle.cp_endless_laws.specs.Layers.{IsPossibleTo}
+use Rattle.cp_endless_laws.specs.Meaning.{MeansTheSame}
+use Rattle.cp_endless_laws.specs.Repeats.{EndsAtEachLimit}
+use Rattle.cp_endless_laws.specs.Silent.{ShowsLess, without_output, silent_slots, silent_named}
+use Rattle.cp_endless_laws.proofs.names.Meant.{endless_meaning, settled_meaning}
+use Rattle.cp_endless_laws.proofs.possible.Tables.{witnesses}
+use Rattle.cp_endless_laws.proofs.slots.Output.{slots_forget}
 use Rattle.cp_ends.specs.Firsts.{is_up_to, in_dictionary, IsFirst, HasWord, Within}
 use Rattle.cp_ends.specs.Named.{AnswerMeaningLaw, AnswerToMeaningLaw, AreEndsOnNames, AreValuesOnNames, EndsOnNames, RunsOnNames, ShowsOnNames, IsAnswerOnSlots, IsAnswerOnNames, IsAnswerToOnSlots, IsAnswerToOnNames, IsLookedAt, IsSchedule, IsTold, IsValueTold, kind_of, kinds_of}
 use Rattle.cp_ends.specs.declared.end.End.{End}

@@ -3,7 +3,7 @@ use Rattle.std.proofs.Common.{◌≡◌, ◌⊎◌, inl, inr, ◌∙◌, ℕ, Bo
 use Rattle.cp_ends.proofs.Vocabulary.{Contains, Shown, Turn, Goes, System, each, forgetting_system, node_after, LeadsTo, spot_by, chosen_spot, SetsOut, shown_at}
 use Rattle.cp_ends.proofs.Vocabulary.{ShowsAfter, after_first, after_append}
 use Rattle.cp_run.specs.Run.{Node, Halted, Choosing, may, node_at, turn_at, settled_turn, stretch, opened, chosen}
-use Rattle.cp_endless.specs.Moments.{Moment, moments_by, stretch_moments, moments}
+use Rattle.cp_endless_laws.specs.Moments.{Moment, moments_by, stretch_moments, moments}
 use Rattle.cp_ends.proofs.Searching.Arrivals.{last_cases as last_of}
 
 -- ---- words

@@ -6,7 +6,7 @@ use Rattle.std.proofs.lemmas.Bool.{cases_order, eq-eqb}
 use Rattle.std.proofs.lemmas.Bool.Decides.{eqb_tells}
 use Rattle.cp_machine.specs.declared.event.Event.TheVariants.{Kernel}
 use Rattle.cp_run.specs.declared.outcome.Turn.TheVariants as turn
-use Rattle.cp_endless.specs.Repeats.{CallsAt, IsKernelCall, Repeats, repeated_part}
+use Rattle.cp_endless_laws.specs.Repeats.{CallsAt, IsKernelCall, Repeats, repeated_part}
 use Rattle.cp_ends.specs.Arrivals.{return_at, first_return, return_within, is_call, has_call, cut_arrival, goal_of, stretch_by, stretch_arrival, arrival_by}
 use Rattle.cp_ends.specs.declared.end.End as code
 use Rattle.cp_ends.proofs.words.Edges.{some_same, edge_node, edge_spot, edge_shown}

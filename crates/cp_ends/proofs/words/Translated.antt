@@ -4,7 +4,7 @@ use Rattle.cp_ends.proofs.Vocabulary.{Contains, Contains-append_left, Contains-a
 use Rattle.cp_ends.proofs.Vocabulary.{Choosing, may, settled_turn, opened, chosen, each, forgetting_system, Moment, AnyOf, stretch_moments, node_after, LeadsTo}
 use Rattle.cp_ends.proofs.Vocabulary.{EndsAfter, SetsOut, spot_after, shown_at, after_first, repeating, happens_early, EndsSo, ShowsSo, Over, Alone, Spins}
 use Rattle.cp_run.specs.declared.outcome.OutcomeKind.TheVariants.{Finished, AllWaiting, RunError, ChoiceLimit, StepLimit, OutputLimit}
-use Rattle.cp_endless.specs.Repeats.{Repeats, repeated_part, IsAloneAfter, SpinsAfter}
+use Rattle.cp_endless_laws.specs.Repeats.{Repeats, repeated_part, IsAloneAfter, SpinsAfter}
 use Rattle.cp_ends.specs.Graph.{Goal, Place, End, Arrival, Graph, further, arrival_from, ArrivesAt, LeadsToPlace, LeadsToEnd, ShowsLast}
 use Rattle.cp_ends.specs.Arrivals.{arrival_by, goal_of, has_call, stretch_arrival, first_arrival, next_arrival, ends_graph}
 use Rattle.cp_ends.specs.declared.end.End as code

@@ -20,7 +20,7 @@ use Rattle.cp_symbols.specs.declared.names.LayoutMeaning.TheVariants as meaning
 use Rattle.cp_layout.specs.Layers as layers
 use Rattle.cp_layout.specs.Layers.{Layer, find}
 use Rattle.cp_layout.specs.LaidDeclarations.{constant, constants, type_definition, type_definitions, components_of, variable_with, variable, variables_of, variables, local, locals_of, local_variables, permanent_part, permanent_parts, local_part, local_parts, Parameters, constant_parameter, constant_parameters_of, constant_groups, var_parameter, var_parameters_of, parameter_group, parameter_groups, heading, system_parameter, system_parameters_of, system_groups}
-use Rattle.cp_lawful.proofs.Classes as classes
+use Rattle.cp_meaning_laws.proofs.Classes as classes
 
 -- ---- one name
 

@@ -2,7 +2,7 @@
 use Rattle.std.proofs.Common.{◌≡◌, ◌+◌, ◌<◌, ◌≤◌, ℕ, zero, suc, List, [], ◌∷◌, ◌++◌, length, Some, None, slice_get, ap, ◌∙◌, ◌⊎◌, inl, inr, arith}
 use Rattle.cp_resolved.proofs.Words.{length-map, none-some, same_Some, Program, Tree, Tables, component_at, Name, Ty, array_over, component_of}
 use Rattle.cp_resolved.proofs.Words.{length_of_range, Variable, program_system, system_of, first_component, first_components, ground_of, Stands, layouts_of}
-use Rattle.cp_lawful.proofs.Earlier.{TyBelow, VariablesBelow, systems_below}
+use Rattle.cp_meaning_laws.proofs.Earlier.{TyBelow, VariablesBelow, systems_below}
 use Rattle.cp_meaning.specs.Components.{Path, Listed, step_down, listed_elements, listed_variable, listed_variables, listed, components_of}
 use Rattle.cp_meaning.specs.State as named
 use Rattle.cp_resolved.proofs.components.ComponentsStand.{map_there}

@@ -29,7 +29,7 @@ use Rattle.cp_resolved.proofs.systems.OwnedParts.{all_contained, AreLow}
 use Rattle.cp_resolved.proofs.declarations.Plain.{plain_law}
 use Rattle.cp_resolved.proofs.declarations.SmallTexts.{read_small}
 use Rattle.cp_resolved.proofs.sound.SoundComponents.{tabled, listing_of, layer_of}
-use Rattle.cp_lawful.proofs.Once.{or_left, or_right, uses_sound as faults_left}
+use Rattle.cp_meaning_laws.proofs.Once.{or_left, or_right, uses_sound as faults_left}
 
 -- ---- what is listed, by how many components there are
 

@@ -10,8 +10,8 @@ use Rattle.cp_check.specs.Headings as headings
 use Rattle.cp_check.specs.Headings.{Headed, after_faults, parameters_and_result, check_heading, heading, announce, announce_judged}
 use Rattle.cp_check.specs.Routines as routines
 use Rattle.cp_check.specs.Systems as systems
-use Rattle.cp_lawful.proofs.Kept.{Keeps, same, after, names_reserved, all_added}
-use Rattle.cp_lawful.proofs.Told.{none_after}
+use Rattle.cp_meaning_laws.proofs.Kept.{Keeps, same, after, names_reserved, all_added}
+use Rattle.cp_meaning_laws.proofs.Told.{none_after}
 use Rattle.cp_resolved.specs.BodiesFormed.{DistinctLaw}
 use Rattle.cp_resolved.specs.Distinct.{IsOther, AreDistinct, all_names, part_names, kind_names, parameter_names, AreApart, IsDistinctRoutine, IsDistinctSystem, IsDistinctDefinition, IsDistinctPart, IsNoComponent, AreValues}
 use Rattle.cp_resolved.proofs.declarations.OnceRoutines.{IsKnown}

@@ -7,9 +7,9 @@ use Rattle.cp_scope.specs.Scopes.{Names, Scope, Scopes, find, with_name, without
 use Rattle.cp_check.specs.declared.types.Spot.TheVariants as spot
 use Rattle.cp_check.specs.Headings.{Headed, after_faults, parameters_and_result, check_heading, heading, announce, announce_judged}
 use Rattle.cp_check.specs.Routines as routines
-use Rattle.cp_lawful.proofs.Classes.{reserved_names, reserved_new, last_found}
-use Rattle.cp_lawful.proofs.Kept.{find_before, last_is, written_kept, parts_kept}
-use Rattle.cp_lawful.proofs.Once.{no_left, no_right, no_first, none_before, some_is}
+use Rattle.cp_meaning_laws.proofs.Classes.{reserved_names, reserved_new, last_found}
+use Rattle.cp_meaning_laws.proofs.Kept.{find_before, last_is, written_kept, parts_kept}
+use Rattle.cp_meaning_laws.proofs.Once.{no_left, no_right, no_first, none_before, some_is}
 
 -- ---- names that are declared
 

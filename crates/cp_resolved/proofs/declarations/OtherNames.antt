@@ -12,8 +12,8 @@ use Rattle.cp_check.specs.declared.types.Spot.TheVariants as spot
 use Rattle.cp_check.specs.Records.{Fields, check_fields, reserve_fields}
 use Rattle.cp_check.specs.Types.{Step, nothing, member, members, base_of, simple_type, shape_of_array, to_array, set_of, simple_at, shape_within_limits, sound_shape, to_record, typed, groups_typed, group_typed}
 use Rattle.cp_check.specs.Declarations.{reserve_name, reserve_names, add_names, to_kind, to_variable, constant_step, constant_steps, type_step, type_steps, variable_step, variable_steps, part_step, part_steps}
-use Rattle.cp_lawful.proofs.Classes.{reserved_names, reserved_new}
-use Rattle.cp_lawful.proofs.Kept.{Keeps, names_added, added, name_reserved, names_reserved, constants_kept, type_kept, types_kept, variable_kept, part_kept}
+use Rattle.cp_meaning_laws.proofs.Classes.{reserved_names, reserved_new}
+use Rattle.cp_meaning_laws.proofs.Kept.{Keeps, names_added, added, name_reserved, names_reserved, constants_kept, type_kept, types_kept, variable_kept, part_kept}
 use Rattle.cp_resolved.proofs.agreeing.Agreeing.{none_of_both}
 use Rattle.cp_resolved.proofs.declarations.OnceRoutines.{IsKnown, still_known, known_named}
 use Rattle.cp_resolved.proofs.names.PermanentNames.{left_true as or_first}

@@ -8,8 +8,8 @@ use Rattle.cp_scope.specs.Scopes.{Names, Scopes, settle, enter, start}
 use Rattle.cp_check.specs.declared.types.Spot.TheVariants as spot
 use Rattle.cp_check.specs.Declarations.{to_variable, reserve_name, reserve_names, add_all, variable_step, variable_steps, part_step, part_steps}
 use Rattle.cp_check.specs.Systems as systems
-use Rattle.cp_lawful.proofs.Kept.{Keeps, same, after, names_reserved, all_added, constants_kept, types_kept, variable_kept, definitions_kept}
-use Rattle.cp_lawful.proofs.Once.{no_left, no_right, no_first, inside_sound, defined_sound, declarations_sound}
+use Rattle.cp_meaning_laws.proofs.Kept.{Keeps, same, after, names_reserved, all_added, constants_kept, types_kept, variable_kept, definitions_kept}
+use Rattle.cp_meaning_laws.proofs.Once.{no_left, no_right, no_first, inside_sound, defined_sound, declarations_sound}
 use Rattle.cp_meaning.specs.Scopes.{Meaning, permanent_variable, Scope, find, seen_inside}
 use Rattle.cp_meaning.specs.Declarations.{Variable, Block, Heading, names_of, named_variables, parameters_named, type_in, with_names, variables_in, part_in, parts_in, type_named, with_group, with_groups}
 use Rattle.cp_meaning.specs.Systems.{SystemMeaning, system_in, with_routines, Declared, definition_in, definitions_in, program_part_in, program_parts_in, declared, own_meaning, or_own, system_of}

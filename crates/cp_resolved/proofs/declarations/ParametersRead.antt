@@ -12,7 +12,7 @@ use Rattle.cp_check.specs.declared.types.Spot.TheVariants as spot
 use Rattle.cp_check.specs.Constants.{constant}
 use Rattle.cp_check.specs.Types.{Step, nothing, member, members, simple_type, keep_array, keep_record, typed, groups_typed, group_typed}
 use Rattle.cp_check.specs.Declarations.{meaning_or_none, reserve_name, reserve_names, add_names, add_all, add_one, to_constant, to_kind, to_variable, constant_step, constant_steps, type_step, type_steps, variable_step, variable_steps, part_step, part_steps}
-use Rattle.cp_lawful.proofs.Kept.{pending_names}
+use Rattle.cp_meaning_laws.proofs.Kept.{pending_names}
 use Rattle.cp_resolved.proofs.agreeing.AgreeingParameters.{read_both}
 
 -- neither a parameter nor a routine

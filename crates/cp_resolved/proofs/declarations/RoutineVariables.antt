@@ -12,7 +12,7 @@ use Rattle.cp_check.specs.Routines as routines
 use Rattle.cp_check.specs.Routines.{routine_context, routine_step, routine_steps}
 use Rattle.cp_check.specs.Statements.{statements}
 use Rattle.cp_check.specs.Systems as systems
-use Rattle.cp_lawful.proofs.Once.{inside_sound, defined_sound, parts_sound, declarations_sound, no_first as none_first, none_before}
+use Rattle.cp_meaning_laws.proofs.Once.{inside_sound, defined_sound, parts_sound, declarations_sound, no_first as none_first, none_before}
 use Rattle.cp_meaning.specs.Scopes as scopes
 use Rattle.cp_scope.specs.Scopes.{Names}
 use Rattle.cp_resolved.proofs.Words.{AreDifferent, Block}

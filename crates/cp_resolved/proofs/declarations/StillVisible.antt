@@ -12,7 +12,7 @@ use Rattle.cp_check.specs.declared.types.Spot.TheVariants as spot
 use Rattle.cp_check.specs.Records.{Fields, check_fields_of, reserve_fields}
 use Rattle.cp_check.specs.Systems as systems
 use Rattle.cp_check.specs.Types as typing
-use Rattle.cp_lawful.proofs.Kept.{Keeps, added, name_reserved, type_kept, constants_kept, types_kept, definition_kept}
+use Rattle.cp_meaning_laws.proofs.Kept.{Keeps, added, name_reserved, type_kept, constants_kept, types_kept, definition_kept}
 use Rattle.cp_meaning.specs.Types.{Base, Ty, enumerated}
 use Rattle.cp_meaning.specs.Scopes.{Meaning, constant_meaning, type_meaning, routine_meaning, Scope, find}
 use Rattle.cp_meaning.specs.Declarations.{names_of, constant_of, with_constants, simple_in, type_in, fields_in, constants_in, types_in}

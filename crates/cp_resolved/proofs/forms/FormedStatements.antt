@@ -13,7 +13,7 @@ use Rattle.cp_check.specs.Calls as calls
 use Rattle.cp_check.specs.Calls.{unless}
 use Rattle.cp_check.specs.Cases as cases
 use Rattle.cp_check.specs.Statements as statements
-use Rattle.cp_lawful.proofs.Loud.{Loud, Heard}
+use Rattle.cp_meaning_laws.proofs.Loud.{Loud, Heard}
 use Rattle.cp_meaning.specs.Scopes as scopes
 use Rattle.cp_resolved.specs.Compiled.{expression_form}
 use Rattle.cp_resolved.specs.Formed.{HasOrdinal, HasQueue, IsPerformed}

@@ -5,7 +5,7 @@ use Rattle.cp_resolved.proofs.Words.{SystemMeaning, program_system, system_of, c
 use Rattle.cp_resolved.proofs.Words.{system_variables, IsFramed, is_parameter, look, IsPlaced, place_of, meaning_at, Stands, layouts_of}
 use Rattle.cp_slots.specs.declared.place.ComponentPlace.TheVariants as place_in
 use Rattle.cp_slots.specs.Systems.{IsOf, Names}
-use Rattle.cp_lawful.proofs.Earlier.{TyBelow, VariablesBelow, ParametersBelow, systems_below}
+use Rattle.cp_meaning_laws.proofs.Earlier.{TyBelow, VariablesBelow, ParametersBelow, systems_below}
 use Rattle.cp_meaning.specs.Types.{Ty, Range, array_over, component_of, length_of_range}
 use Rattle.cp_meaning.specs.Components.{Path, Listed, step_down, listed_elements, listed_variable, listed_variables, listed, components_of}
 use Rattle.cp_meaning.specs.State as named

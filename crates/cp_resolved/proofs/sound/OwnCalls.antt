@@ -14,10 +14,10 @@ use Rattle.cp_check.specs.Routines as routines
 use Rattle.cp_check.specs.Systems as systems
 use Rattle.cp_check.specs.Statements.{statements}
 use Rattle.cp_check.specs.Faults.{declarations, program_context, open_routine as checked_opened, faults_of}
-use Rattle.cp_lawful.proofs.Classes as classes
-use Rattle.cp_lawful.proofs.Once.{no_left, no_right, no_first, none_before, inside_sound, defined_sound, declarations_sound, parts_sound, uses_sound as limits_sound}
-use Rattle.cp_lawful.proofs.Told as told
-use Rattle.cp_lawful.proofs.Told.{Told, heard}
+use Rattle.cp_meaning_laws.proofs.Classes as classes
+use Rattle.cp_meaning_laws.proofs.Once.{no_left, no_right, no_first, none_before, inside_sound, defined_sound, declarations_sound, parts_sound, uses_sound as limits_sound}
+use Rattle.cp_meaning_laws.proofs.Told as told
+use Rattle.cp_meaning_laws.proofs.Told.{Told, heard}
 use Rattle.cp_symbols.specs.declared.names.LayoutMeaning as laid_meaning
 use Rattle.cp_symbols.specs.declared.names.LayoutMeaning.TheVariants as meaning
 use Rattle.cp_layout.specs.Layers as layers

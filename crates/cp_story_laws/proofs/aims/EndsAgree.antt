@@ -5,7 +5,7 @@ use Rattle.cp_tree.specs.declared.declaration.SystemKind.TheVariants as system_k
 use Rattle.cp_tree.specs.Read.{IsRead}
 use Rattle.cp_tree.specs.Syntax.{Tree, Expression, Expressions, Designator, invoke}
 use Rattle.cp_layout.specs.Laid.{plain, laid}
-use Rattle.cp_lawful.specs.Accepted.{IsAccepted}
+use Rattle.cp_meaning_laws.specs.Accepted.{IsAccepted}
 use Rattle.cp_slots.specs.declared.item.Action.{Action}
 use Rattle.cp_slots.specs.declared.item.Action.TheVariants as action
 use Rattle.cp_slots.specs.declared.tables.ComponentKind.{ComponentKind}
@@ -27,16 +27,16 @@ use Rattle.cp_meaning.specs.Steps.{view_of}
 use Rattle.cp_resolved.specs.Layouts.{Here, here}
 use Rattle.cp_resolved.specs.Stands.{Ground, InvokedBy, ItemAt, Performed, first_of}
 use Rattle.cp_resolved.specs.TreeLayouts.{layouts_of}
-use Rattle.cp_refine.specs.InStep.{CanGo}
-use Rattle.cp_refine.specs.Kinds.{SameKind}
-use Rattle.cp_refine.specs.Law.{ground_of}
-use Rattle.cp_refine.specs.Named.{named, named_discipline, signals_of}
-use Rattle.cp_refine.specs.Remaining.{ItemIs}
-use Rattle.cp_refine.specs.Represents.{CallsHold, CallIs, StackIs, frames_of, monitor_left, own_memory}
-use Rattle.cp_refine.proofs.HoldsInReached.{reached_stands}
-use Rattle.cp_refine.proofs.ReachedKinds.{kinds_agree}
-use Rattle.cp_refine.proofs.control.Control.{scope_is}
-use Rattle.cp_refine.proofs.steps.Going.{Going, takes_one}
+use Rattle.cp_machine_laws.specs.InStep.{CanGo}
+use Rattle.cp_machine_laws.specs.Kinds.{SameKind}
+use Rattle.cp_machine_laws.specs.Law.{ground_of}
+use Rattle.cp_machine_laws.specs.Named.{named, named_discipline, signals_of}
+use Rattle.cp_machine_laws.specs.Remaining.{ItemIs}
+use Rattle.cp_machine_laws.specs.Represents.{CallsHold, CallIs, StackIs, frames_of, monitor_left, own_memory}
+use Rattle.cp_machine_laws.proofs.HoldsInReached.{reached_stands}
+use Rattle.cp_machine_laws.proofs.ReachedKinds.{kinds_agree}
+use Rattle.cp_machine_laws.proofs.control.Control.{scope_is}
+use Rattle.cp_machine_laws.proofs.steps.Going.{Going, takes_one}
 use Rattle.cp_story.specs.Aimed.{aim_in, aim_of_top}
 use Rattle.cp_story.specs.Aimed as aimed
 use Rattle.cp_story_laws.specs.Aims.{ends_call, ends_first, ends_now, is_continue, lets_caller_return}

@@ -15,11 +15,11 @@ use Rattle.cp_meaning.specs.Types.{Ty, queue_type}
 use Rattle.cp_meaning.specs.Values.{Value, part_at, queue_value}
 use Rattle.cp_resolved.specs.Layouts.{Layouts, look}
 use Rattle.cp_resolved.specs.Stands.{Ground}
-use Rattle.cp_refine.specs.Represents.{BeginsAt, InComponent, LiesAt, PlaceAt, Represents, all_permanents, further}
-use Rattle.cp_refine.proofs.assignments.Writing.{ComponentsApart}
-use Rattle.cp_refine.proofs.control.Moving.{set_here, value_in}
-use Rattle.cp_refine.proofs.expressions.Reading.{part_lies}
-use Rattle.cp_refine.proofs.queues.QueueWriting as writing
+use Rattle.cp_machine_laws.specs.Represents.{BeginsAt, InComponent, LiesAt, PlaceAt, Represents, all_permanents, further}
+use Rattle.cp_machine_laws.proofs.assignments.Writing.{ComponentsApart}
+use Rattle.cp_machine_laws.proofs.control.Moving.{set_here, value_in}
+use Rattle.cp_machine_laws.proofs.expressions.Reading.{part_lies}
+use Rattle.cp_machine_laws.proofs.queues.QueueWriting as writing
 
 -- an address is that of one cell
 one_cell : (a b : ℕ) → Permanent a ≡ Permanent b → a ≡ b

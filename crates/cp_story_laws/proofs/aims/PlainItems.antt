@@ -12,7 +12,7 @@ use Rattle.cp_meaning.specs.Types.{Ty, ordinal, set_over, array_over, record_wit
 use Rattle.cp_resolved.specs.Compiled.{Form, as_ordinal, as_set, as_place}
 use Rattle.cp_resolved.specs.Layouts.{Here}
 use Rattle.cp_resolved.specs.Stands.{Ground, AssignedBy, CallItem, ItemAt, Own}
-use Rattle.cp_refine.specs.Remaining.{ItemIs}
+use Rattle.cp_machine_laws.specs.Remaining.{ItemIs}
 use Rattle.cp_story.specs.Aimed.{is_continue, queue_of}
 
 -- neither of the two actions

@@ -2,7 +2,7 @@
 use Rattle.std.proofs.Common.{◌≡◌, ◌∙◌, ℕ, List, [], Option, Some, None, ap, ap₂, sym, refl}
 use Rattle.std.specs.Prelude.{map}
 use Rattle.cp_tree.specs.Syntax.{Tree}
-use Rattle.cp_lawful.specs.Accepted.{IsAccepted}
+use Rattle.cp_meaning_laws.specs.Accepted.{IsAccepted}
 use Rattle.cp_slots.specs.declared.tables.ComponentKind.TheVariants as kind
 use Rattle.cp_slots.specs.Tables.{Tables, component_at}
 use Rattle.cp_store.specs.declared.memory.Address.TheVariants.{Permanent}
@@ -18,9 +18,9 @@ use Rattle.cp_legend_laws.specs.Statements.{PlacesAreNamed}
 use Rattle.cp_legend_laws.proofs.OwnMonitors.{HasOwnNumber}
 use Rattle.cp_resolved.specs.Small.{Each}
 use Rattle.cp_resolved.specs.TreeLayouts.{layouts_of}
-use Rattle.cp_refine.specs.Law.{Simulates}
-use Rattle.cp_refine.specs.Prepared.{Prepared}
-use Rattle.cp_refine.specs.Represents.{PlaceAt}
+use Rattle.cp_machine_laws.specs.Law.{Simulates}
+use Rattle.cp_machine_laws.specs.Prepared.{Prepared}
+use Rattle.cp_machine_laws.specs.Represents.{PlaceAt}
 use Rattle.cp_story.specs.Story.{NamedQueue, queue_told}
 use Rattle.cp_story_laws.specs.Aims.{component_of, queue_named}
 use Rattle.cp_story_laws.specs.MonitorNumbers.{monitor_of}

@@ -3,7 +3,7 @@ use Rattle.std.proofs.Common.{◌≡◌, ◌∙◌, ℕ, ◌+◌, ◌<◌, ◌�
 use Rattle.std.proofs.lemmas.List.{length-map}
 use Rattle.std.specs.Prelude.{map, unwrap_or}
 use Rattle.cp_tree.specs.Syntax.{Tree}
-use Rattle.cp_lawful.specs.Accepted.{IsAccepted}
+use Rattle.cp_meaning_laws.specs.Accepted.{IsAccepted}
 use Rattle.cp_slots.specs.declared.tables.Component.{Component}
 use Rattle.cp_slots.specs.declared.tables.ComponentKind.TheVariants as kind
 use Rattle.cp_slots.specs.Tables.{Tables, component_at}
@@ -24,9 +24,9 @@ use Rattle.cp_legend_laws.proofs.OwnMonitors.{HasOwnNumber, own_number_at}
 use Rattle.cp_resolved.specs.Layouts.{look}
 use Rattle.cp_resolved.specs.Small.{Each}
 use Rattle.cp_resolved.specs.TreeLayouts.{layouts_of}
-use Rattle.cp_refine.specs.Law.{Simulates}
-use Rattle.cp_refine.specs.Prepared.{Prepared}
-use Rattle.cp_refine.specs.Represents.{BeginsAt, InComponent, PlaceAt}
+use Rattle.cp_machine_laws.specs.Law.{Simulates}
+use Rattle.cp_machine_laws.specs.Prepared.{Prepared}
+use Rattle.cp_machine_laws.specs.Represents.{BeginsAt, InComponent, PlaceAt}
 use Rattle.cp_story.specs.Story.{queue_at}
 use Rattle.cp_story_laws.specs.MonitorNumbers.{monitor_of}
 use Rattle.cp_story_laws.specs.Places.{permanent_variables, place_text, text_held, text_with}

@@ -5,7 +5,7 @@ use Rattle.cp_tree.specs.declared.declaration.SystemKind.TheVariants as system_k
 use Rattle.cp_tree.specs.Read.{IsRead}
 use Rattle.cp_tree.specs.Syntax.{Tree, Expression, Expressions, more_expressions, Designator, invoke}
 use Rattle.cp_layout.specs.Laid.{plain, laid}
-use Rattle.cp_lawful.specs.Accepted.{IsAccepted}
+use Rattle.cp_meaning_laws.specs.Accepted.{IsAccepted}
 use Rattle.cp_slots.specs.declared.item.Action.{Action}
 use Rattle.cp_slots.specs.declared.item.Action.TheVariants as action
 use Rattle.cp_slots.specs.declared.tables.ComponentKind.{ComponentKind}
@@ -36,28 +36,28 @@ use Rattle.cp_resolved.specs.Compiled.{as_place, expression_form}
 use Rattle.cp_resolved.specs.Layouts.{Here, Layouts, here}
 use Rattle.cp_resolved.specs.Stands.{Ground, InvokedBy, Performed, first_of}
 use Rattle.cp_resolved.specs.TreeLayouts.{layouts_of}
-use Rattle.cp_refine.specs.Agrees.{TargetAgrees}
-use Rattle.cp_refine.specs.AllKnown.{AllKnown}
-use Rattle.cp_refine.specs.InStep.{CanGo}
-use Rattle.cp_refine.specs.ItemsKnown.{InvokeKnown, ItemKnown, QueueKnown}
-use Rattle.cp_refine.specs.Kinds.{SameKind}
-use Rattle.cp_refine.specs.Law.{ground_of}
-use Rattle.cp_refine.specs.Named.{named, named_discipline}
-use Rattle.cp_refine.specs.PlainValues.{plain_address}
-use Rattle.cp_refine.specs.Prepared.{Prepared}
-use Rattle.cp_refine.specs.Represents.{BeginsAt, InComponent, PlaceAt, StackIs, frames_of, further}
-use Rattle.cp_refine.proofs.HoldsInReached.{HoldsInReached, reached_stands}
-use Rattle.cp_refine.proofs.Meaning.{known}
-use Rattle.cp_refine.proofs.calls.Kept.{kept_left, kept_right}
-use Rattle.cp_refine.proofs.control.Control.{Taken, scope_is}
-use Rattle.cp_refine.proofs.expressions.ComponentsNow.{current_component, executed_there, executed_system}
-use Rattle.cp_refine.proofs.expressions.Views.{views_agree}
-use Rattle.cp_refine.proofs.queues.Delaying.{QueueNamed}
-use Rattle.cp_refine.proofs.queues.QueueNames.{queue_named}
-use Rattle.cp_refine.proofs.reached.ReadyInReached.{ReadyInReached, ready_in_reached}
-use Rattle.cp_refine.proofs.reached.SystemKinds.{kind_is}
-use Rattle.cp_refine.proofs.steps.Executed.{executes}
-use Rattle.cp_refine.proofs.steps.Going.{Going, takes_one}
+use Rattle.cp_machine_laws.specs.Agrees.{TargetAgrees}
+use Rattle.cp_machine_laws.specs.AllKnown.{AllKnown}
+use Rattle.cp_machine_laws.specs.InStep.{CanGo}
+use Rattle.cp_machine_laws.specs.ItemsKnown.{InvokeKnown, ItemKnown, QueueKnown}
+use Rattle.cp_machine_laws.specs.Kinds.{SameKind}
+use Rattle.cp_machine_laws.specs.Law.{ground_of}
+use Rattle.cp_machine_laws.specs.Named.{named, named_discipline}
+use Rattle.cp_machine_laws.specs.PlainValues.{plain_address}
+use Rattle.cp_machine_laws.specs.Prepared.{Prepared}
+use Rattle.cp_machine_laws.specs.Represents.{BeginsAt, InComponent, PlaceAt, StackIs, frames_of, further}
+use Rattle.cp_machine_laws.proofs.HoldsInReached.{HoldsInReached, reached_stands}
+use Rattle.cp_machine_laws.proofs.Meaning.{known}
+use Rattle.cp_machine_laws.proofs.calls.Kept.{kept_left, kept_right}
+use Rattle.cp_machine_laws.proofs.control.Control.{Taken, scope_is}
+use Rattle.cp_machine_laws.proofs.expressions.ComponentsNow.{current_component, executed_there, executed_system}
+use Rattle.cp_machine_laws.proofs.expressions.Views.{views_agree}
+use Rattle.cp_machine_laws.proofs.queues.Delaying.{QueueNamed}
+use Rattle.cp_machine_laws.proofs.queues.QueueNames.{queue_named}
+use Rattle.cp_machine_laws.proofs.reached.ReadyInReached.{ReadyInReached, ready_in_reached}
+use Rattle.cp_machine_laws.proofs.reached.SystemKinds.{kind_is}
+use Rattle.cp_machine_laws.proofs.steps.Executed.{executes}
+use Rattle.cp_machine_laws.proofs.steps.Going.{Going, takes_one}
 use Rattle.cp_story.specs.Aimed.{aim_in, aim_of_top, permanent_cell, queue_of}
 use Rattle.cp_story_laws.specs.Aims.{designated, first_queue, place_found, queue_meant, queue_of_item, queue_place}
 use Rattle.cp_story_laws.proofs.aims.PlainItems.{call_plain, comes_to_none, item_plain, plain_at}

@@ -8,7 +8,7 @@ use Rattle.cp_machine.specs.declared.discipline.Discipline as slot_gates
 use Rattle.cp_machine.specs.declared.process.Status.TheVariants as status
 use Rattle.cp_machine.specs.Machine.{Machine, thread_at}
 use Rattle.cp_layout.specs.Laid.{plain, laid}
-use Rattle.cp_lawful.specs.Accepted.{IsAccepted}
+use Rattle.cp_meaning_laws.specs.Accepted.{IsAccepted}
 use Rattle.cp_meaning.specs.Components.{components_of}
 use Rattle.cp_meaning.specs.State as named_state
 use Rattle.cp_meaning.specs.State.{State, delayed}
@@ -19,7 +19,7 @@ use Rattle.cp_legend_laws.specs.Paths.{called_in_language}
 use Rattle.cp_legend_laws.specs.Statements.{PlacesAreNamed}
 use Rattle.cp_legend_laws.proofs.PathsOfTree.{legend_law}
 use Rattle.cp_legend_laws.proofs.PlacesNamed.{places_law}
-use Rattle.cp_refine.specs.Named.{named, named_discipline}
+use Rattle.cp_machine_laws.specs.Named.{named, named_discipline}
 use Rattle.cp_run.specs.Slots.{slots}
 use Rattle.cp_run.specs.Stop.{last_state}
 use Rattle.cp_story_laws.specs.Queues.{WaitsIn}

@@ -4,7 +4,7 @@ use Rattle.std.specs.Prelude.{ℤ}
 use Rattle.cp_tree.specs.Read.{IsRead}
 use Rattle.cp_tree.specs.Syntax.{Tree}
 use Rattle.cp_layout.specs.Laid.{plain, laid}
-use Rattle.cp_lawful.specs.Accepted.{IsAccepted}
+use Rattle.cp_meaning_laws.specs.Accepted.{IsAccepted}
 use Rattle.cp_slots.specs.Tables.{Tables, component_at}
 use Rattle.cp_symbols.specs.Kinds.{most}
 use Rattle.cp_machine.specs.declared.discipline.Discipline as slot_gates
@@ -19,9 +19,9 @@ use Rattle.cp_meaning.proofs.ComponentTree.{SameTree}
 use Rattle.cp_resolved.specs.Layouts.{look}
 use Rattle.cp_resolved.specs.TreeLayouts.{layouts_of}
 use Rattle.cp_resolved.proofs.counts.FewComponents.{accepted_few}
-use Rattle.cp_refine.specs.Named.{named_discipline}
-use Rattle.cp_refine.specs.Represents.{LiesAt}
-use Rattle.cp_refine.proofs.HoldsInReached.{HoldsInReached, reached_stands}
+use Rattle.cp_machine_laws.specs.Named.{named_discipline}
+use Rattle.cp_machine_laws.specs.Represents.{LiesAt}
+use Rattle.cp_machine_laws.proofs.HoldsInReached.{HoldsInReached, reached_stands}
 use Rattle.cp_store.specs.declared.memory.Address.TheVariants.{Permanent}
 use Rattle.cp_store.specs.Memory.{Memory}
 use Rattle.cp_story_laws.proofs.Together.{Related}

@@ -11,8 +11,8 @@ use Rattle.cp_tree.specs.Read.{IsRead}
 use Rattle.cp_tree.specs.Syntax.{Program, Tree}
 use Rattle.cp_layout.specs.Laid.{plain, laid, whole}
 use Rattle.cp_layout.specs.Symbols.{AreSymbolsOf}
-use Rattle.cp_lawful.specs.Accepted.{IsAccepted}
-use Rattle.cp_lawful.proofs.Accepting.{well_formed}
+use Rattle.cp_meaning_laws.specs.Accepted.{IsAccepted}
+use Rattle.cp_meaning_laws.proofs.Accepting.{well_formed}
 use Rattle.cp_slots.specs.declared.tables.Component as table
 use Rattle.cp_slots.specs.declared.tables.ComponentKind.{ComponentKind}
 use Rattle.cp_slots.specs.declared.tables.ComponentKind.TheVariants as kind
@@ -62,11 +62,11 @@ use Rattle.cp_resolved.proofs.declarations.SystemVariables.{accepted_permanents,
 use Rattle.cp_resolved.proofs.frames.Cells as cells
 use Rattle.cp_resolved.proofs.names.Entries.{entry_at, there}
 use Rattle.cp_resolved.proofs.systems.SystemKnown.{found_among}
-use Rattle.cp_refine.specs.Law.{ground_of}
-use Rattle.cp_refine.specs.Named.{named_discipline}
-use Rattle.cp_refine.specs.Prepared.{Prepared}
-use Rattle.cp_refine.specs.Represents.{LiesAt}
-use Rattle.cp_refine.proofs.expressions.Parts.{encode_length}
+use Rattle.cp_machine_laws.specs.Law.{ground_of}
+use Rattle.cp_machine_laws.specs.Named.{named_discipline}
+use Rattle.cp_machine_laws.specs.Prepared.{Prepared}
+use Rattle.cp_machine_laws.specs.Represents.{LiesAt}
+use Rattle.cp_machine_laws.proofs.expressions.Parts.{encode_length}
 use Rattle.cp_store.specs.declared.memory.Address.TheVariants.{Permanent}
 use Rattle.cp_story.specs.Changes as story
 use Rattle.cp_story.specs.Changes.{Changed, name_in, place}

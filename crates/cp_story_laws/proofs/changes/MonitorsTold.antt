@@ -7,7 +7,7 @@ use Rattle.cp_tree.specs.declared.declaration.SystemKind.{SystemKind}
 use Rattle.cp_tree.specs.declared.declaration.SystemKind.TheVariants as system_kind
 use Rattle.cp_tree.specs.Read.{IsRead}
 use Rattle.cp_tree.specs.Syntax.{Tree}
-use Rattle.cp_lawful.specs.Accepted.{IsAccepted}
+use Rattle.cp_meaning_laws.specs.Accepted.{IsAccepted}
 use Rattle.cp_layout.specs.Laid.{plain, laid, whole}
 use Rattle.cp_layout.specs.Symbols.{AreSymbolsOf}
 use Rattle.cp_symbols.specs.declared.symbols.Symbols as code_symbols
@@ -30,8 +30,8 @@ use Rattle.cp_resolved.specs.Resolved.{KindIs, Stands}
 use Rattle.cp_resolved.proofs.components.ComponentsOfTree.{program_kind}
 use Rattle.cp_resolved.proofs.components.Contained.{found_by_path}
 use Rattle.cp_resolved.proofs.declarations.Plain.{plain_law}
-use Rattle.cp_refine.specs.Law.{ground_of}
-use Rattle.cp_lawful.proofs.Accepting.{well_formed}
+use Rattle.cp_machine_laws.specs.Law.{ground_of}
+use Rattle.cp_meaning_laws.proofs.Accepting.{well_formed}
 use Rattle.cp_story_laws.specs.Changes.{monitor_around, monitor_by}
 use Rattle.cp_story_laws.specs.MonitorNumbers.{monitor_of}
 use Rattle.cp_story_laws.proofs.Entered.{number_is}

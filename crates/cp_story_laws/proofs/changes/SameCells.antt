@@ -17,10 +17,10 @@ use Rattle.cp_resolved.specs.Encoded.{AllHave, AreMembers, HasType, HaveTypes, b
 use Rattle.cp_resolved.specs.Layouts.{cells_of}
 use Rattle.cp_resolved.specs.Resolved.{StandsAt}
 use Rattle.cp_resolved.specs.Standing.{are_few, are_free, is_free, is_indexed, is_standing}
-use Rattle.cp_refine.specs.Agrees.{Few}
-use Rattle.cp_refine.proofs.expressions.Members.{bits_below, equal_bits}
-use Rattle.cp_refine.proofs.expressions.Parts.{encode_length}
-use Rattle.cp_refine.proofs.expressions.SetCells.{stored_is}
+use Rattle.cp_machine_laws.specs.Agrees.{Few}
+use Rattle.cp_machine_laws.proofs.expressions.Members.{bits_below, equal_bits}
+use Rattle.cp_machine_laws.proofs.expressions.Parts.{encode_length}
+use Rattle.cp_machine_laws.proofs.expressions.SetCells.{stored_is}
 use Rattle.cp_store.specs.declared.memory.Address.TheVariants.{Permanent}
 use Rattle.cp_store.specs.Memory.{Memory}
 use Rattle.cp_store.specs.Sets.{load_set}

@@ -8,11 +8,11 @@ use Rattle.cp_store.specs.declared.memory.Frame.{Frame}
 use Rattle.cp_machine.specs.declared.process.Entry.{Entry}
 use Rattle.cp_machine.specs.declared.process.Entry.TheVariants.{Rest, Successor, Return, InitEnd}
 use Rattle.cp_machine.specs.Fits.{StackFits, size_of}
-use Rattle.cp_refine.specs.Represents.{frame_above, frames_of}
-use Rattle.cp_refine.proofs.assignments.Apart.{frames_apart}
-use Rattle.cp_refine.proofs.assignments.BlocksInCalls.{FramesApart, below_in}
-use Rattle.cp_refine.proofs.control.Control.{top_frame}
-use Rattle.cp_refine.proofs.expressions.Reading.{frame_same}
+use Rattle.cp_machine_laws.specs.Represents.{frame_above, frames_of}
+use Rattle.cp_machine_laws.proofs.assignments.Apart.{frames_apart}
+use Rattle.cp_machine_laws.proofs.assignments.BlocksInCalls.{FramesApart, below_in}
+use Rattle.cp_machine_laws.proofs.control.Control.{top_frame}
+use Rattle.cp_machine_laws.proofs.expressions.Reading.{frame_same}
 use Rattle.cp_story.specs.Passed.{frame_with, nearer}
 
 module _ (r : Tables) (cell below : ℕ) (g : Frame) (from : g.base ≤ cell) (to : cell < g.base + size_of r g.routine) where

@@ -45,7 +45,7 @@ use Rattle.cp_resolved.specs.Layouts.{Layouts}
 use Rattle.cp_resolved.specs.Openings.{Opening}
 use Rattle.cp_resolved.specs.Stands.{Ground}
 use Rattle.cp_tree.specs.Syntax.{Program}
-use Rattle.cp_refine.specs.Represents.{StackIs}
+use Rattle.cp_machine_laws.specs.Represents.{StackIs}
 use Rattle.cp_story_laws.proofs.CalledRoutines.{CallsRoutine, IsCalled}
 
 module _ (os : List Opening) where

@@ -14,7 +14,7 @@ use Rattle.cp_store.specs.Places.{reference_at}
 use Rattle.cp_symbols.specs.declared.kinds.CellType.{CellType}
 use Rattle.cp_symbols.specs.Kinds as kinds
 use Rattle.cp_symbols.specs.Kinds.{most, plus}
-use Rattle.cp_lawful.specs.Accepted.{IsAccepted}
+use Rattle.cp_meaning_laws.specs.Accepted.{IsAccepted}
 use Rattle.cp_legend.specs.declared.legend.LegendParameter.{LegendParameter}
 use Rattle.cp_legend.specs.Names as legend
 use Rattle.cp_legend.specs.Names.{Legend, RoutineNames}
@@ -46,10 +46,10 @@ use Rattle.cp_resolved.specs.Small.{Each}
 use Rattle.cp_resolved.specs.TreeLayouts.{layouts_of}
 use Rattle.cp_resolved.proofs.agreeing.AgreeingWritten.{each_left, each_right}
 use Rattle.cp_resolved.proofs.frames.Cells.{cells_same}
-use Rattle.cp_refine.specs.Law.{ground_of}
-use Rattle.cp_refine.specs.Represents.{CallHolds, CallIs, CallsHold, LiesAt, PlaceAt, Runs, own_memory}
-use Rattle.cp_refine.proofs.expressions.Parts.{encode_length}
-use Rattle.cp_refine.proofs.steps.Executed as executed
+use Rattle.cp_machine_laws.specs.Law.{ground_of}
+use Rattle.cp_machine_laws.specs.Represents.{CallHolds, CallIs, CallsHold, LiesAt, PlaceAt, Runs, own_memory}
+use Rattle.cp_machine_laws.proofs.expressions.Parts.{encode_length}
+use Rattle.cp_machine_laws.proofs.steps.Executed as executed
 use Rattle.cp_story.specs.Passed as slots
 use Rattle.cp_story.specs.Passed.{Given, address_of, argument, argument_by, arguments, arguments_for, given, given_by, given_for, name_at, place_named, read, variable_at}
 use Rattle.cp_story_laws.specs.Passed as on_names

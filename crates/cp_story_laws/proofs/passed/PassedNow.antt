@@ -5,7 +5,7 @@ use Rattle.cp_tree.specs.Read.{IsRead}
 use Rattle.cp_tree.specs.Syntax.{Tree, invoke}
 use Rattle.cp_layout.specs.Laid.{plain, laid}
 use Rattle.cp_slots.specs.Tables.{Tables}
-use Rattle.cp_lawful.specs.Accepted.{IsAccepted}
+use Rattle.cp_meaning_laws.specs.Accepted.{IsAccepted}
 use Rattle.cp_legend.specs.Names.{Legend, RoutineNames}
 use Rattle.cp_legend_laws.specs.Called.{called_in_legend, tabled}
 use Rattle.cp_legend_laws.specs.Paths.{called_in_language}
@@ -27,13 +27,13 @@ use Rattle.cp_run.specs.System.{System}
 use Rattle.cp_resolved.specs.Layouts.{Layouts}
 use Rattle.cp_resolved.specs.Openings.{openings_of}
 use Rattle.cp_resolved.specs.TreeLayouts.{layouts_of}
-use Rattle.cp_refine.specs.InStep.{CanGo, GoInStep}
-use Rattle.cp_refine.specs.Law.{ground_of}
-use Rattle.cp_refine.specs.Named.{named, named_discipline}
-use Rattle.cp_refine.specs.Represents.{Runs, StatusIs}
-use Rattle.cp_refine.proofs.HoldsInReached.{reached_stands}
-use Rattle.cp_refine.proofs.Meaning.{known}
-use Rattle.cp_refine.proofs.steps.Going.{Going}
+use Rattle.cp_machine_laws.specs.InStep.{CanGo, GoInStep}
+use Rattle.cp_machine_laws.specs.Law.{ground_of}
+use Rattle.cp_machine_laws.specs.Named.{named, named_discipline}
+use Rattle.cp_machine_laws.specs.Represents.{Runs, StatusIs}
+use Rattle.cp_machine_laws.proofs.HoldsInReached.{reached_stands}
+use Rattle.cp_machine_laws.proofs.Meaning.{known}
+use Rattle.cp_machine_laws.proofs.steps.Going.{Going}
 use Rattle.cp_story.specs.Passed.{arguments, given_back}
 use Rattle.cp_story_laws.specs.Aims.{ends_first, ends_now, is_continue}
 use Rattle.cp_story_laws.specs.Passed as on_names

@@ -15,7 +15,7 @@ use Rattle.cp_store.specs.declared.memory.Frame.{Frame}
 use Rattle.cp_store.specs.Memory.{Memory}
 use Rattle.cp_symbols.specs.Kinds as kinds
 use Rattle.cp_symbols.specs.Kinds.{Compounds, most}
-use Rattle.cp_lawful.specs.Accepted.{IsAccepted}
+use Rattle.cp_meaning_laws.specs.Accepted.{IsAccepted}
 use Rattle.cp_legend.specs.Names as legend
 use Rattle.cp_legend.specs.Names.{Legend, Named, RoutineNames, name_of_routine}
 use Rattle.cp_legend.specs.Places.{has_cell, local_name_in, owner, part_name, permanent_name_in, place_name}
@@ -45,16 +45,16 @@ use Rattle.cp_resolved.specs.Small.{Each}
 use Rattle.cp_resolved.specs.TreeLayouts.{layouts_of}
 use Rattle.cp_resolved.proofs.frames.Cells.{cells_same}
 use Rattle.cp_resolved.proofs.frames.FrameCells.{look_each}
-use Rattle.cp_refine.specs.Law.{ground_of}
-use Rattle.cp_refine.specs.Named.{named_discipline}
-use Rattle.cp_refine.specs.Prepared.{Prepared}
-use Rattle.cp_refine.specs.Represents.{BeginsAt, CallIs, CallsHold, InComponent, InFrame, LiesAt, PlaceAt, Runs, frame_above, further, own_memory}
-use Rattle.cp_refine.proofs.HoldsInReached.{reached_stands}
-use Rattle.cp_refine.proofs.assignments.Overlaps.{part_ends}
-use Rattle.cp_refine.proofs.control.Control.{top_frame}
-use Rattle.cp_refine.proofs.control.Running.{all_lie}
-use Rattle.cp_refine.proofs.steps.Executed as executed
-use Rattle.cp_refine.proofs.expressions.Reading.{AllLie, calls_frames, frame_same, held_above, place_lies}
+use Rattle.cp_machine_laws.specs.Law.{ground_of}
+use Rattle.cp_machine_laws.specs.Named.{named_discipline}
+use Rattle.cp_machine_laws.specs.Prepared.{Prepared}
+use Rattle.cp_machine_laws.specs.Represents.{BeginsAt, CallIs, CallsHold, InComponent, InFrame, LiesAt, PlaceAt, Runs, frame_above, further, own_memory}
+use Rattle.cp_machine_laws.proofs.HoldsInReached.{reached_stands}
+use Rattle.cp_machine_laws.proofs.assignments.Overlaps.{part_ends}
+use Rattle.cp_machine_laws.proofs.control.Control.{top_frame}
+use Rattle.cp_machine_laws.proofs.control.Running.{all_lie}
+use Rattle.cp_machine_laws.proofs.steps.Executed as executed
+use Rattle.cp_machine_laws.proofs.expressions.Reading.{AllLie, calls_frames, frame_same, held_above, place_lies}
 use Rattle.cp_story.specs.Passed.{frame_with, name_at, name_in_frame}
 use Rattle.cp_story_laws.specs.Places.{place_text, routine_meant, text_held, text_with, variables_in, variables_of}
 use Rattle.cp_story_laws.specs.Routines.{routine_of}

@@ -2,7 +2,7 @@
 use Rattle.std.proofs.Common.{◌≡◌, ℕ, ◌≤◌, true, List, [], ◌∷◌, ◌++◌, inl, inr, Some, subst}
 use Rattle.cp_tree.specs.Read.{IsRead}
 use Rattle.cp_tree.specs.Syntax.{Tree}
-use Rattle.cp_lawful.specs.Accepted.{IsAccepted}
+use Rattle.cp_meaning_laws.specs.Accepted.{IsAccepted}
 use Rattle.cp_legend_laws.proofs.ChosenParts.{free_tellable, some_cells}
 use Rattle.cp_legend_laws.proofs.TypesOfTree.{IsSound, types_are_sound}
 use Rattle.cp_legend_laws.proofs.WrittenTypes.{RoutineHas}

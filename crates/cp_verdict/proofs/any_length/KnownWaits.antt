@@ -2,9 +2,9 @@
 use Rattle.std.proofs.Common.{◌≡◌, ◌⊎◌, inl, inr, ◌<◌, ◌^◌, ℕ, List, map, subst}
 use Rattle.cp_verdict.proofs.any_length.Vocabulary.{Contains, None, Option, Some, Global, Vec, Tables, Machine, Discipline, slots, StepLimit, Over, Waiting, on_slots}
 use Rattle.cp_run.specs.System.{System}
-use Rattle.cp_endless.specs.Silent.{in_call_on_slots, silent_slots, waits_on_slots, without_output}
-use Rattle.cp_endless.specs.Standstill.{MayStandStill}
-use Rattle.cp_endless.specs.WaitsForEver.{MayLinger, MayWaitForEver}
+use Rattle.cp_endless_laws.specs.Silent.{in_call_on_slots, silent_slots, waits_on_slots, without_output}
+use Rattle.cp_endless_laws.specs.Standstill.{MayStandStill}
+use Rattle.cp_endless_laws.specs.WaitsForEver.{MayLinger, MayWaitForEver}
 use Rattle.cp_ends.specs.Holds.{SlotFindings, same_key}
 use Rattle.cp_ends.specs.Whole.{IsAnswer, IsAnswerBy, IsWhole}
 use Rattle.cp_ends.specs.declared.found.Found.{Found}

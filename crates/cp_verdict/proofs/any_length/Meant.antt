@@ -7,17 +7,17 @@ use Rattle.cp_run.specs.declared.outcome.OutcomeKind.{OutcomeKind}
 use Rattle.cp_run.specs.declared.outcome.OutcomeKind.TheVariants.{Finished, AllWaiting, RunError, ChoiceLimit, StepLimit, OutputLimit}
 use Rattle.cp_run.specs.Run.{opened}
 use Rattle.cp_run.specs.System.{System}
-use Rattle.cp_refine.specs.Named.{discipline_of}
-use Rattle.cp_refine.proofs.Meaning.{goes_in_step}
-use Rattle.cp_endless.specs.Meaning.{MeansTheSame}
-use Rattle.cp_endless.specs.Reachable.{EndsAfter, node_after}
-use Rattle.cp_endless.specs.Repeats.{CallsAt, EndsAtEachLimit}
-use Rattle.cp_endless.specs.Rounds.{SetsOut, chosen_spot, spot_after}
-use Rattle.cp_endless.specs.Silent.{in_call_on_names, in_call_on_slots, silent_named, silent_slots, waits_on_names, waits_on_slots, without_output}
-use Rattle.cp_endless.specs.Standstill.{MayStandStill}
-use Rattle.cp_endless.specs.WaitsForEver.{MayLinger, MayWaitForEver}
-use Rattle.cp_endless.proofs.names.Meant.{endless_meaning}
-use Rattle.cp_endless.proofs.steps.Repeating.{repeating}
+use Rattle.cp_machine_laws.specs.Named.{discipline_of}
+use Rattle.cp_machine_laws.proofs.Meaning.{goes_in_step}
+use Rattle.cp_endless_laws.specs.Meaning.{MeansTheSame}
+use Rattle.cp_endless_laws.specs.Reachable.{EndsAfter, node_after}
+use Rattle.cp_endless_laws.specs.Repeats.{CallsAt, EndsAtEachLimit}
+use Rattle.cp_endless_laws.specs.Rounds.{SetsOut, chosen_spot, spot_after}
+use Rattle.cp_endless_laws.specs.Silent.{in_call_on_names, in_call_on_slots, silent_named, silent_slots, waits_on_names, waits_on_slots, without_output}
+use Rattle.cp_endless_laws.specs.Standstill.{MayStandStill}
+use Rattle.cp_endless_laws.specs.WaitsForEver.{MayLinger, MayWaitForEver}
+use Rattle.cp_endless_laws.proofs.names.Meant.{endless_meaning}
+use Rattle.cp_endless_laws.proofs.steps.Repeating.{repeating}
 use Rattle.cp_ends.specs.ForEver.{IsAloneForEver, SpinsForEver}
 use Rattle.cp_ends.specs.Holds.{same_key}
 use Rattle.cp_ends.specs.Named.{EndsOnNames, ShowsOnNames, kind_of}

@@ -2,9 +2,9 @@
 use Rattle.cp_verdict.proofs.any_length.Vocabulary.{◌≡◌, inl, inr, ℕ, true, List, sym, subst, Option, None, Some, Tree, IsRead, plain, laid, Tables, IsAccepted, IsKnown}
 use Rattle.cp_verdict.proofs.any_length.Vocabulary.{finding_of, is_kept, is_settled, is_whole, EndsExpectation, Never, Sometimes, Only, KnownEnds, Witness, EndsVerdict}
 use Rattle.cp_machine.specs.declared.discipline.Discipline as slot_discipline
-use Rattle.cp_refine.proofs.Disciplines.{same_discipline}
+use Rattle.cp_machine_laws.proofs.Disciplines.{same_discipline}
 use Rattle.cp_meaning.specs.State.{Discipline}
-use Rattle.cp_refine.specs.Named.{discipline_of, named_discipline}
+use Rattle.cp_machine_laws.specs.Named.{discipline_of, named_discipline}
 use Rattle.cp_verdict.specs.endless.Behaviour.{on_slots, on_names}
 use Rattle.cp_verdict.specs.endless.Expectations.{HasSettling, IsTrue}
 use Rattle.cp_verdict.specs.endless.Judged.{HoldsOf, IsJudged}

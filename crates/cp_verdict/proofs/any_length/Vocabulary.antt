@@ -8,13 +8,13 @@ pub use Rattle.std.specs.declared.alloc.Global.{Global}
 pub use Rattle.std.specs.declared.vec.Vec.{Vec}
 pub use Rattle.cp_at_once.specs.Holds.{HasWord, IsWordOf}
 pub use Rattle.cp_at_once_laws.specs.OnSlots.{by_the_book}
-pub use Rattle.cp_endless.specs.Silent.{silent_slots, without_output}
+pub use Rattle.cp_endless_laws.specs.Silent.{silent_slots, without_output}
 pub use Rattle.cp_ends.specs.Ends.{EndsSo, ShowsSo}
 pub use Rattle.cp_ends.specs.Holds.{Holds, SlotFindings}
 pub use Rattle.cp_ends.specs.declared.end.End.{End}
 pub use Rattle.cp_ends.specs.declared.end.End.TheVariants.{Alone, Over, Spins}
 pub use Rattle.cp_ends.specs.declared.found.TheConstants.{MOST_VALUES}
-pub use Rattle.cp_lawful.specs.Accepted.{IsAccepted}
+pub use Rattle.cp_meaning_laws.specs.Accepted.{IsAccepted}
 pub use Rattle.cp_layout.specs.Laid.{plain}
 unfoldable pub use Rattle.cp_layout.specs.Laid.{laid}
 pub use Rattle.cp_machine.specs.System.{Machine}

@@ -7,11 +7,11 @@ use Rattle.cp_machine.specs.declared.discipline.Discipline.{Discipline}
 use Rattle.cp_machine.specs.Discipline.{is_of_the_book}
 use Rattle.cp_machine.specs.declared.shown.Shown.{Shown}
 use Rattle.cp_meaning.specs.State.{book_discipline}
-use Rattle.cp_refine.specs.Named.{named}
+use Rattle.cp_machine_laws.specs.Named.{named}
 use Rattle.cp_run.specs.Slots.{slots}
-use Rattle.cp_endless.specs.Reachable.{EndsAfter}
-use Rattle.cp_endless.specs.Shown.{ShowsAfter}
-use Rattle.cp_endless.specs.Silent.{in_call_on_names, named_without_output, silent_slots, waits_on_names, without_output}
+use Rattle.cp_endless_laws.specs.Reachable.{EndsAfter}
+use Rattle.cp_endless_laws.specs.Shown.{ShowsAfter}
+use Rattle.cp_endless_laws.specs.Silent.{in_call_on_names, named_without_output, silent_slots, waits_on_names, without_output}
 use Rattle.cp_ends.specs.Answer.{ends_tests}
 use Rattle.cp_ends.specs.Ends.{EndsSo, ShowsSo}
 use Rattle.cp_ends.specs.Whole.{OfItsPrograms}

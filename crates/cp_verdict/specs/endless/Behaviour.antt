@@ -7,9 +7,9 @@ use Rattle.cp_machine.specs.declared.shown.Shown.{Shown}
 use Rattle.cp_meaning.specs.State.{Discipline}
 use Rattle.cp_run.specs.Slots.{slots}
 use Rattle.cp_run.specs.System.{System}
-use Rattle.cp_endless.specs.Silent.{without_output, silent_slots, silent_named, waits_on_slots, waits_on_names, in_call_on_slots, in_call_on_names}
-use Rattle.cp_endless.specs.Standstill.{MayStandStill}
-use Rattle.cp_endless.specs.WaitsForEver.{MayWaitForEver, MayLinger}
+use Rattle.cp_endless_laws.specs.Silent.{without_output, silent_slots, silent_named, waits_on_slots, waits_on_names, in_call_on_slots, in_call_on_names}
+use Rattle.cp_endless_laws.specs.Standstill.{MayStandStill}
+use Rattle.cp_endless_laws.specs.WaitsForEver.{MayWaitForEver, MayLinger}
 use Rattle.cp_ends.specs.Ends.{EndsSo, ShowsSo}
 use Rattle.cp_ends.specs.Named.{EndsOnNames, ShowsOnNames}
 use Rattle.cp_ends.specs.declared.end.End.{End}

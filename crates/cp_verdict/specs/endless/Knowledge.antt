@@ -9,7 +9,7 @@ use Rattle.cp_machine.specs.declared.discipline.Discipline.{Discipline}
 use Rattle.cp_machine.specs.declared.shown.Shown.{Shown}
 use Rattle.cp_run.specs.Slots.{slots}
 use Rattle.cp_run.specs.declared.outcome.OutcomeKind.TheVariants.{StepLimit}
-use Rattle.cp_endless.specs.Silent.{without_output, silent_slots}
+use Rattle.cp_endless_laws.specs.Silent.{without_output, silent_slots}
 use Rattle.cp_walk.specs.Text.{Spellings}
 use Rattle.cp_ends.specs.Ends.{EndsSo}
 use Rattle.cp_ends.specs.Firsts.{AreFirsts, AreFirstOnes, Within}

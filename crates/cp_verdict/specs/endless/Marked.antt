@@ -6,7 +6,7 @@ use Rattle.cp_slots.specs.Tables.{Tables}
 use Rattle.cp_machine.specs.declared.discipline.Discipline.{Discipline}
 use Rattle.cp_machine.specs.declared.discipline.Gates.{Gates}
 use Rattle.cp_machine.specs.declared.discipline.Gates.TheVariants.{First, Any}
-use Rattle.cp_refine.specs.Named.{named_discipline}
+use Rattle.cp_machine_laws.specs.Named.{named_discipline}
 use Rattle.cp_walk.specs.Text.{Spellings}
 use Rattle.cp_ends.specs.Whole.{OfItsPrograms}
 use Rattle.cp_verdict.specs.endless.Behaviour.{Behaviour, on_slots, on_names}

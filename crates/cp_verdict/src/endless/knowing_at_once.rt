@@ -1,7 +1,7 @@
 //! What a search that makes kernel calls at once lets one know.
 
 ghost use Rattle.std.specs.Prelude.{◌≡◌, ℕ, List, All, IfOk, None, map, true};
-ghost use Rattle.cp_endless.specs.Silent.{silent_slots, without_output};
+ghost use Rattle.cp_endless_laws.specs.Silent.{silent_slots, without_output};
 ghost use Rattle.cp_ends.specs.Ends.{EndsSo, ShowsSo};
 ghost use Rattle.cp_run.specs.Slots.{slots};
 ghost use Rattle.cp_slots.specs.Tables.{Tables};

@@ -2,7 +2,7 @@ use Rattle.std.proofs.Common.{◌∙◌, List, Option, ℕ, false, map, string_b
 use Rattle.std.proofs.lemmas.Result.{IfOk-weaker}
 use Rattle.cp_legend.specs.Names.{component_seen}
 use Rattle.cp_resolved.specs.Enumerations.{constant_names}
-use Rattle.cp_refine.specs.Named.{named, named_discipline}
+use Rattle.cp_machine_laws.specs.Named.{named, named_discipline}
 use Rattle.cp_run.specs.Slots.{slots}
 use Rattle.cp_run.specs.Table.{table}
 use Rattle.cp_verdict.specs.Words.{words_of}

@@ -1,6 +1,6 @@
 use Rattle.std.proofs.Common.{◌≡◌, List, ℕ, inl, inr, option_map, refl, string_bytes, subst}
 use Rattle.std.proofs.lemmas.Result.{IfOk-weaker}
-use Rattle.cp_refine.specs.Named.{named, named_discipline}
+use Rattle.cp_machine_laws.specs.Named.{named, named_discipline}
 use Rattle.cp_resolved.proofs.Resolving.{read_names}
 use Rattle.cp_resolved.specs.Enumerations.{constant_names}
 use Rattle.cp_run.specs.Slots.{slots}

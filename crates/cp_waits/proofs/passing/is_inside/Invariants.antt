@@ -1,6 +1,6 @@
 use Rattle.std.proofs.Common.{◌≡◌, [], ◌∷◌, drop}
 use Rattle.std.specs.List.{list_any}
-use Rattle.cp_endless.specs.Silent.{has_monitor_return}
+use Rattle.cp_endless_laws.specs.Silent.{has_monitor_return}
 use Rattle.cp_waits.proofs.passing.is_inside.Given as goal
 
 abbrev pub invariant-loop-entry : goal.invariant-loop-entry

@@ -3,7 +3,7 @@ use Rattle.cp_waits.proofs.Words.{◌&&◌, ◌||◌, nat_eq, slice_index_or, li
 use Rattle.cp_waits.proofs.Insides.{inside_read, leaves, those_more, with_all, with_none}
 use Rattle.cp_waits.proofs.passing.those_inside.Goals as goal
 use Rattle.cp_waits.proofs.passing.those_inside.Goals.{then-has+then-is_inside, else-has, else-has-via-then-has+else-is_inside, else-has-via-else-has}
-use Rattle.cp_refine.proofs.gates.Gates.{and_false as both_none}
+use Rattle.cp_machine_laws.proofs.gates.Gates.{and_false as both_none}
 
 pub loop-process-preserved : goal.loop-process-preserved
 loop-process-preserved c =

@@ -1,6 +1,6 @@
 use Rattle.cp_ends.proofs.Vocabulary.{◌∙◌, ◌++◌, [], refl, ap, arith, subst, sym, machine_of, slot_graph, SlotArrival, searched}
 use Rattle.cp_run.specs.declared.outcome.Halt.{Halt}
-use Rattle.cp_endless.specs.Silent.{silent_slots}
+use Rattle.cp_endless_laws.specs.Silent.{silent_slots}
 use Rattle.cp_ends.specs.Legs.{ComesTo, first_leg, with_round}
 use Rattle.cp_ends.specs.Searched.{nothing}
 use Rattle.cp_ends.specs.declared.end.End.{End}

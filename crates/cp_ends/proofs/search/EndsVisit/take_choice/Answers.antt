@@ -8,7 +8,7 @@ use Rattle.cp_ends.specs.declared.end.End.{End}
 use Rattle.cp_ends.proofs.GoingOn.{Takes, number_so, ok_both, ok_to, row_within, stops_at, within_more}
 use Rattle.cp_ends.proofs.search.EndsVisit.take_choice.Goals as goal
 use Rattle.cp_ends.specs.Legs.{ComesTo, choice_leg, with_round}
-use Rattle.cp_endless.specs.Silent.{silent_slots}
+use Rattle.cp_endless_laws.specs.Silent.{silent_slots}
 
 pub choose-requires-clause-may : goal.choose-requires-clause-may
 choose-requires-clause-may g c = ap (λ m. may (slots c.args.job.now.program.now c.args.job.now.limits.discipline) m c.args.process) c.requires.copied ∙ c.requires.may

@@ -1,6 +1,6 @@
 use Rattle.std.proofs.lemmas.Result.{IfOk-weaker}
-use Rattle.cp_lawful.proofs.Accepting.{keeps_exclusion}
-use Rattle.cp_refine.specs.Named.{named_discipline}
+use Rattle.cp_meaning_laws.proofs.Accepting.{keeps_exclusion}
+use Rattle.cp_machine_laws.specs.Named.{named_discipline}
 use Rattle.cp_tool.proofs.answerers.EndsFinderAnswerProgram.answer_program.Goals as goal
 
 pub returns : goal.returns

@@ -1,4 +1,4 @@
-use Rattle.cp_endless.specs.Silent.{silent_slots, in_call_on_slots, waits_on_slots}
+use Rattle.cp_endless_laws.specs.Silent.{silent_slots, in_call_on_slots, waits_on_slots}
 use Rattle.cp_waits.proofs.Seeing.{seen_then}
 use Rattle.cp_waits.proofs.passing.PassingSetsSight.then.Goals as goal
 

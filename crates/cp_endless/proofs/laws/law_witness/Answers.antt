@@ -1,7 +1,0 @@
-use Rattle.cp_endless.proofs.Words.{slots, without_output, ShowsLess}
-use Rattle.cp_endless.proofs.possible.Tables.{witnesses}
-use Rattle.cp_endless.proofs.slots.Output.{slots_forget}
-use Rattle.cp_endless.proofs.laws.law_witness.Goals as goal
-
-pub returns : goal.returns
-returns c = λ r discipline. witnesses (slots r discipline) without_output ShowsLess (slots_forget r discipline)

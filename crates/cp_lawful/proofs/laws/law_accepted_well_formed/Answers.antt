@@ -1,5 +1,0 @@
-use Rattle.cp_lawful.proofs.Accepting.{well_formed}
-use Rattle.cp_lawful.proofs.laws.law_accepted_well_formed.Goals as goal
-
-pub returns : goal.returns
-returns c = λ t h. well_formed t h

@@ -1,6 +1,0 @@
-use Rattle.cp_meaning.proofs.OwnershipLemmas.{ownership}
-use Rattle.cp_lawful.proofs.Accepting.{well_formed}
-use Rattle.cp_lawful.proofs.laws.law_ownership.Goals as goal
-
-pub returns : goal.returns
-returns c = λ t h g. ownership t.program (well_formed t h) g

@@ -1,5 +1,0 @@
-use Rattle.cp_refine.proofs.Meaning.{goes_in_step}
-use Rattle.cp_refine.proofs.laws.law_in_step.Goals as goal
-
-pub returns : goal.returns
-returns c = goes_in_step

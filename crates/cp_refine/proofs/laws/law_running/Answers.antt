@@ -1,5 +1,0 @@
-use Rattle.cp_refine.proofs.reached.RunningMachine.{running_law}
-use Rattle.cp_refine.proofs.laws.law_running.Goals as goal
-
-pub returns : goal.returns
-returns c = running_law
