@@ -32,10 +32,10 @@ unstarted ts q = is_unstarted (thread_at ts q).status
 abbrev uninitialised : List Phase → ℕ → Bool
 uninitialised ps c = is_uninitialised (slice_index_or ps c Uninitialised)
 
--- Nothing is taken back to before its start, and where nothing start_by, the components are bound to what they were. Only threads, phases and
+-- Nothing is taken back to before its start, and where nothing started, the components are bound to what they were. Only threads, phases and
 -- bindings matter, so that all else may change.
 pub record StartsKeep (ts us : List Thread) (ps qs : List Phase) (bs cs : List ℕ) : Type 0 where
-  pub start_by : (q : ℕ) → unstarted us q ≡ true → unstarted ts q ≡ true
+  pub started : (q : ℕ) → unstarted us q ≡ true → unstarted ts q ≡ true
   pub begun : (c : ℕ) → uninitialised qs c ≡ true → uninitialised ps c ≡ true
   pub bound : ((q : ℕ) → unstarted ts q ≡ true → unstarted us q ≡ true) → ((c : ℕ) → uninitialised ps c ≡ true → uninitialised qs c ≡ true) → cs ≡ bs
 
@@ -43,12 +43,12 @@ abbrev pub Bounds : Machine → Machine → Type 0
 Bounds before after = StartsKeep before.threads after.threads before.phases after.phases before.bindings after.bindings
 
 pub bounds_refl : (m : Machine) → Bounds m m
-bounds_refl m = record { start_by = λ q e. e; begun = λ c e. e; bound = λ f g. refl }
+bounds_refl m = record { started = λ q e. e; begun = λ c e. e; bound = λ f g. refl }
 
 pub bounds_trans : (l m n : Machine) → Bounds l m → Bounds m n → Bounds l n
 bounds_trans l m n h k =
     record {
-      start_by = λ q e. h.started q (k.started q e);
+      started = λ q e. h.started q (k.started q e);
       begun = λ c e. h.begun c (k.begun c e);
       bound = λ f g. k.bound (λ q e. f q (h.started q e)) (λ c e. g c (h.begun c e)) ∙ h.bound (λ q e. k.started q (f q e)) (λ c e. k.begun c (g c e));
     }
@@ -63,7 +63,7 @@ set_uninitialised ps c x begun = set_related (λ (p q : Phase). is_uninitialised
 
 -- a process changes, and is not taken back to before its start
 thread_bounds : (m n : Machine) (p : ℕ) (x : Thread) → (is_unstarted x.status ≡ true → unstarted n.threads p ≡ true) → Bounds m n → Bounds m (with_thread n p x)
-thread_bounds m n p x f h = bounds_trans m n (with_thread n p x) h (record { start_by = set_unstarted n.threads p x f; begun = λ c e. e; bound = λ g k. refl })
+thread_bounds m n p x f h = bounds_trans m n (with_thread n p x) h (record { started = set_unstarted n.threads p x f; begun = λ c e. e; bound = λ g k. refl })
 
 -- ---- steps by what is asked first
 
@@ -82,7 +82,7 @@ module _ (m : Machine) (pid : ℕ) where
   keep =
       record {
         changed = λ n x same h. thread_bounds m n pid x (λ e. sym (ap is_unstarted same) ∙ e) h;
-        initialised = λ n c h. bounds_trans m n (with_phase n c Initialised) h (record { start_by = λ q e. e; begun = set_uninitialised n.phases c Initialised refl; bound = λ g k. refl });
+        initialised = λ n c h. bounds_trans m n (with_phase n c Initialised) h (record { started = λ q e. e; begun = set_uninitialised n.phases c Initialised refl; bound = λ g k. refl });
         settled = λ n status is h. thread_bounds m n pid (record (thread_at n.threads pid) { status = status }) (λ e. absurd (cc)) h;
         readied = λ n p h. thread_bounds m n p (record (thread_at n.threads p) { status = Ready }) (λ e. absurd (cc)) h;
         gated = λ n p cell monitor at h. thread_bounds m n p (record (thread_at n.threads p) { status = AtGate monitor }) (λ e. absurd (cc)) h;
@@ -127,7 +127,7 @@ module _ (m : Machine) (pid : ℕ) where
         starts : is_unstarted (thread_at m.threads q).status ≡ true → Bounds m after
         starts is =
             record {
-              start_by = λ p e. kept p (set_unstarted given.threads q ready (λ e. absurd (cc)) p e);
+              started = λ p e. kept p (set_unstarted given.threads q ready (λ e. absurd (cc)) p e);
               begun = λ c e. e;
               bound = λ f g. absurd (not (f q is));
             }
@@ -172,7 +172,7 @@ module _ (m : Machine) (pid : ℕ) where
         starts is ends =
             let begun_is : is_uninitialised (phase_at after component) ≡ false = ended (routine_at r routine).body (subst (EndsBegun after) stack_is ends) in
             record {
-              start_by = kept;
+              started = kept;
               begun = set_uninitialised m.phases component Initialising refl;
               bound = λ f g. both (g component is) begun_is;
             }

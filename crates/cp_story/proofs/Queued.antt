@@ -124,7 +124,7 @@ module _ (pid q : ℕ) (other : q ≡ pid → ⊥) where
   called_by_asleep r m line true routine component arguments bounds result rest h =
       either_asleep (is_initialised (phase_at m component)) _ _ (called_in_asleep r m (component_at r component).kind routine component arguments bounds result rest h) h.queued
 
-  -- who is start_by was not yet
+  -- who is started was not yet
   start_process_asleep : (r : Tables) (m : Machine) (line p component : ℕ) (arguments : List Argument) (bounds : List Bound) (rest : List Entry) → Asleep m → StaysAsleep (start_process r m pid line p component arguments bounds rest)
   start_process_asleep r m line p component arguments bounds rest h = go (is_unstarted (thread_at m.threads p).status) refl
     where

@@ -1,4 +1,4 @@
--- A step of the slot machine enters a monitor only where an entry is open_call, and then its process executes the routine that is open_call.
+-- A step of the slot machine enters a monitor only where an entry is called, and then its process executes the routine that is called.
 use Rattle.std.proofs.Common.{◌≡◌, ◌∙◌, ℕ, ◌<◌, ◌==◌, Bool, true, false, if◌then◌else◌, List, [], ◌∷◌, length, Option, Some, None, Result, Ok, Err, ap, sym, refl, subst, length-set, get_or-set_same}
 use Rattle.std.specs.Ordering.{int_eq}
 use Rattle.std.specs.Prelude.{ℤ, pos, slice_index_or}

@@ -30,7 +30,7 @@ is_for : (a : Action) (o : PlaceOrigin) (low high : ℤ) (c d : code.OrdinalExpr
 is_for (action.For o low high x y down list) p l h c d b k e = (x, y, cc, cc, cc)
 is_for a o low high c d down list e = absurd (cc)
 
--- an address that has a cell was not address_onward at all
+-- an address that has a cell was not moved at all
 moved_back : (m : Memory) (b : Address) → Few m → HasCells m (address_onward b 0) 1 → address_onward b 0 ≡ b
 moved_back m (Permanent n) few h = ap Permanent (let p = few.permanents in omega (arith, p, h))
 moved_back m (Local n) few h = ap Local (let p = few.cells in omega (arith, p, h))

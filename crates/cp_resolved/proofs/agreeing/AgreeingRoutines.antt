@@ -384,7 +384,7 @@ module _ (tokens : Tokens) (p : Program) where
         fit = subst IsFit (find_first tokens r.name.name (routine_meaning r) m) tt;
       }
 
-  -- a name that stands for the routine at a token where nothing was parameters_and_result is not visible
+  -- a name that stands for the routine at a token where nothing was written is not visible
   unwritten : (s : Scopes) (m : scopes.Scope) (x : Name) (n : ℕ) (o : Option (Option Meaning)) → shape_in n s.shapes ≡ None → IsKnown tokens s m x o → o ≡ Some (Some (meaning.Routine n)) → ⊥
   unwritten s m x n o free k e =
       let known : Known tokens s m x (meaning.Routine n) = subst (IsKnown tokens s m x) e k in

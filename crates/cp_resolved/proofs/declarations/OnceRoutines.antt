@@ -59,7 +59,7 @@ routine_new k s r h =
     let j : Judged (Option ValueType) = after_faults (reserve_name s r.name).faults w.result in
     reserved_new s r.name (none_before (reserve_name s r.name).faults w.result (no_first j (check_heading k r) (no_left (faults (heading k r (reserve_name s r.name)).result) _ h)))
 
--- the scope around a routine, once the routine is announce there
+-- the scope around a routine, once the routine is announced there
 announced_inner : (r : Routine) (j : Judged (Option ValueType)) (s : Scopes) (cs : List Scope) (t : Scope) → s.outer ≡ cs ++ t ∷ [] → (m : Option Meaning) × ((last_of (announce_judged r j s).outer).inner ≡ with_name t r.name.name m)
 unfolding announce add_around keep
 announced_inner r (Ok v) s cs t e =

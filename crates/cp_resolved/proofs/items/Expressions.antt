@@ -274,7 +274,7 @@ module _ (k : Numbering) (h : Here) (b : Layer) (g : Knows k h b) (calls : Knows
   -- the routine of a component
   pub record Reached (t : Ty) (o : Option Name) (q : Option RoutineMeaning) : Type 0 where
     pub routine : RoutineMeaning
-    pub call_value : q ≡ Some routine
+    pub called : q ≡ Some routine
     pub number : ℕ
     pub there : entry_named (system_type t) o ≡ Some number
     pub results : ResultsAre k b.types (Some (result_type routine.result)) (result_of b number)
@@ -283,7 +283,7 @@ module _ (k : Numbering) (h : Here) (b : Layer) (g : Knows k h b) (calls : Knows
   reached x t y None e f i = absurd i
   reached x t y (Some r) e f i =
       let d : EntryIs k b (system_type t) y r = calls.entry x y t r e f in
-      record { routine = r; call_value = refl; number = d.number; there = d.there; results = result_given r r.result (result_of b d.number) refl i d.result }
+      record { routine = r; called = refl; number = d.number; there = d.there; results = result_given r r.result (result_of b d.number) refl i d.result }
 
   pub reached_by : (x : Name) (t : Ty) (o : Option Name) → is_call_meant (Some (scopes.permanent_variable t)) o ≡ true → scopes.find x h.scope ≡ Some (scopes.permanent_variable t) → IsFunction (routine_meant h.program h.scope x (Some (scopes.permanent_variable t)) o) →
       Reached t o (routine_meant h.program h.scope x (Some (scopes.permanent_variable t)) o)

@@ -34,7 +34,7 @@ pub record CallPending (lines : List ℕ) (h : Here) (at : ℕ) (d : syntax.Desi
   pub part : code.ComponentPlace
   pub is_entry : Bool
   pub arguments : List code.Argument
-  pub call_value : IsCalled h d es number part is_entry arguments
+  pub called : IsCalled h d es number part is_entry arguments
   pub taken : ResultGoes h (Some (temporary at)) (h.layouts.meanings number).result
   pub action : p.action ≡ code.call number part is_entry arguments (result_cell h (Some (temporary at)))
   pub line : p.line ≡ slice_index lines at
@@ -148,7 +148,7 @@ module _ (k : Numbering) (h : Here) (b : Layer) (g : Knows k h b) (calls : Knows
         part = part;
         is_entry = e;
         arguments = given;
-        call_value = record { routine = routine; call_value = met; same = sym heading.same; callee = callee; given = a.1 };
+        called = record { routine = routine; called = met; same = sym heading.same; callee = callee; given = a.1 };
         taken = subst (λ (q : RoutineMeaning). ResultGoes h (Some (temporary at)) q.result) (sym heading.same) (result_there (temporary at) routine.result has (own.held ∙ ap (λ q. Some (result_called q)) met));
         action = ap (λ q. code.call number part e given (Some (slot_of q))) (sym own.cell);
         line = ap (λ ls. slice_index ls at) (kept_lines j (kept_trans b m j s (arguments_kept m number 0 es)));

@@ -227,10 +227,10 @@ module _ (k : Numbering) (h : Here) (g : Ground) (few : length g.tables.items �
       ap (λ p. laid.assign_by_type o p (expression m e).0 (target_of m (designator l d).0).value_type) t.place_is
       ∙ assigned_same k o f.ty f.value.ty f.value.form (expression m e).0 f.place (target_of m (designator l d).0).value_type f.act value belongs f.assigned f.moved in
       let a : code.Action = laid.assignment o (target_of m (designator l d).0) (expression m e).0 in
-      let meant : Assigns h f.act = record { target = d; expression = e; place = f.place; ty = f.ty; value = f.value; aimed = f.target; formed = f.formed; assign = f.assigned; choose = ready_held h (cells l) is first; held = ready_held h (cells m) js rest } in
+      let meant : Assigns h f.act = record { target = d; expression = e; place = f.place; ty = f.ty; value = f.value; aimed = f.target; formed = f.formed; assigned = f.assigned; chosen = ready_held h (cells l) is first; held = ready_held h (cells m) js rest } in
       let done : Does l (ended g h o at a 0 next).1 (is ++ js) (Led g h (ended g h o at a 0 next).0 (is ++ js) at a next) = own_does l o (is ++ js) at a 0 next w none whole (goes_both g.lines h l m o is js i j) (subst (Means h) (sym same) (assigns_mean f.ty f.value.ty f.value.form f.place f.act f.assigned meant)) in
       then_does l (ended g h o at a 0 next).1 (is ++ js) (Led g h (ended g h o at a 0 next).0 (is ++ js) at a next) (StatementIs g h (ended g h o at a 0 next).0 (syntax.assign at d e) next)
-      (λ y. (let z = led_as (ended g h o at a 0 next).0 (is ++ js) at a f.act next same y in (z.number, z.calls, record { place = f.place; ty = f.ty; value = f.value; act = f.act; target = f.target; formed = f.formed; assign = f.assigned; item = z.item }))) done
+      (λ y. (let z = led_as (ended g h o at a 0 next).0 (is ++ js) at a f.act next same y in (z.number, z.calls, record { place = f.place; ty = f.ty; value = f.value; act = f.act; target = f.target; formed = f.formed; assigned = f.assigned; item = z.item }))) done
 
   led_checked_as : (first : Option ℕ) (is cs : List Item) (at : ℕ) (a c : code.Action) (next : Option ℕ) → a ≡ c → LedChecked g h first is cs at a next → LedChecked g h first is cs at c next
   led_checked_as first is cs at a c next e x = subst (λ y. LedChecked g h first is cs at y next) e x
@@ -301,7 +301,7 @@ module _ (k : Numbering) (h : Here) (g : Ground) (few : length g.tables.items �
         y.calls,
         record { number = number; part = part; is_entry = b; arguments = given; called = record { routine = routine; called = met; same = sym heading.same; callee = callee; given = a.1 }; item = y.item; taken = tt },
       )) (own_does l o (is ++ js) at act need next w none whole (goes_both g.lines h l m o is js i rest)
-      (record { designator = d; expressions = es; name = None; called = record { routine = routine; called = met; same = sym heading.same; callee = callee; given = a.1 }; goes = tt; cell = refl; choose = choose; held = ready_held h (cells m) js n }))
+      (record { designator = d; expressions = es; name = None; called = record { routine = routine; called = met; same = sym heading.same; callee = callee; given = a.1 }; goes = tt; cell = refl; chosen = choose; held = ready_held h (cells m) js n }))
 
   abbrev InvokeDoes : Layer → ℕ → Identifier → syntax.Selectors → syntax.Expressions → Option scopes.Meaning → Option ℕ → Type 0
   InvokeDoes l at x ss es m next =
@@ -464,7 +464,7 @@ module _ (k : Numbering) (h : Here) (g : Ground) (few : length g.tables.items �
       (λ y. (let z = led_as (ended g h o x.at act need next).0 (is ++ js) x.at act wanted next (ap (λ r. code.start f.part r given) s.initial) y in
       (z.number, z.calls, record { part = f.part; system = f.system; arguments = given; target = f.target; given = a.1; item = z.item })))
       (own_does l o (is ++ js) x.at act need next w none whole (goes_both g.lines h l m o is js i goes_there)
-      (record { target = d; expressions = es; system = f.system; aimed = f.target; given = a.1; initial = s.initial; choose = ready_held h (cells l) is first; held = ready_held h (cells m) js rest })) in
+      (record { target = d; expressions = es; system = f.system; aimed = f.target; given = a.1; initial = s.initial; chosen = ready_held h (cells l) is first; held = ready_held h (cells m) js rest })) in
       let numbered_so : Does l (settle_items (laid.start_of m x.at (Some (f.part, f.system)) es) next).1 (is ++ js) ((z : ℕ) × CallsAre g h (settle_items (laid.start_of m x.at (Some (f.part, f.system)) es) next).0 (is ++ js) (Some z) × StartItem g h z t next) =
       subst (λ r. Does l (settle_items (begin_component m x.at f.part r es) next).1 (is ++ js) ((z : ℕ) × CallsAre g h (settle_items (begin_component m x.at f.part r es) next).0 (is ++ js) (Some z) × StartItem g h z t next)) (sym same) done in
       subst (λ y. Does l (settle_items (laid.start_of m x.at (laid.component_place_of y) es) next).1 (is ++ js) ((z : ℕ) × CallsAre g h (settle_items (laid.start_of m x.at (laid.component_place_of y) es) next).0 (is ++ js) (Some z) × StartItem g h z t next)) (sym leads) numbered_so

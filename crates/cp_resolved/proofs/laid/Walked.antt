@@ -18,7 +18,7 @@ use Rattle.cp_resolved.proofs.laid.Avoiding.{AvoidsExpression, AvoidsSum, AvoidT
 
 -- ---- the small steps
 
--- of the routine that is called, and of the initial statement that is name_meaning
+-- of the routine that is called, and of the initial statement that is begun
 abbrev pub IsCallee : (ℕ → Type 0) → Designated → Type 0
 IsCallee R (a_routine r) = R r
 IsCallee R (an_entry c r) = R r

@@ -1,4 +1,4 @@
--- In each state of the slot machine a frame that is leave_frame by a return executes a routine, which has a name, and not an initial statement.
+-- In each state of the slot machine a frame that is left by a return executes a routine, which has a name, and not an initial statement.
 use Rattle.std.proofs.Common.{◌≡◌, ◌∙◌, ◌⊎◌, inl, inr, ℕ, ◌<◌, ◌≤◌, ◌==◌, Bool, true, false, if◌then◌else◌, List, [], ◌∷◌, length, Option, Some, None, Result, Ok, Err, ap, map, sym, subst, arith}
 use Rattle.std.proofs.lemmas.Bool.{cases_lt}
 use Rattle.std.proofs.lemmas.List.{get_or-map, get_or_past, length-map}
