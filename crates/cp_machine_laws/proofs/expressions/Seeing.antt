@@ -7,7 +7,7 @@ use Rattle.cp_machine_laws.proofs.Words.{result_begun, begun_form, Ground, Routi
 use Rattle.cp_machine_laws.proofs.Words.{BegunAgrees, Few, Sees, onward_is, Meaning, local_variable, permanent_variable, routine_meaning, find, since, routine_in}
 use Rattle.cp_slots.specs.declared.place.PlaceOrigin.TheVariants as origin
 use Rattle.cp_meaning.specs.Types.{Range, Ty, ordinal, queue_type, set_over, array_over, record_with, component_of}
-use Rattle.cp_meaning.specs.Places.{View, Target, content_of, call_above, environment_of, this_call, plain_place, reference_at as refers_to, result_type, target_meant, target_named}
+use Rattle.cp_meaning.specs.Places.{View, Target, content_of, call_above, environment_of, this_call, plain_place, referred as refers_to, result_type, target_meant, target_named}
 use Rattle.cp_slots.specs.Code as code
 use Rattle.cp_machine_laws.proofs.expressions.Reading.{calls_frames, AllLie, place_lies}
 use Rattle.cp_machine_laws.proofs.expressions.Members.{not_equal as differ}

@@ -8,7 +8,7 @@ use Rattle.cp_tree.specs.Spelling.{is_nameless, put_routine_by, put_identifier, 
 use Rattle.cp_tree.proofs.Grows.{grows_all, grows_part, grows_routine_kind, grows_optional, grows_constant, grows_separated, grows_arguments, grows_more_expressions}
 use Rattle.cp_slots.specs.Code as code
 use Rattle.cp_slots.specs.Code.{SetExpression, ComponentPlace, Argument, Arm, Action, Item}
-use Rattle.cp_layout.specs.Values.{Value, Designated, a_routine, an_entry, a_standard, add_item as values_added, multiplied as values_multiplied, ordinal_of}
+use Rattle.cp_layout.specs.Values.{Value, Designated, a_routine, an_entry, a_standard, sum_of as values_added, product_of as values_multiplied, ordinal_of}
 use Rattle.cp_tree.specs.declared.statement.AssertionKind.{AssertionKind}
 use Rattle.cp_symbols.specs.declared.names.LayoutMeaning.{LayoutMeaning}
 use Rattle.cp_symbols.specs.declared.names.LayoutMeaning.TheVariants as meaning

@@ -9,7 +9,7 @@ use Rattle.cp_resolved.proofs.Words.{Arm, Action, Layer, again, with_cell, with_
 use Rattle.cp_tree.specs.Syntax as syntax
 use Rattle.cp_slots.specs.Code as code
 use Rattle.cp_slots.specs.Code.{Place}
-use Rattle.cp_layout.specs.Values.{Value, Designated, a_routine, an_entry, a_standard, add_item as values_added, multiplied as values_multiplied, ordinal_of}
+use Rattle.cp_layout.specs.Values.{Value, Designated, a_routine, an_entry, a_standard, sum_of as values_added, product_of as values_multiplied, ordinal_of}
 use Rattle.cp_layout.specs.LaidExpressions.{name_meaning, with_count, with_their_count, function_as, value_of_meaning, with_sign, name_at, expression, sum, more_terms, term, more_factors, factor, elements, first_value, arguments_from, designator, selectors, selector, arguments}
 use Rattle.cp_layout.specs.LaidDeclarations.{end_of_body}
 use Rattle.cp_resolved.specs.ItemsStand.{body_items}

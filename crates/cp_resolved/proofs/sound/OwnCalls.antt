@@ -13,7 +13,7 @@ use Rattle.cp_check.specs.Headings as headings
 use Rattle.cp_check.specs.Routines as routines
 use Rattle.cp_check.specs.Systems as systems
 use Rattle.cp_check.specs.Statements.{statements}
-use Rattle.cp_check.specs.Faults.{declarations, program_context, open_routine as checked_opened, faults_of}
+use Rattle.cp_check.specs.Faults.{declarations, program_context, declarations_and_body as checked_opened, faults_of}
 use Rattle.cp_meaning_laws.proofs.Classes as classes
 use Rattle.cp_meaning_laws.proofs.Once.{no_left, no_right, no_first, none_before, inside_sound, defined_sound, declarations_sound, parts_sound, uses_sound as limits_sound}
 use Rattle.cp_meaning_laws.proofs.Told as told
