@@ -15,4 +15,4 @@ mod told;
 
 pub use objects::{excess_and_known_json, excess_json};
 pub use subject::{Format, Subject, Summary};
-pub use telling::{First, first_of_outcome, outcomes, simplest_of_outcome};
+pub use telling::{First, KnownOutcomes, first_of_outcome, outcomes, simplest_of_outcome};
