@@ -285,7 +285,7 @@ fn option<'a>(alloc: Global, words: OptionWords) -> Arg<'a> {
         OptionWords::PageStates => Arg::new(alloc, "page-states")
             .long("states")
             .value_name("N")
-            .help("States that the page goes on from, 1 to 100000 [default: 2000]"),
+            .help("States that the page goes on from, 1 to 100000 [default: 10000]"),
         OptionWords::Expectations => Arg::new(alloc, "expectation")
             .value_name("EXPECTATION")
             .num_args(0..)

@@ -4,7 +4,7 @@ use clap::ArgMatches;
 use cp_lanes::SheetExtent;
 
 /// How many states a page goes on from where the words do not say so, and at most.
-pub const USUAL_STATES: u32 = 2000;
+pub const USUAL_STATES: u32 = 10_000;
 
 const MOST_STATES: u32 = 100_000;
 

@@ -1,0 +1,5 @@
+mod Given
+pub mod Remembered
+pub mod Steps
+pub mod Sums
+pub mod Told
