@@ -1,13 +1,16 @@
 //! What is there and what is wanted, where a construct breaks a rule.
 
-use crate::extent::single;
+use crate::extent::{between, single};
 use crate::judging::Judging;
 use crate::operands::{
     Designated, Operands, Value, about_sets, are_alike, phrase, why_not_compared, why_not_selected,
 };
+use crate::rules::{mark_before, put_declared};
+use crate::spelling::{Known, similar_declaration};
 use cp_check::operand::Named;
 use cp_check::statement::Target;
-use cp_scope::ValueType;
+use cp_scope::{Base, ValueType, values_of};
+use cp_text::Mark;
 use cp_tree::{Relation, Selector};
 
 /// What is wanted where each ordinal value will do.
@@ -98,6 +101,51 @@ impl<'a> Judging<'a> {
         self.teller.text.put_display(given);
     }
 
+    /// Says what the parameters of a routine or a system type are, where it has some.
+    pub fn put_parameters(&mut self, heading: usize) {
+        let last = self.parameters(heading).len().saturating_sub(1);
+        if let Some(first) = self.declarations.parameter(heading, 0)
+            && let Some(last) = self.declarations.parameter(heading, last)
+            && let Some(type_name) = last.what.type_name()
+        {
+            let tokens = self.teller.tokens;
+            let from = if mark_before(tokens, first.at) == Some(Mark::Var) {
+                first.at.saturating_sub(1)
+            } else {
+                first.at
+            };
+            self.teller.put(": its heading has ");
+            self.teller
+                .put_tokens(between(from, type_name.at.saturating_add(1)));
+        }
+    }
+
+    /// Says which of the types with one phrase a value has, where that has a name or bounds.
+    fn put_own_type(&mut self, value: Value) {
+        let named = match value.value_type() {
+            ValueType::Array(at) | ValueType::Record(at) | ValueType::Component(_, at) => {
+                match self.declarations.known_at(at) {
+                    Some(one) => one.name,
+                    None => return,
+                }
+            }
+            value_type if value_type.is_same(values_of(Base::Integer)) => "integer",
+            ValueType::Ordinal(range) if range.base.is_same(Base::Integer) => "",
+            _ => return,
+        };
+        self.teller.put(": ");
+        self.teller.put_tokens(value.extent());
+        self.teller.put(" is of type ");
+        self.teller.put(named);
+        if let ValueType::Ordinal(range) = value.value_type()
+            && named.is_empty()
+        {
+            self.teller
+                .text
+                .put_display(format_args!("{}..{}", range.low, range.high));
+        }
+    }
+
     /// Says which argument is of another type than its parameter.
     pub fn put_argument(
         &mut self,
@@ -116,7 +164,8 @@ impl<'a> Judging<'a> {
         self.teller.put_tokens(value.extent());
         self.teller.put(", is ");
         self.teller.put(phrase(value.value_type()));
-        self.teller.put(if are_alike(parameter.value_type, value.value_type()) {
+        let is_alike = are_alike(parameter.value_type, value.value_type());
+        self.teller.put(if is_alike {
             ", but of another type than the parameter "
         } else {
             ", but the parameter is "
@@ -128,6 +177,9 @@ impl<'a> Judging<'a> {
                 self.teller.put(": ");
                 self.teller.put_tokens(single(name.at));
             }
+        }
+        if is_alike {
+            self.put_own_type(value);
         }
     }
 
@@ -175,6 +227,7 @@ impl<'a> Judging<'a> {
         self.put_after(
             whole,
             match whole.named {
+                Named::Kind => " is a type, and init starts a variable of it",
                 Named::Variable(array @ ValueType::Array(_)) if self.is_fixed(array) => {
                     " is an array, and init takes its elements one by one"
                 }
@@ -202,7 +255,33 @@ impl<'a> Judging<'a> {
                 self.teller.put(why_not_selected(value_type, selector));
             }
             (None, Selector::Index(_), _) => self.put_role(before, ", and has no elements"),
-            (None, Selector::Field(_), _) => self.put_role(before, ", and has no fields"),
+            (None, Selector::Field(_), _) => self.put_role(
+                before,
+                match before.named {
+                    Named::Kind => ": what stands before a period is a variable of such a type",
+                    _ => ", and has no fields",
+                },
+            ),
+        }
+    }
+
+    /// Says that the token is no field of a record and no routine of a component, and which one may have been meant.
+    pub fn put_no_member(&mut self, before: Designated<'a>) {
+        let known = match before.value_type() {
+            Some(ValueType::Record(at)) => {
+                self.teller.put_about("# is no field of this record");
+                Known::FieldOf(at)
+            }
+            Some(ValueType::Component(_, at)) => {
+                self.teller.put_about(
+                    "# is no routine of this component, whose variables can't be reached from outside",
+                );
+                Known::EntryOf(at)
+            }
+            _ => return,
+        };
+        if let Some(other) = similar_declaration(&self.teller, &self.declarations, known) {
+            put_declared(&mut self.teller, other);
         }
     }
 
@@ -294,6 +373,7 @@ impl<'a> Judging<'a> {
         } else if are_alike(wanted, right.value_type()) {
             self.put_both(left.with_type(wanted), " and ", right);
             self.teller.put(", but of another type");
+            self.put_own_type(right);
         } else {
             self.put_after(left, "");
             self.put_taken(phrase(wanted));

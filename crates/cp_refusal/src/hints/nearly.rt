@@ -4,7 +4,6 @@ ghost use Rattle.std.specs.Prelude.{◌≤◌, length};
 
 use crate::hints::Gathering;
 use crate::place::comments;
-use crate::report::Hint;
 use crate::spelling::is_nearly;
 use std::alloc::AllocError;
 
@@ -76,9 +75,8 @@ impl<'a, 'b> Gathering<'a, 'b> {
         for span in comments(self.alloc, self.source)? {
             let to = span.from.saturating_add(span.len).min(self.source.len());
             let comment = &self.source[span.from.min(to)..to];
-            if is_meant(comment) && !self.is_full() {
-                let sentence = String::from_str(self.alloc, SENTENCE)?;
-                self.hints.all.push(Hint { sentence, span })?;
+            if is_meant(comment) {
+                self.add_in(span, SENTENCE)?;
             }
         }
         Ok(())
