@@ -1,0 +1,6 @@
+pub mod Looking
+pub mod Statuses
+pub mod Touching
+pub mod Watching
+pub mod Wider
+pub mod Written

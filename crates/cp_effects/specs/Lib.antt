@@ -1,0 +1,5 @@
+pub mod Noting
+pub mod Lying
+pub mod Touching
+pub mod Watching
+pub mod Remembered

@@ -1,0 +1,5 @@
+pub mod Runs
+pub mod Placed
+pub mod Coded
+pub mod Parts
+pub mod Laws

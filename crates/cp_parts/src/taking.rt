@@ -1,0 +1,124 @@
+//! A state becomes the one of a row.
+
+use crate::coding::{frame_of, option_of, status_of};
+use crate::placing::PlaceTable;
+use crate::span::Span;
+use crate::store::PartStore;
+use arrayvec::ArrayVec;
+use cp_machine::{Gate, ProcessState, State};
+use cp_states::processes::take_list;
+
+// The numbers of a part stand in it in this order.
+const CELLS: usize = 0;
+
+const BINDINGS: usize = 1;
+
+const PHASES: usize = 2;
+
+const HOLDER: usize = 4;
+
+const LINE: usize = 5;
+
+const FRAME: usize = 5;
+
+const STACK: usize = 6;
+
+const LOCALS: usize = 7;
+
+const REFERENCES: usize = 8;
+
+// A list has in a span what another list has.
+#[inline(always)]
+fn take_span<T: Copy>(to: &mut [T], span: Span, from: &[T]) {
+    for at in 0..from.len() {
+        to[span.first + at] = from[at];
+    }
+}
+
+impl PartStore {
+    #[inline(always)]
+    fn take_ground(&self, table: &PlaceTable, place: usize, part: &[u32], state: &mut State) {
+        let cells = table.cells.spans[place];
+        let components = table.components.spans[place];
+        take_span(
+            &mut state.permanents,
+            cells,
+            self.grounds.cells.at(part[CELLS] as usize),
+        );
+        take_span(
+            &mut state.bindings,
+            cells,
+            self.grounds.bindings.at(part[BINDINGS] as usize),
+        );
+        take_span(
+            &mut state.phases,
+            components,
+            self.grounds.phases.at(part[PHASES] as usize),
+        );
+    }
+
+    #[inline(always)]
+    fn take_process(&self, part: &[u32], process: &mut ProcessState) {
+        process.frame = frame_of(self.bodies.frames.at(part[FRAME] as usize));
+        take_list(
+            &mut process.stack,
+            self.bodies.stacks.at(part[STACK] as usize),
+        );
+        take_list(
+            &mut process.room.cells,
+            self.bodies.cells.at(part[LOCALS] as usize),
+        );
+        take_list(
+            &mut process.room.references,
+            self.bodies.references.at(part[REFERENCES] as usize),
+        );
+    }
+
+    #[inline(always)]
+    fn take_monitor(&self, part: &[u32], guard: &mut Gate) {
+        let waiting = self.lines.at(part[LINE] as usize);
+        let mut line = ArrayVec::new();
+        for at in 0..waiting.len() {
+            line.push(waiting[at]);
+        }
+        guard.holder = option_of(part[HOLDER]);
+        guard.line = line;
+    }
+
+    // A state has in a place what has a number.
+    #[inline(never)]
+    fn take_part(&self, table: &PlaceTable, place: usize, number: u32, state: &mut State) {
+        let part = self.parts.at(number as usize);
+        self.take_ground(table, place, part, state);
+        if place < table.processes {
+            self.take_process(part, &mut state.processes[place]);
+        } else {
+            self.take_monitor(part, &mut state.guards[place - table.processes]);
+        }
+    }
+
+    fn take_parts(&self, table: &PlaceTable, row: &[u32], known: &[u32], state: &mut State) {
+        for place in 0..table.places() {
+            let at = table.part_position(place);
+            if row[at] != known[at] {
+                self.take_part(table, place, row[at], state);
+            }
+        }
+    }
+
+    fn take_statuses(&self, row: &[u32], known: &[u32], processes: &mut [ProcessState]) {
+        for at in 0..processes.len() {
+            if row[at] != known[at] {
+                processes[at].status = status_of(self.statuses.at(row[at] as usize));
+            }
+        }
+    }
+
+    /// A state becomes the one of the same program that has a row, and displays nothing. Its own row is known. It takes no memory.
+    pub fn take_row(&self, table: &PlaceTable, row: &[u32], known: &[u32], state: &mut State) {
+        self.take_parts(table, row, known, state);
+        self.take_statuses(row, known, &mut state.processes);
+        state.pending = option_of(row[table.pending_position()]);
+        state.output.clear();
+    }
+}
