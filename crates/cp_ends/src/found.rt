@@ -36,7 +36,7 @@ pub enum Arrived {
 
 impl Arrived {
     // At the state of this number.
-    fn at(number: usize) -> Arrived
+    pub fn at(number: usize) -> Arrived
         ensures few { number < 2 ^ 32 → result ≡ arrived.At number }
         ensures halt { halt_of result ≡ halt.Choice }
     {
@@ -170,7 +170,7 @@ impl Found {
     }
 
     // A word leads to an end.
-    fn add_end(&mut self, end: End, origin: Origin) -> Result<(), AllocError>
+    pub fn add_end(&mut self, end: End, origin: Origin) -> Result<(), AllocError>
         ensures { IfOk result (λ _. (r : Tables) (f : SlotFindings) (word : List ℕ) → Holds r self.old f → IsWordOf f.states origin word → Holds r self.new (record f { ends = with_first ends_tests.end f.ends end word })) }
     {
         if !has_end(&self.ends, end) {
@@ -180,7 +180,7 @@ impl Found {
     }
 
     // A word leads to a stretch that displays these values.
-    fn add_values(&mut self, values: &[Shown], origin: Origin) -> Result<(), AllocError>
+    pub fn add_values(&mut self, values: &[Shown], origin: Origin) -> Result<(), AllocError>
         ensures values { IfOk result (λ _. (r : Tables) (f : SlotFindings) (word : List ℕ) → Holds r self.old f → IsWordOf f.states origin word → Holds r self.new (record f { values = with_values ends_tests.value ends_tests.most f.values values.now word })) }
         ensures states { self.new.states ≡ self.old.states }
     {

@@ -8,6 +8,7 @@ pub mod laws;
 pub mod origin;
 pub mod report;
 pub mod round;
+pub mod rows;
 pub mod search;
 pub mod sight;
 pub mod state_key;

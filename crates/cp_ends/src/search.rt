@@ -18,6 +18,7 @@ ghost use Rattle.cp_ends.specs.declared.found.Arrived.TheVariants.{At};
 
 use crate::choosing::{choose, open};
 use crate::found::{Arrived, Found};
+use crate::rows::search_rows;
 use crate::origin::Origin;
 use crate::sight::{Sight, Unseen};
 use crate::told::Told;
@@ -85,12 +86,7 @@ fn search_with<O: ObserveProgress, S: Ledger>(
     requires most { 1 ≤ job.now.most }
     ensures { IfOk result (λ found. IsSearch job.now.program.now (slot_graph job.now.program.now job.now.limits.discipline job.now.limits.steps) job.now.most found found.stopped) }
 {
-    let mut visit: EndsVisit<S, Unseen> = EndsVisit::new(job.alloc, Unseen, blank);
-    let mut state = State::start(job.alloc, job.program, job.limits.discipline)?;
-    visit.open(job, &mut state)?;
-    let mut next = state.copy(job.alloc)?;
-    visit.found.stopped = visit_all(job, &mut visit, &mut state, &mut next, observer)?;
-    Ok(visit.found)
+    search_rows::<O, S>(job, observer, blank)
 }
 
 impl<S: Ledger, P: Sight> EndsVisit<S, P> {

@@ -22,6 +22,8 @@ pub struct States {
     pub known: IndexMap<StateRow, Origin>,
     /// The parts of the states.
     pub store: Store,
+    /// Of a search by rows: where the word of each state comes from.
+    pub origins: Vec<Origin>,
 }
 
 impl States {
@@ -32,6 +34,7 @@ impl States {
         States {
             known: IndexMap::new(alloc),
             store: Store::new(alloc),
+            origins: Vec::new(alloc),
         }
     }
 
@@ -40,6 +43,9 @@ impl States {
         ensures count { result ≡ length self.now.known.entries }
         ensures small { result < 2 ^ 63 }
     {
+        if !self.origins.is_empty() {
+            return self.origins.len();
+        }
         self.known.len()
     }
 
@@ -104,6 +110,9 @@ impl States {
     pub fn origin(&self, number: u32) -> Origin
         ensures { result ≡ origin_at self.now.known.entries number }
     {
+        if !self.origins.is_empty() {
+            return self.origins[number as usize];
+        }
         match self.known.get_index(number as usize) {
             Some((_, origin)) => *origin,
             None => Origin::Start,
@@ -116,7 +125,7 @@ impl States {
     {
         let mut word = Vec::new(alloc);
         let mut from = origin;
-        for _ in 0..self.known.len() {
+        for _ in 0..self.len() {
             let Origin::Choice { state, number } = from else {
                 break;
             };
