@@ -1,0 +1,9 @@
+pub mod Spans
+pub mod Codes
+pub mod Pieces
+pub mod Pushing
+pub mod Places
+pub mod Keeping
+pub mod Same
+pub mod Rows
+pub mod Laid
