@@ -165,7 +165,7 @@ def played(data, word):
 
 def prospects_of(data):
     """What can come from each state: its ends as (kind, error, process, line), "for-ever" for a way without an end, "beyond" for where the page ends."""
-    ways = [[data["edges"][edge][1] if edge >= 0 else None for edge in pairs[1::2]] for _, pairs in data["nodes"]]
+    ways = [[data["edges"][edge][1] if edge >= 0 else None for edge in pairs[1::2]] for _, pairs, *_ in data["nodes"]]
     found = [{"beyond" if to is None else tuple(told(data["ends"][-1 - to])) for to in goals if to is None or to < 0} for goals in ways]
     for node, height in enumerate(heights_of(data)):
         if height is None:
@@ -198,20 +198,20 @@ def random_plays(data, count, rng, most=60):
 
 def is_whole(data):
     """Whether the page goes on from all its states."""
-    return all(pairs[1] >= 0 for _, pairs in data["nodes"])
+    return all(pairs[1] >= 0 for _, pairs, *_ in data["nodes"])
 
 
 def heights_of(data):
-    """The most choices that can follow each state; None where there is no bound."""
+    """The most choices that can follow each state; None where there is no bound, or none that the page knows."""
     edges = data["edges"]
-    following = [[edges[edge][1] for edge in pairs[1::2] if edge >= 0 and edges[edge][1] >= 0] for _, pairs in data["nodes"]]
+    following = [[edges[edge][1] for edge in pairs[1::2] if edge >= 0 and edges[edge][1] >= 0] for _, pairs, *_ in data["nodes"]]
     before = [[] for _ in following]
     for node, nodes in enumerate(following):
         for other in nodes:
             before[other].append(node)
     missing = [len(nodes) for nodes in following]
     heights = [None] * len(following)
-    done = [node for node, count in enumerate(missing) if count == 0]
+    done = [node for node, count in enumerate(missing) if count == 0 and data["nodes"][node][1][1] >= 0]
     while done:
         node = done.pop()
         heights[node] = 1 + max((heights[other] for other in following[node]), default=0)
@@ -222,33 +222,78 @@ def heights_of(data):
     return heights
 
 
-def counts_of(data):
-    """How many schedules come to each outcome, added up over the graph: (kind, error, process, line, output) -> count."""
-    sys.setrecursionlimit(100000)
-    memo, heights, nodes, edges = {}, heights_of(data), data["nodes"], data["edges"]
-    shown = [" ".join(data["strings"][data["events"][e][4]] for e in events if data["events"][e][0] == "o") for events, _ in edges]
+def onward_of(data, node, left):
+    """What the page tells of a state that it does not go on from, with so many choices left: (kind, error, process, line, output) -> count. None if it tells nothing."""
+    told = data["nodes"][node][2] if len(data["nodes"][node]) > 2 else []
+    rows = dict(zip(told[::2], told[1::2]))
+    if left not in rows:
+        return None
+    row = data["ways"][rows[left]]
+    return {(*data["further"][place][0], data["strings"][data["further"][place][1]]): int(count) for place, count in zip(row[::2], row[1::2])}
 
-    def ways(node, left):
-        key = node, left if heights[node] is None else min(left, heights[node])
-        if key in memo:
-            return memo[key]
-        found = {} if left else {("choice-limit", "", 0, 0, ""): 1}
-        for edge in nodes[node][1][1::2] if left else ():
-            for outcome, count in through(edge, left).items():
+
+def edge_of(data):
+    """The states that the page does not go on from: (word that leads there, state, choices left), each with each number of choices left once."""
+    first = data["edges"][data["start"][0]][1]
+    layer = {first: []} if first >= 0 else {}
+    for left in range(data["choices"], 0, -1):
+        following = {}
+        for node, word in layer.items():
+            pairs = data["nodes"][node][1]
+            if pairs[1] < 0:
+                yield word, node, left
+                continue
+            for option, edge in zip(pairs[::2], pairs[1::2]):
+                to = data["edges"][edge][1]
+                if to >= 0:
+                    following.setdefault(to, word + [option])
+        layer = following
+
+
+def is_counted(data):
+    """Whether the page tells what comes of each state that it does not go on from."""
+    return all(onward_of(data, node, left) is not None for _, node, left in edge_of(data))
+
+
+class Counts:
+    """How many schedules lead on from each state, added up over the graph: (kind, error, process, line, output) -> count."""
+
+    def __init__(self, data):
+        sys.setrecursionlimit(100000)
+        self.data, self.memo, self.heights, self.nodes, self.edges = data, {}, heights_of(data), data["nodes"], data["edges"]
+        self.shown = [" ".join(data["strings"][data["events"][e][4]] for e in events if data["events"][e][0] == "o") for events, _ in self.edges]
+
+    def ways(self, node, left):
+        key = node, left if self.heights[node] is None else min(left, self.heights[node])
+        if key not in self.memo:
+            self.memo[key] = self.count(node, left)
+        return self.memo[key]
+
+    def count(self, node, left):
+        if left == 0:
+            return {("choice-limit", "", 0, 0, ""): 1}
+        pairs = self.nodes[node][1]
+        if pairs[1] < 0:
+            return onward_of(self.data, node, left)
+        found = {}
+        for edge in pairs[1::2]:
+            for outcome, count in self.through(edge, left).items():
                 found[outcome] = found.get(outcome, 0) + count
-        memo[key] = found
         return found
 
-    def through(edge, left):
-        to = edges[edge][1]
-        rest = ways(to, left - 1) if to >= 0 else {(*limited(data["ends"][-1 - to]), ""): 1}
+    def through(self, edge, left):
+        to = self.edges[edge][1]
+        rest = self.ways(to, left - 1) if to >= 0 else {(*limited(self.data["ends"][-1 - to]), ""): 1}
         added = {}
         for (*end, output), count in rest.items():
-            outcome = (*end, " ".join(filter(None, [shown[edge], output])))
+            outcome = (*end, " ".join(filter(None, [self.shown[edge], output])))
             added[outcome] = added.get(outcome, 0) + count
         return added
 
-    return through(data["start"][0], data["choices"] + 1)
+
+def counts_of(data):
+    """How many schedules come to each outcome."""
+    return Counts(data).through(data["start"][0], data["choices"] + 1)
 
 
 def limited(end):

@@ -260,7 +260,7 @@ def check_marks(room):
     want("a class", (status, said), (0, ""))
     want("its columns", lines[0], "file,never all-waiting,points,why: never all-waiting")
     want("a solution that holds", lines[1], f"{right},holds,1,")
-    want("the line of the student's file", lines[2], f"{unknown},refused,0,line 2: integr is not declared here (rule C1)")
+    want("the line of the student's file", lines[2], f"{unknown},refused,0,line 2: integr is not declared here: integer may be meant (rule C1)")
     want("the line of what stands below", lines[3], f"{short},refused,0,line 1 of {bottom}: b is not declared here (rule C1)")
     want("a file that is not there", lines[4], "none.cp,unreadable,0,No such file or directory")
     status, text, _ = run("./class", "--csv", "--choices", "19", "-e", "never all-waiting", "--like", ORDERED, DEADLOCK, ORDERED)

@@ -10,7 +10,7 @@ use Rattle.cp_scope.specs.Judged.{Judged}
 
 -- ---- names of fields
 
--- What names leave that are being sound_fields: the faults in them, and the fields with them.
+-- What names leave that are being declared: the faults in them, and the fields with them.
 pub record Reserved : Type 0 where
   pub faults : List CheckFault
   pub fields : Scope
@@ -24,7 +24,7 @@ reserve_field f n =
     then record { faults = check_fault.Rule n.at C2 ∷ []; fields = f }
     else record { faults = []; fields = with_pending f n.name }
 
--- the names are being sound_fields
+-- the names are being declared
 unfoldable pub reserve_fields : Scope → List Identifier → Reserved
 reserve_fields f [] = record { faults = []; fields = f }
 reserve_fields f (n ∷ ns) = then_reserve (reserve_field f n) (λ after. reserve_fields after ns)
@@ -33,7 +33,7 @@ unfoldable pub with_fields : Scope → List Identifier → Option Meaning → Sc
 with_fields f [] m = f
 with_fields f (n ∷ ns) m = with_fields (with_name f n.name m) ns m
 
--- the names are sound_fields
+-- the names are declared
 unfoldable pub add_fields : Scope → List Identifier → Option Meaning → Scope
 add_fields f ns m = without_pending (with_fields f ns m)
 

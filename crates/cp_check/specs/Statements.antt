@@ -133,7 +133,7 @@ as_many ps k None = if nat_eq (length ps) k then ps else []
 abbrev pub procedure_parameters : Scopes → ℕ → ℕ → List parameter.Parameter
 procedure_parameters s n k = as_many (heading_at n s).parameters k (heading_at n s).result
 
--- the parameters of what is check_routine_call, where as many arguments stand
+-- the parameters of what is called, where as many arguments stand
 abbrev pub parameters_of : Scopes → Named → ℕ → List parameter.Parameter
 parameters_of s (Routine n) k = procedure_parameters s n k
 parameters_of s (Entry n) k = procedure_parameters s n k

@@ -226,7 +226,7 @@ unfoldable mutual
   typed s p (set_type at b) = set_type_of at (simple_at b) (simple_type s spot.Base b)
   typed s p (record_of at gs b) = record_type at (groups_typed new_scope s gs)
 
-  -- fields that are sound_fields after others
+  -- fields that are declared after others
   pub groups_typed : Scope → Scopes → FieldGroups → Fields
   groups_typed f s no_fields = sound_fields f s
   groups_typed f s (more_fields g gs) = then_fields (group_typed f s g) (λ before after. groups_typed before after gs)

@@ -2,11 +2,13 @@
 #![tactic(auto)]
 
 mod finding;
+pub mod numbered;
 mod objects;
 mod placing;
-mod subject;
+pub mod subject;
 mod telling;
 mod texts;
 
+pub use numbered::{NumberedSchedule, schedule_of_end, schedule_of_wait};
 pub use subject::{EndsFormat, EndsSubject, EndsSummary};
 pub use telling::ends_story;

@@ -51,15 +51,22 @@ fn put_states(telling: Telling<'_>, object: &mut Object) -> Result<(), AllocErro
 
 fn put_ends(telling: Telling<'_>, object: &mut Object) -> Result<(), AllocError> {
     let mut items = Vec::new(telling.alloc);
-    for end in &telling.findings.ends {
-        items.push(end_object(telling, end)?)?;
+    for (place, end) in telling.findings.ends.iter().enumerate() {
+        items.push(end_object(telling, place, end)?)?;
     }
     object.put("ends", Value::Array(items))
 }
 
-fn end_object(telling: Telling<'_>, end: &ToldEnd) -> Result<Value, AllocError> {
-    let word = end.word.as_slice();
+// An object with the number of an item of a list, of which there are so many before it.
+fn numbered_object(telling: Telling<'_>, before: usize) -> Result<Object, AllocError> {
     let mut object = Object::new(telling.alloc);
+    object.number("number", (before as u64).saturating_add(1))?;
+    Ok(object)
+}
+
+fn end_object(telling: Telling<'_>, place: usize, end: &ToldEnd) -> Result<Value, AllocError> {
+    let word = end.word.as_slice();
+    let mut object = numbered_object(telling, place)?;
     match end.end {
         End::Over(kind) => put_kind(&mut object, kind)?,
         End::Alone(process) => put_going(&mut object, "alone", process)?,
@@ -134,16 +141,20 @@ fn put_waits(telling: Telling<'_>, object: &mut Object) -> Result<(), AllocError
         Some(Waits::NotSettled(process)) => object.number("not_settled", u64::from(*process)),
         Some(Waits::Known(list)) => {
             let mut items = Vec::new(telling.alloc);
-            for waiting in list {
-                items.push(waiting_object(telling, waiting)?)?;
+            for (place, waiting) in list.iter().enumerate() {
+                items.push(waiting_object(telling, place, waiting)?)?;
             }
             object.put("waits", Value::Array(items))
         }
     }
 }
 
-fn waiting_object(telling: Telling<'_>, waiting: &Waiting) -> Result<Value, AllocError> {
-    let mut object = Object::new(telling.alloc);
+fn waiting_object(
+    telling: Telling<'_>,
+    place: usize,
+    waiting: &Waiting,
+) -> Result<Value, AllocError> {
+    let mut object = numbered_object(telling, place)?;
     object.number("process", u64::from(waiting.process))?;
     object.text(
         "how",

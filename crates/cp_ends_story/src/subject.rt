@@ -1,12 +1,14 @@
 //! What is told, and how.
 
+ghost use Rattle.std.specs.Prelude.{◌≤◌};
+
 use cp_ends::End;
 use cp_legend::Legend;
 use cp_machine::Shown;
 use cp_run::{Limits, OutcomeKind};
 use cp_slots::Resolved;
 use cp_waits::Waits;
-use std::alloc::{AllocError, Global};
+use std::alloc::Global;
 
 /// How the ends are written.
 #[derive(Clone, Copy, PartialEq, Eq)]
@@ -29,6 +31,7 @@ pub struct EndsSubject<'a> {
     pub at_once: bool,
     /// The lines of the source.
     pub source: &'a [String],
+    ghost some_state: { 1 ≤ most },
 }
 
 /// The ends as they are told.
@@ -77,39 +80,6 @@ pub struct Findings {
 }
 
 impl Findings {
-    /// Nothing yet, by a search that looked so far.
-    pub fn new(alloc: Global, reach: Reach) -> Findings {
-        Findings {
-            ends: Vec::new(alloc),
-            values: Vec::new(alloc),
-            reach,
-            waits: None,
-        }
-    }
-
-    /// Adds an end, unless its word is longer than those that were looked at.
-    pub fn add_end(&mut self, end: End, word: Vec<u8>) -> Result<(), AllocError> {
-        if self.reaches(&word) {
-            self.ends.push(ToldEnd { end, word })?;
-        }
-        Ok(())
-    }
-
-    /// Adds a value, unless its word is longer than those that were looked at.
-    pub fn add_value(&mut self, value: Shown, word: Vec<u8>) -> Result<(), AllocError> {
-        if self.reaches(&word) {
-            self.values.push(ToldValue { value, word })?;
-        }
-        Ok(())
-    }
-
-    fn reaches(&self, word: &[u8]) -> bool {
-        match self.reach {
-            Reach::Choices(most) => word.len() <= most,
-            _ => true,
-        }
-    }
-
     /// Whether kernel calls were made at once.
     pub fn is_at_once(&self) -> bool {
         matches!(self.reach, Reach::StatesAtOnce(_) | Reach::SomeAtOnce)

@@ -118,14 +118,20 @@ fn push_ends(telling: Telling<'_>, text: &mut Prose) {
         " end is possible\n\n",
         " ends are possible\n\n",
     );
-    for end in ends {
+    for (place, end) in ends.iter().enumerate() {
+        push_item(text, place);
         push_end(telling, text, end);
     }
     text.put_char('\n');
 }
 
+// The number of an item of a list, of which there are so many before it.
+fn push_item(text: &mut Prose, before: usize) {
+    text.put_display(before.saturating_add(1));
+    text.put(".  ");
+}
+
 fn push_end(telling: Telling<'_>, text: &mut Prose, end: &ToldEnd) {
-    text.put("  ");
     push_kind(telling, text, end.end);
     text.put_char('\n');
     push_words(telling, text, telling.findings.word_name(), &end.word);
@@ -268,7 +274,8 @@ fn push_waits(telling: Telling<'_>, text: &mut Prose) {
         " process may wait for ever while others go on\n\n",
         " processes may wait for ever while others go on\n\n",
     );
-    for waiting in list {
+    for (place, waiting) in list.iter().enumerate() {
+        push_item(text, place);
         push_waiting(telling, text, waiting);
     }
     text.put_char('\n');
@@ -276,7 +283,6 @@ fn push_waits(telling: Telling<'_>, text: &mut Prose) {
 
 // A sentence on a process that may wait for ever, where it waits, and the words that show it.
 fn push_waiting(telling: Telling<'_>, text: &mut Prose, waiting: &Waiting) {
-    text.put("  ");
     push_process(telling, text, waiting.process);
     text.put(match waiting.how {
         How::Throughout => " may wait for ever",

@@ -34,7 +34,7 @@ use Rattle.cp_layout.specs.LaidExpressions.{name_meaning, byte_or, name_at, expr
 
 -- ---- assignments
 
--- a variable that is assign to
+-- a variable that is assigned to
 pub record Target : Type 0 where
   pub place : Place
   pub value_type : CellType

@@ -1,4 +1,4 @@
-//! Statements as items. The items of a list are add_item last to first, each after those inside it.
+//! Statements as items. The items of a list are added last to first, each after those inside it.
 
 ghost use Rattle.std.specs.Prelude.{◌≡◌, map, option_map};
 ghost use Rattle.cp_tree.specs.View.{expression_view, expressions_view, expressions_of, designator_view, statement_view, statements_view, statements_of, arm_view, arms_view, arms_of, start_view};

@@ -29,7 +29,7 @@ pub record Keeping (P : Property) (pid : ℕ) : Type 0 where
   -- it waits or has ended; whatever process is ready; one of a line has to be admitted
   pub settled : (m : Machine) (status : Status) → is_unstarted status ≡ false → Kept P m → Kept P (with_status m pid status)
   pub readied : (m : Machine) (p : ℕ) → Kept P m → Kept P (with_status m p Ready)
-  -- who was delay_caller comes to a gate
+  -- who was delayed comes to a gate
   pub gated : (m : Machine) (p cell monitor : ℕ) → is_delayed_at cell (thread_at m.threads p).status ≡ true → Kept P m → Kept P (with_status m p (AtGate monitor))
   pub wanted : (m : Machine) (monitor : ℕ) → m.discipline.gates ≡ Any → Kept P m → Kept P (with_pending m (Some monitor))
 

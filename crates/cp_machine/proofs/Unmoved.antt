@@ -50,7 +50,7 @@ admitted_at_bodies : (pending : Option ℕ) (m : Machine) (pid q : ℕ) → body
 admitted_at_bodies None m pid q = refl
 admitted_at_bodies (Some monitor) m pid q = status_body m.threads pid Ready q
 
--- an admission changes no body, that of the admit_waiting process neither
+-- an admission changes no body, that of the admitted process neither
 pub admitted_keeps : (m : Machine) (pid : ℕ) → (length (admit_waiting m pid).threads ≡ length m.threads) × ((q : ℕ) → body_at (admit_waiting m pid) q ≡ body_at m q)
 admitted_keeps m pid = (admitted_at_count m.pending m pid, admitted_at_bodies m.pending m pid)
 

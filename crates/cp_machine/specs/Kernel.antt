@@ -69,7 +69,7 @@ resume m monitor cell = go_on_inside (waits_in m cell) (record m { permanents = 
 abbrev pub join_line : Machine → (monitor pid : ℕ) → Machine
 join_line m monitor pid = with_monitor (with_status m pid (AtGate monitor)) monitor (record { holder = (monitor_at m monitor).holder; line = (monitor_at m monitor).line ++ pid ∷ [] })
 
--- the caller is the first of the line, and who was go_on_inside goes in
+-- the caller is the first of the line, and who was resumed goes in
 abbrev pub change_places : Machine → (monitor caller go_on_inside : ℕ) → Machine
 change_places m monitor caller go_on_inside = goes_in (with_status m caller (AtGate monitor)) monitor go_on_inside (caller ∷ (monitor_at m monitor).line)
 

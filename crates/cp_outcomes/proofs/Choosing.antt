@@ -9,12 +9,13 @@ use Rattle.cp_walk.specs.Groups.{Tally}
 use Rattle.cp_walk.specs.declared.job.Job.{Job}
 use Rattle.cp_merged.specs.Code.{tally_of}
 use Rattle.cp_merged.specs.declared.tally.Tally as code
-use Rattle.cp_outcomes.specs.Chosen.{IsChosen, IsFirst, IsSchedule, told_in, with_number}
+use Rattle.cp_outcomes.specs.Chosen.{IsChosen, IsCount, IsFirst, IsSchedule, reach_of, told_in, with_number}
 use Rattle.cp_outcomes.specs.Findings.{IsFoundOf}
 use Rattle.cp_outcomes.specs.Told.{in_order, is_of}
 use Rattle.cp_outcomes.specs.declared.telling.Finding.{Finding}
 use Rattle.cp_outcomes.specs.declared.telling.First.{First}
 use Rattle.cp_outcomes.specs.declared.telling.First.TheVariants as first
+use Rattle.cp_outcomes.specs.declared.telling.KnownOutcomes.{KnownOutcomes}
 use Rattle.cp_outcomes.proofs.Meant.{meant_finding}
 
 some_within : {X : Type 0} (xs : List X) (i : ℕ) → i < length xs → (x : X) × (slice_get xs i ≡ Some x)
@@ -66,20 +67,23 @@ in_order_all : (ts : List code.Tally) → length (in_order (map tally_of ts)) �
 in_order_all ts = either_passes (is_of false) (is_of true) (λ t. refl) (map tally_of ts) ∙ length-map ts tally_of
 
 -- none has the number
-pub none_first : (ts : List code.Tally) (number count : ℕ) → with_number (in_order (map tally_of ts)) number ≡ None → count ≡ length ts → IsFirst (length (in_order (map tally_of ts))) (with_number (in_order (map tally_of ts)) number) (first.None count)
-none_first ts number count e is = subst (λ o. IsFirst (length (in_order (map tally_of ts))) o (first.None count)) (sym e) (is ∙ sym (in_order_all ts))
+counted : (ts : List code.Tally) (reach : Option ℕ) (known : KnownOutcomes) → known.count ≡ length ts → known.choices ≡ reach → IsCount (length (in_order (map tally_of ts))) reach known
+counted ts reach known count choices = record { count_is = count ∙ sym (in_order_all ts); reach_is = choices }
 
-pub none_scheduled : (job : Job) (ts : List code.Tally) (number count : ℕ) → with_number (in_order (map tally_of ts)) number ≡ None → count ≡ length ts → IsSchedule job (length (in_order (map tally_of ts))) (with_number (in_order (map tally_of ts)) number) (first.None count)
-none_scheduled job ts number count e is = subst (λ o. IsSchedule job (length (in_order (map tally_of ts))) o (first.None count)) (sym e) (is ∙ sym (in_order_all ts))
+pub none_first : (ts : List code.Tally) (number : ℕ) (reach : Option ℕ) (known : KnownOutcomes) → with_number (in_order (map tally_of ts)) number ≡ None → known.count ≡ length ts → known.choices ≡ reach → IsFirst (length (in_order (map tally_of ts))) reach (with_number (in_order (map tally_of ts)) number) (first.None known)
+none_first ts number reach known e count choices = subst (λ o. IsFirst (length (in_order (map tally_of ts))) reach o (first.None known)) (sym e) (counted ts reach known count choices)
+
+pub none_scheduled : (job : Job) (ts : List code.Tally) (number : ℕ) (known : KnownOutcomes) → with_number (in_order (map tally_of ts)) number ≡ None → known.count ≡ length ts → known.choices ≡ None → IsSchedule job (length (in_order (map tally_of ts))) None (with_number (in_order (map tally_of ts)) number) (first.None known)
+none_scheduled job ts number known e count choices = subst (λ o. IsSchedule job (length (in_order (map tally_of ts))) None o (first.None known)) (sym e) (counted ts None known count choices)
 
 -- the outcome at a place has the number
 pub has_number : (ts : List code.Tally) (number k : ℕ) (t : code.Tally) → with_number (in_order (map tally_of ts)) number ≡ slice_get (map tally_of ts) k → k < length ts → t ≡ get_or ts k t → with_number (in_order (map tally_of ts)) number ≡ Some (tally_of t)
 has_number ts number k t e lt is = e ∙ slice_get-map tally_of ts k ∙ ap (option_map tally_of) (slice_get-get_or ts k t lt ∙ ap Some (sym is))
 
-pub not_searched : (job : Job) (count : ℕ) (o : Option Tally) → IsSchedule job count o first.NotSearched
-not_searched job count None = tt
-not_searched job count (Some t) = tt
+pub not_searched : (job : Job) (count : ℕ) (reach : Option ℕ) (o : Option Tally) → IsSchedule job count reach o first.NotSearched
+not_searched job count reach None = tt
+not_searched job count reach (Some t) = tt
 
 -- what is so among what is found is so in the table
-pub chosen_among : (job : Job) (number : ℕ) (Is : ℕ → Option Tally → First → Type 0) (chosen : First) (f : Finding) → IsFoundOf (slots job.program.now job.limits.discipline) job.limits.choices job.limits.steps f → Is (length (told_in f)) (with_number (told_in f) number) chosen → IsChosen job number Is chosen
+pub chosen_among : (job : Job) (number : ℕ) (Is : ℕ → Option ℕ → Option Tally → First → Type 0) (chosen : First) (f : Finding) → IsFoundOf (slots job.program.now job.limits.discipline) job.limits.choices job.limits.steps f → Is (length (told_in f)) (reach_of f) (with_number (told_in f) number) chosen → IsChosen job number Is chosen
 chosen_among job number Is chosen f found so = record { finding = f; found = found; meant = meant_finding job.program.now job.limits.discipline job.limits.choices job.limits.steps f found; so = so }

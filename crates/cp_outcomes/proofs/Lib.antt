@@ -1,11 +1,13 @@
 pub mod Appending
 pub mod Choosing
 pub mod Closing
+pub mod Fronts
 pub mod Gathering
 pub mod Jsons
 pub mod Meant
 pub mod Numbering
 pub mod Ordering
+pub mod Reading
 pub mod Rows
 pub mod Sharing
 pub mod Summaries

@@ -13,6 +13,7 @@ use Rattle.cp_outcomes.specs.declared.telling.Finding.{Finding}
 use Rattle.cp_outcomes.specs.declared.telling.Finding.TheVariants.{Whole, TooMany}
 use Rattle.cp_outcomes.specs.declared.telling.First.{First}
 use Rattle.cp_outcomes.specs.declared.telling.First.TheVariants as first
+use Rattle.cp_outcomes.specs.declared.telling.KnownOutcomes.{KnownOutcomes}
 
 -- the outcomes that are told with numbers: all, or those that are known of fewer choices
 abbrev pub told_in : Finding → List Tally
@@ -25,26 +26,37 @@ abbrev pub with_number : List Tally → (number : ℕ) → Option Tally
 with_number ts zero = None
 with_number ts (suc n) = slice_get ts n
 
--- its first schedule; or, where none has the number, how many outcomes there are
-abbrev pub IsFirst : (count : ℕ) → Option Tally → First → Type 0
-IsFirst count (Some t) (first.Word word) = word.items ≡ t.first.word
-IsFirst count (Some t) (first.None n) = ⊥
-IsFirst count (Some t) first.NotSearched = ⊥
-IsFirst count None (first.Word word) = ⊥
-IsFirst count None (first.None n) = n ≡ count
-IsFirst count None first.NotSearched = ⊥
+-- of how many choices the schedules are whose outcomes these are, where there is too much of something; none where they are all
+abbrev pub reach_of : Finding → Option ℕ
+reach_of (Whole tallies) = None
+reach_of (TooMany excess None) = Some 0
+reach_of (TooMany excess (Some known)) = Some known.choices
 
--- a schedule of it, where one was searched for; or how many there are
-abbrev pub IsSchedule : Job → (count : ℕ) → Option Tally → First → Type 0
-IsSchedule job count (Some t) (first.Word word) = IsScheduleOf (slots job.program.now job.limits.discipline) job.limits.choices job.limits.steps word.items t.first.outcome
-IsSchedule job count None (first.Word word) = ⊥
-IsSchedule job count (Some t) (first.None n) = ⊥
-IsSchedule job count None (first.None n) = n ≡ count
-IsSchedule job count chosen first.NotSearched = Unit {0}
+-- how many outcomes there are, and how far they are known
+pub record IsCount (count : ℕ) (reach : Option ℕ) (known : KnownOutcomes) : Type 0 where
+  pub count_is : known.count ≡ count
+  pub reach_is : known.choices ≡ reach
+
+-- its first schedule; or, where none has the number, which outcomes are known
+abbrev pub IsFirst : (count : ℕ) → (reach : Option ℕ) → Option Tally → First → Type 0
+IsFirst count reach (Some t) (first.Word word) = word.items ≡ t.first.word
+IsFirst count reach (Some t) (first.None known) = ⊥
+IsFirst count reach (Some t) first.NotSearched = ⊥
+IsFirst count reach None (first.Word word) = ⊥
+IsFirst count reach None (first.None known) = IsCount count reach known
+IsFirst count reach None first.NotSearched = ⊥
+
+-- a schedule of it, where one was searched for; or which are known
+abbrev pub IsSchedule : Job → (count : ℕ) → (reach : Option ℕ) → Option Tally → First → Type 0
+IsSchedule job count reach (Some t) (first.Word word) = IsScheduleOf (slots job.program.now job.limits.discipline) job.limits.choices job.limits.steps word.items t.first.outcome
+IsSchedule job count reach None (first.Word word) = ⊥
+IsSchedule job count reach (Some t) (first.None known) = ⊥
+IsSchedule job count reach None (first.None known) = IsCount count reach known
+IsSchedule job count reach chosen first.NotSearched = Unit {0}
 
 -- it is so of the outcome with this number among those that are found, in the table of the slot machine and so in that of the meaning
-pub record IsChosen (job : Job) (number : ℕ) (Is : (count : ℕ) → Option Tally → First → Type 0) (chosen : First) : Type 0 where
+pub record IsChosen (job : Job) (number : ℕ) (Is : (count : ℕ) → (reach : Option ℕ) → Option Tally → First → Type 0) (chosen : First) : Type 0 where
   pub finding : Finding
   pub found : IsFoundOf (slots job.program.now job.limits.discipline) job.limits.choices job.limits.steps finding
   pub meant : IsMeantFinding job.program.now job.limits.discipline job.limits.choices job.limits.steps finding
-  pub so : Is (length (told_in finding)) (with_number (told_in finding) number) chosen
+  pub so : Is (length (told_in finding)) (reach_of finding) (with_number (told_in finding) number) chosen

@@ -1,6 +1,7 @@
 pub mod Chosen
 pub mod Data
 pub mod Findings
+pub mod Lines
 pub mod Meant
 pub mod Shares
 pub mod Stops

@@ -3,6 +3,7 @@
 
 pub mod completing;
 pub mod known;
+pub mod lines;
 mod objects;
 mod pieces;
 pub mod share;
@@ -13,6 +14,7 @@ mod telling;
 mod texts;
 mod told;
 
+pub use lines::lines_of;
 pub use objects::{excess_and_known_json, excess_json};
 pub use subject::{Format, Subject, Summary};
-pub use telling::{First, first_of_outcome, outcomes, simplest_of_outcome};
+pub use telling::{First, KnownOutcomes, first_of_outcome, outcomes, simplest_of_outcome};

@@ -1,10 +1,10 @@
 //! The outcomes of all schedules, in words or as JSON.
 
-ghost use Rattle.std.specs.Prelude.{◌≡◌, ◌<◌, ◌≤◌, ◌++◌, IfErr, IfOk, IfSome, codes, length, map, option_and_then, string_bytes};
+ghost use Rattle.std.specs.Prelude.{◌≡◌, ◌<◌, ◌≤◌, ◌++◌, IfErr, IfOk, IfSome, None, codes, length, map, option_and_then, string_bytes};
 ghost use Rattle.std.specs.List.{filter, slice_get};
 ghost use Rattle.cp_run.specs.Slots.{slots};
 ghost use Rattle.cp_merged.specs.Code.{tally_of};
-ghost use Rattle.cp_outcomes.specs.Chosen.{IsChosen, IsFirst, IsSchedule, told_in, with_number};
+ghost use Rattle.cp_outcomes.specs.Chosen.{IsChosen, IsFirst, IsSchedule, reach_of, told_in, with_number};
 ghost use Rattle.cp_outcomes.specs.Findings.{IsExcessOf, IsFoundOf};
 ghost use Rattle.cp_outcomes.specs.Meant.{IsMeantFinding};
 ghost use Rattle.cp_outcomes.specs.Told.{in_order, is_of, setting_of};
@@ -101,12 +101,20 @@ fn excess_written<O: ObserveProgress>(
     }
 }
 
+/// Which outcomes have numbers.
+#[derive(Clone, Copy)]
+pub struct KnownOutcomes {
+    pub count: usize,
+    /// Of how many choices at most the schedules are that end so, where there is too much of something; none where these are all outcomes.
+    pub choices: Option<u8>,
+}
+
 /// The first schedule of an outcome.
 #[derive(Drop)]
 pub enum First {
     Word(Word),
-    /// There is no outcome of this number; this is how many there are.
-    None(usize),
+    /// There is no outcome of this number; these there are.
+    None(KnownOutcomes),
     /// There are too many states to search for a simplest one.
     NotSearched,
 }
@@ -126,22 +134,30 @@ pub fn first_of_outcome<O: ObserveProgress>(
 }
 
 fn first_found(finding: &Finding, number: usize) -> First
-    ensures { IsFirst (length (told_in finding.now)) (with_number (told_in finding.now) number) result }
+    ensures { IsFirst (length (told_in finding.now)) (reach_of finding.now) (with_number (told_in finding.now) number) result }
 {
     match finding {
-        Finding::Whole(tallies) | Finding::TooMany(_, Some(Known { tallies, .. })) => {
-            first_among(tallies.as_slice(), number)
+        Finding::Whole(tallies) => first_among(tallies.as_slice(), number, None),
+        Finding::TooMany(_, Some(known)) => {
+            first_among(known.tallies.as_slice(), number, Some(known.choices))
         }
-        Finding::TooMany(_, None) => First::None(0),
+        Finding::TooMany(_, None) => First::None(KnownOutcomes {
+            count: 0,
+            choices: Some(0),
+        }),
     }
 }
 
-fn first_among(tallies: &[Tally], number: usize) -> First
-    ensures { IsFirst (length (in_order (map tally_of tallies.now))) (with_number (in_order (map tally_of tallies.now)) number) result }
+// The same among the outcomes of all schedules, or of those of at most so many choices.
+fn first_among(tallies: &[Tally], number: usize, choices: Option<u8>) -> First
+    ensures { IsFirst (length (in_order (map tally_of tallies.now))) choices (with_number (in_order (map tally_of tallies.now)) number) result }
 {
     match place_of(tallies, number) {
         Some(place) => First::Word(word_of(tallies[place].first.as_slice())),
-        None => First::None(tallies.len()),
+        None => First::None(KnownOutcomes {
+            count: tallies.len(),
+            choices,
+        }),
     }
 }
 
@@ -200,10 +216,13 @@ fn simplest_among<O: ObserveProgress>(
     number: usize,
     observer: &mut O,
 ) -> Result<First, AllocError>
-    ensures { IfOk result (IsSchedule job.entry (length (in_order (map tally_of tallies.now))) (with_number (in_order (map tally_of tallies.now)) number)) }
+    ensures { IfOk result (IsSchedule job.entry (length (in_order (map tally_of tallies.now))) None (with_number (in_order (map tally_of tallies.now)) number)) }
 {
     let Some(place) = place_of(tallies.as_slice(), number) else {
-        return Ok(First::None(tallies.as_slice().len()));
+        return Ok(First::None(KnownOutcomes {
+            count: tallies.as_slice().len(),
+            choices: None,
+        }));
     };
     let simples = Simples::of(alloc, job, states, tallies, observer)?;
     let tally = &tallies.as_slice()[place];

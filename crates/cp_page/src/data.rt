@@ -1,12 +1,13 @@
 //! The data of a page: one JSON object.
 
-ghost use Rattle.std.specs.Prelude.{◌≡◌, [], All};
+ghost use Rattle.std.specs.Prelude.{◌≡◌, [], All, IfOk};
 ghost use Rattle.cp_machine.specs.System.{machine_of, opening, IsStateOf};
 
 use crate::endless::endless_of;
 use crate::graph::PageGraph;
 use crate::json::Json;
 use crate::keys::Merging;
+use crate::onward::tell_onward;
 use crate::outcomes::{MOST_LISTED, first_words, put_outcomes, survey};
 use crate::register::Register;
 use crate::schedules::{EndlessSchedules, LimitedSchedules, Schedules};
@@ -27,6 +28,15 @@ use std::sync::ledger::{Blank, Ledger};
 
 /// The first outcomes, whose first schedules are gone along to their ends.
 const MOST_LAID_OUT: usize = 500;
+
+/// What is told where the page does not go on from a state.
+#[derive(Clone, Copy)]
+enum Edge {
+    /// How many schedules lead on to which outcome.
+    Counted,
+    /// Nothing.
+    Open,
+}
 
 /// The data of a page.
 pub fn data<O: ObserveProgress>(
@@ -64,6 +74,11 @@ fn put_counted<O: ObserveProgress>(
         Some(tallies) => tallies.as_slice(),
         None => &[],
     };
+    let edge = if found.is_some() {
+        Edge::Counted
+    } else {
+        Edge::Open
+    };
     let words = first_words(alloc, tallies, MOST_LAID_OUT)?;
     put_graph::<LimitedSchedules, O, Brand>(
         alloc,
@@ -71,6 +86,7 @@ fn put_counted<O: ObserveProgress>(
         subject,
         observer,
         merging_for(tallies),
+        edge,
         &words,
         Blank::new(1),
     )?;
@@ -95,6 +111,7 @@ fn put_endless<O: ObserveProgress>(
         subject,
         observer,
         Merging::WithoutOutput,
+        Edge::Open,
         &words,
         Blank::new(1),
     )?;
@@ -169,6 +186,7 @@ fn put_graph<K: Schedules, O: ObserveProgress, S: Ledger>(
     subject: PageSubject<'_>,
     observer: &mut O,
     merging: Merging,
+    edge: Edge,
     words: &[Vec<u8>],
     blank: Blank,
 ) -> Result<(), AllocError>
@@ -191,6 +209,7 @@ fn put_graph<K: Schedules, O: ObserveProgress, S: Ledger>(
         &mut graph,
         &mut state,
         subject.word,
+        edge,
         words,
     )
 }
@@ -203,6 +222,7 @@ fn put_from<K: Schedules, O: ObserveProgress, S: Ledger>(
     graph: &mut PageGraph<'_, K, S>,
     state: &mut State,
     first: &[u8],
+    edge: Edge,
     words: &[Vec<u8>],
 ) -> Result<(), AllocError>
     requires own { IsStateOf job.now.program.now state.old }
@@ -211,6 +231,9 @@ fn put_from<K: Schedules, O: ObserveProgress, S: Ledger>(
 {
     let views = put_start(json, job.program, state, &mut graph.teller)?;
     let start = lay_out(job, observer, graph, state, first, words)?;
+    if let Edge::Counted = edge {
+        tell_onward::<K, S, Brand, Brand>(job, graph, start, Blank::new(1), Blank::new(1))?;
+    }
     put_found(json, graph, start, &views);
     Ok(())
 }
@@ -287,6 +310,7 @@ fn lay_out<K: Schedules, O: ObserveProgress, S: Ledger>(
     requires own { IsStateOf job.now.program.now state.old }
     requires start { machine_of state.old ≡ opening job.now.program.now job.now.limits.discipline }
     requires none { graph.old.states.items ≡ [] }
+    ensures states { IfOk result (λ _. All (IsStateOf job.now.program.now) graph.new.states.items) }
 {
     let start = graph.begin(job, state)?;
     let mut next = state.copy(job.alloc)?;
@@ -309,6 +333,7 @@ fn lay_words<K: Schedules, O: ObserveProgress, S: Ledger>(
     requires own { IsStateOf job.now.program.now state.old }
     requires next { IsStateOf job.now.program.now next.old }
     requires states { All (IsStateOf job.now.program.now) graph.old.states.items }
+    ensures states { IfOk result (λ _. All (IsStateOf job.now.program.now) graph.new.states.items) }
 {
     let mut left = job.most as usize;
     for word in words {

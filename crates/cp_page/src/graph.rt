@@ -35,6 +35,15 @@ struct Node {
     depth: u8,
     /// An edge for each number that may be chosen, where the state was gone on from.
     edges: Vec<usize>,
+    /// What can still come, where it was not gone on from.
+    onward: Vec<Onward>,
+}
+
+/// What can still come with so many choices left: the place of its row.
+#[derive(Clone, Copy)]
+struct Onward {
+    left: u8,
+    place: usize,
 }
 
 /// The states that were found, and the edges between them.
@@ -168,6 +177,7 @@ impl<'a, K: Schedules, S: Ledger> PageGraph<'a, K, S> {
                 calls: mem::replace(&mut self.teller.observer.calls, Vec::new(job.alloc)),
                 depth,
                 edges: Vec::new(job.alloc),
+                onward: Vec::new(job.alloc),
             })?;
         }
         Ok(place)
@@ -246,13 +256,32 @@ impl<'a, K: Schedules, S: Ledger> PageGraph<'a, K, S> {
         Ok(1)
     }
 
-    // The state to which an edge leads.
-    fn target_of(&self, edge: Option<usize>) -> Option<usize> {
+    /// What can still come from the state of this place on, with so many choices left, has this row.
+    pub fn add_onward(&mut self, at: usize, left: u8, place: usize) -> Result<(), AllocError>
+        ensures { self.new.states ≡ self.old.states }
+    {
+        let Some(node) = self.nodes.get_mut(at) else {
+            return Ok(());
+        };
+        node.onward.push(Onward { left, place })?;
+        Ok(())
+    }
+
+    /// The edges of a state; none where it was not gone on from.
+    pub fn edges_at(&self, at: usize) -> &[usize] {
+        match self.nodes.get(at) {
+            Some(node) => &node.edges,
+            None => &[],
+        }
+    }
+
+    /// The state to which an edge leads.
+    pub fn target_of(&self, edge: Option<usize>) -> Option<usize> {
         *self.targets.get(edge?)?
     }
 
-    // Whether a state was not gone on from.
-    fn is_open(&self, at: usize) -> bool {
+    /// Whether a state was not gone on from.
+    pub fn is_open(&self, at: usize) -> bool {
         match self.nodes.get(at) {
             Some(node) => node.edges.is_empty(),
             None => false,
@@ -271,6 +300,7 @@ impl<'a, K: Schedules, S: Ledger> PageGraph<'a, K, S> {
     }
 
     /// Appends the states: `[gate, [number, edge, ..]]`, where the gate is -1 if a process is chosen, and an edge -1 if the state was not gone on from.
+    /// What can still come of such a state follows, if it is known: `[left, row, ..]`.
     pub fn put_nodes(&self, json: &mut Json) {
         json.open();
         for node in &self.nodes {
@@ -358,6 +388,18 @@ impl Node {
             }
         }
         json.close();
+        if !self.onward.is_empty() {
+            self.put_onward(json);
+        }
+        json.close();
+    }
+
+    fn put_onward(&self, json: &mut Json) {
+        json.open();
+        for onward in &self.onward {
+            json.put_plain(onward.left);
+            json.put_plain(onward.place);
+        }
         json.close();
     }
 }

@@ -9,6 +9,7 @@ mod graph;
 mod json;
 mod keys;
 mod markup;
+mod onward;
 mod outcomes;
 mod register;
 mod schedules;

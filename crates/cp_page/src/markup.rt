@@ -14,7 +14,7 @@ pub const STYLE_HASH: &str = "PrKG3boGzshgRolmb7BO30kLJakbpNrEv3Tyrpd8AE8=";
 pub const BETWEEN: &str = "'; script-src 'sha256-";
 
 /// The SHA-256 of the script to the base 64.
-pub const SCRIPT_HASH: &str = "0bCbkSbSQzsbvpHSRrl+Li7iXUZzng31Av+VAlTgEzo=";
+pub const SCRIPT_HASH: &str = "BAQbxVHFkR1bPmTk44dKX8aStyZEqZ+aGlSckH9YVCg=";
 
 /// Between the hash of the script and the style sheet.
 pub const HEAD: &str = r##"'">

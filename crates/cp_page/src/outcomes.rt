@@ -58,15 +58,16 @@ pub fn put_outcomes(
     Ok(())
 }
 
-// The displayed values with a space between them.
-fn output_text(alloc: Global, legend: &Legend, values: &[Shown]) -> Result<String, AllocError> {
+/// The displayed values with a space between them.
+pub fn output_text(alloc: Global, legend: &Legend, values: &[Shown]) -> Result<String, AllocError> {
     if values.is_empty() {
         return Ok(String::new(alloc));
     }
     output_words(alloc, legend, values)
 }
 
-fn digits_of(alloc: Global, number: &Natural) -> Result<String, AllocError> {
+/// A number in digits.
+pub fn digits_of(alloc: Global, number: &Natural) -> Result<String, AllocError> {
     let mut digits = String::new(alloc);
     push_natural(&mut digits, number)?;
     Ok(digits)

@@ -5,7 +5,7 @@ use crate::table::PageRows;
 use cp_legend::Legend;
 use std::alloc::Global;
 
-/// Texts, frames, views, events, edges and ends, each once.
+/// Texts, frames, views, events, edges, ends, and what can still come beyond the page, each once.
 #[derive(Drop)]
 pub struct Register<'a> {
     pub alloc: Global,
@@ -16,6 +16,10 @@ pub struct Register<'a> {
     pub events: PageRows,
     pub edges: PageRows,
     pub ends: PageRows,
+    /// Outcomes from a state on.
+    pub further: PageRows,
+    /// These outcomes with how many schedules lead on to them.
+    pub ways: PageRows,
 }
 
 impl<'a> Register<'a> {
@@ -30,6 +34,8 @@ impl<'a> Register<'a> {
             events: PageRows::new(alloc),
             edges: PageRows::new(alloc),
             ends: PageRows::new(alloc),
+            further: PageRows::new(alloc),
+            ways: PageRows::new(alloc),
         }
     }
 
@@ -40,6 +46,8 @@ impl<'a> Register<'a> {
         self.views.put(json, "views");
         self.frames.put(json, "frames");
         self.ends.put(json, "ends");
+        self.further.put(json, "further");
+        self.ways.put(json, "ways");
         self.strings.put(json, "strings");
     }
 }

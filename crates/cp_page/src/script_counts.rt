@@ -21,7 +21,7 @@ function heightsOf() {
   next.forEach((all, n) => all.forEach(to => before[to].push(n)));
   const missing = next.map(all => all.length);
   const heights = NODES.map(() => Infinity);
-  const done = [...NODES.keys()].filter(n => missing[n] === 0);
+  const done = [...NODES.keys()].filter(n => missing[n] === 0 && !NODES[n].isOpen);
   while (done.length) {
     const n = done.pop();
     heights[n] = 1 + Math.max(0, ...next[n].map(to => heights[to]));
@@ -36,23 +36,43 @@ const leftAt = (node, left) => Math.min(left, HEIGHTS[node]);
 let isBrief = false; // Whether outcomes are counted by their kinds alone.
 let memo = new Map();
 let room = 0;
+let isInside = false; // Whether those schedules alone are counted that stay in the page.
+const inside = new Map();
 
 // Where there are too many even by their kinds, it is not known to what the rest leads.
 const UNKNOWN = new Map([["beyond\t", 1n]]);
 
+// The same at the edge of the page, where it does not go on.
+function onwardFrom(node, left) {
+  const { onward } = NODES[node];
+  const place = onward.findIndex((n, i) => i % 2 === 0 && n === left);
+  if (place < 0 || isInside) return UNKNOWN;
+  const row = D.ways[onward[place + 1]];
+  const found = new Map();
+  for (let i = 0; i < row.length; i += 2) {
+    const [[kind, error, p, line], shown] = D.further[row[i]];
+    const outcome = endText({ kind, error, p, line }) + "\t" + (isBrief ? "" : S[shown]);
+    found.set(outcome, (found.get(outcome) || 0n) + BigInt(row[i + 1]));
+  }
+  return found;
+}
+
 // Outcome -> how many of the ways on from a node have it, with so many choices left.
 function ways(node, left) {
+  const remembered = isInside ? inside : memo;
   const key = 128 * node + leftAt(node, left);
-  const known = memo.get(key);
+  const known = remembered.get(key);
   if (known) return known;
   if (room < 0) return UNKNOWN;
-  const found = new Map(left ? [] : [["choice-limit\t", 1n]]);
-  if (left) {
+  const isEdge = left > 0 && NODES[node].isOpen;
+  const found = isEdge ? onwardFrom(node, left) : new Map(left ? [] : [["choice-limit\t", 1n]]);
+  if (left && !isEdge) {
     for (const edge of NODES[node].edges) {
       for (const [outcome, count] of through(edge, left)) found.set(outcome, (found.get(outcome) || 0n) + count);
     }
   }
-  memo.set(key, found);
+  remembered.set(key, found);
+  if (isInside) return found;
   room -= found.size;
   if (room < 0 && !isBrief) throw new RangeError("too many");
   return found;
@@ -166,8 +186,8 @@ function cheapest(outcome) {
   }
 }
 
-// Counts the ways on: with what is displayed, or by kinds alone where that is too much. Where the page has all states its own counts have
-// to be those of the program.
+// Counts the ways on: with what is displayed, or by kinds alone where that is too much. Where the page knows what comes of all its states its
+// own counts have to be those of the program.
 function count() {
   if (isEndless) return checkEnds();
   for (isBrief of [false, true]) {

@@ -119,7 +119,15 @@ function endCard(s) {
     el("p", {}, el("strong", {}, KINDS[kind][0] + " " + endSentence(s.end))),
     line > 0 && el("p", { class: "value" }, D.source[line - 1].trim()),
     waiting.map(p => el("p", {}, disc(p, s.status[p]), ` ${D.processes[p][0]} is ${statusOf(s, p)}`)),
-    kind === "all-waiting" && reasonsOf(s).map(reason => el("p", { class: "why" }, reason)));
+    kind === "all-waiting" && reasonsOf(s).map(reason => el("p", { class: "why" }, reason)),
+    s.end === BEYOND && onwardShown(s));
+}
+
+// What can still come beyond the page, if the page knows it.
+function onwardShown(s) {
+  const counts = isEndless ? [] : [...ways(s.node, K - s.used)];
+  const isKnown = counts.length > 0 && counts.every(([outcome]) => kindOf(outcome) !== "beyond");
+  return isKnown && el("p", { id: "onward" }, outlook(counts, s.output.join(" ")));
 }
 
 // A part for each outcome, or where there are many for each kind. There is no bar where it is not known how many lead on to which.
@@ -230,7 +238,7 @@ function outcomeChip(s, here, isPart, outcome) {
   const of = outcome.count === null ? "" : number(outcome.count);
   const rest = left ? (isPart ? "at least " : "") + number(left) : isPart ? "?" : "none";
   const isHidden = predicts && !s.end;
-  const says = s.end ? (left ? "here" : "") : s.used && of && !isHidden ? `${rest} of ${of} left` : of;
+  const says = hasEnded(s) ? (left ? "here" : "") : s.used && of && !isHidden ? `${rest} of ${of} left` : of;
   if (outcome.playable === undefined) outcome.playable = playable(outcome.first);
   return el("li", { class: kind + (left || isPart || isHidden ? "" : " gone") },
     mark(kind), error && ` ${error}: ${person(p)}, line ${line}`, outcome.output && " \u00b7 displays " + outcome.output, " ",
@@ -247,7 +255,7 @@ const showEveryChip = () => {
 
 function showOutcomes(s) {
   if (isEndless) return showEnds(s);
-  const here = s.end ? new Map([[endText(s.end) + "\t", 1n]]) : ways(s.node, K - s.used);
+  const here = hasEnded(s) ? new Map([[endText(s.end) + "\t", 1n]]) : ways(s.node, K - s.used);
   const isPart = [...here.keys()].some(outcome => kindOf(outcome) === "beyond");
   const chips = outcomes.slice(0, showsAll ? outcomes.length : MOST_CHIPS).map(o => outcomeChip(s, here, isPart, o));
   if (chips.length < outcomes.length) chips.push(el("li", {}, el("button", { id: "all", onclick: showEveryChip }, `all ${outcomes.length} outcomes`)));

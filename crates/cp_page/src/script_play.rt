@@ -89,9 +89,9 @@ const EDGES = D.edges.map(([places, to]) => {
   const [again, end] = isAlone ? firstRound(places) : [-1, places.length];
   return { events: places.slice(0, end).map(e => EVENTS[e]), to, again };
 });
-const NODES = D.nodes.map(([gate, pairs]) => {
+const NODES = D.nodes.map(([gate, pairs, onward = []]) => {
   const options = pairs.filter((_, i) => i % 2 === 0);
-  return { gate, options, edges: pairs.filter((_, i) => i % 2 === 1), isOpen: pairs[1] < 0 };
+  return { gate, options, edges: pairs.filter((_, i) => i % 2 === 1), isOpen: pairs[1] < 0, onward };
 });
 const edgeOf = (node, p) => NODES[node].edges[NODES[node].options.indexOf(p)];
 const isWholeGraph = NODES.every(node => !node.isOpen);
@@ -102,6 +102,8 @@ const ENDS = D.ends.map(([kind, error, p, line, more, broken]) => {
 });
 const CHOICE_LIMIT = { kind: "choice-limit", error: "", p: 0, line: 0 };
 const BEYOND = { kind: "beyond", error: "", p: 0, line: 0 };
+// Whether a schedule has come to its end, and not to the edge of the page.
+const hasEnded = s => s.end && s.end !== BEYOND;
 
 const behindColon = text => text ? ": " + text : "";
 

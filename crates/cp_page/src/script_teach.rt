@@ -84,12 +84,14 @@ const isSameWord = (a, b) => a.length === b.length && a.every((p, i) => p === b[
 // Each schedule of the outcome in this page is as likely as any other; those of any length go at random, and then straight to their end.
 function walkTo(outcome) {
   const numbers = [];
+  isInside = true;
   for (let s = play(numbers); !s.end; s = play(numbers)) {
     const p = isEndless ? stepTo(outcome, s) : drawnStep(outcome, s);
-    if (p === undefined) return null;
+    if (p === undefined) break;
     numbers.push(p);
   }
-  return numbers;
+  isInside = false;
+  return hasEnded(play(numbers)) ? numbers : null;
 }
 
 function drawnStep(outcome, s) {

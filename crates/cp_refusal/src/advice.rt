@@ -1,27 +1,35 @@
 //! What may have been meant by a token that can't stand in its place.
 
 use crate::extent::{is_adding, is_multiplying, is_relation};
-use crate::foreign::{instead_of, is_start};
-use crate::further_up::is_real;
-use crate::place::has_comment_before;
-use crate::rules::mark_before;
+use crate::foreign::{foreign_advice, is_start, is_type};
+use crate::further_up::{
+    CLOSING, OPENING, is_last_semicolon, is_real, is_statement, open_before, open_parenthesis,
+};
+use crate::place::{Sought, find, has_comment_before};
+use crate::rules::{is_mark_of, mark_before};
 use crate::teller::Teller;
-use cp_text::{Kind, Mark};
+use cp_text::Mark;
 
-// The mark so many tokens before the one that is refused.
-fn back(teller: &Teller, number: usize) -> Option<Mark> {
-    match teller.at.checked_sub(number) {
-        Some(place) => teller.mark_at(place),
-        None => None,
-    }
-}
-
-/// What may have been meant; empty where nothing is known of it.
+/// What may have been meant; empty where nothing is known of it. `Teller::put_about` says what the signs in it stand for.
 pub fn advice(teller: &mut Teller) -> &'static str {
     if is_after_string(teller) {
         return ": what stands between double quotes is a comment, and there are no strings";
     }
+    if !teller.name().is_empty() && teller.name() == teller.name_before() {
+        return ": # stands twice";
+    }
     let said = sign_advice(teller);
+    if !said.is_empty() {
+        return said;
+    }
+    if is_reserved_name(teller) {
+        return ": # is a reserved word";
+    }
+    let said = declaration_advice(teller);
+    if !said.is_empty() {
+        return said;
+    }
+    let said = foreign_advice(teller);
     if !said.is_empty() {
         return said;
     }
@@ -33,50 +41,111 @@ pub fn advice(teller: &mut Teller) -> &'static str {
 
 // Whether a comment stands where a value is wanted.
 fn is_after_string(teller: &mut Teller) -> bool {
-    has_comment_before(teller.source, teller.at) && teller.takes("not")
+    has_comment_before(teller.source, teller.at) && teller.takes_one_of(&["not", "1"])
 }
 
 // Of signs that other languages have.
 fn sign_advice(teller: &mut Teller) -> &'static str {
-    let mark = teller.mark();
-    let is_statement = teller.takes(":=");
-    let next = teller.at.saturating_add(1);
-    match (back(teller, 1), mark, teller.mark_at(next)) {
+    match (teller.back(1), teller.mark(), teller.ahead(1)) {
         (_, Some(Mark::OpenParenthesis), Some(Mark::Times))
         | (Some(Mark::OpenParenthesis), Some(Mark::Times), _) =>
             ": comments stand between double quotes",
         (Some(Mark::Equal), Some(Mark::Equal), _) => ": write =",
         (Some(Mark::And), Some(Mark::And), _) => ": write and",
-        (_, Some(Mark::Plus | Mark::Minus), Some(Mark::Equal))
-            if is_statement && !is_one_behind(teller) =>
-            ": an assignment is written with :=, as in x := x + 2",
-        (_, Some(Mark::Plus), Some(Mark::Plus | Mark::Equal)) if is_statement =>
-            ": write x := x + 1",
-        (_, Some(Mark::Minus), Some(Mark::Minus | Mark::Equal)) if is_statement =>
-            ": write x := x - 1",
-        (Some(Mark::OpenParenthesis), Some(Mark::CloseParenthesis), _) =>
-            ": a call without arguments has no parentheses",
+        (Some(Mark::Times), Some(Mark::Times), _) => ": there are no powers",
+        (Some(Mark::Period), Some(Mark::Init), _) =>
+            ": init stands before the component, as in init a",
+        (_, Some(Mark::Plus | Mark::Minus), next) if teller.takes(":=") => step_advice(
+            teller, next,
+        ),
+        (_, Some(Mark::Minus), Some(Mark::Minus)) if teller.takes("while") =>
+            ": comments stand between double quotes",
+        (Some(Mark::OpenParenthesis), Some(Mark::CloseParenthesis), _) => parentheses_advice(
+            teller,
+        ),
+        (Some(Mark::For), Some(Mark::OpenParenthesis), _) =>
+            ": a for has no parentheses, as in for i := 1 to 5 do",
         _ => "",
     }
 }
 
-// Whether 1 stands behind the two signs at the token.
-fn is_one_behind(teller: &Teller) -> bool {
-    matches!(
-        teller.tokens.get(teller.at.saturating_add(2)),
-        Some(Kind::Number(1))
-    )
+// Of parentheses with nothing in them.
+fn parentheses_advice(teller: &mut Teller) -> &'static str {
+    if teller.takes("not") {
+        ": a call without arguments has no parentheses"
+    } else {
+        ": a heading without parameters has no parentheses"
+    }
+}
+
+// Of an assignment by two signs, of which the first is refused.
+fn step_advice(teller: &Teller, next: Option<Mark>) -> &'static str {
+    let is_name = teller.back(1).is_none() && teller.back(2) != Some(Mark::Period);
+    let is_value = matches!(
+        teller.ahead(3),
+        Some(Mark::Semicolon | Mark::End | Mark::Else)
+    );
+    match next {
+        Some(Mark::Equal) if is_name && is_value => ": write % := % # ^",
+        Some(Mark::Equal) => ": an assignment is written with :=, as in x := x # 2",
+        _ if next == teller.mark() && is_name => ": write % := % # 1",
+        _ if next == teller.mark() => ": write x := x # 1",
+        _ => "",
+    }
+}
+
+// Of declarations as other languages write them, or without the word that begins them.
+fn declaration_advice(teller: &mut Teller) -> &'static str {
+    if teller.name().is_empty() {
+        return "";
+    }
+    if is_type(teller.name_before()) && teller.takes(":=") {
+        return ": variables are declared before begin, as in var #: integer";
+    }
+    if teller.takes("x") || !teller.takes("begin") {
+        return "";
+    }
+    let is_before_routines = teller.takes("var");
+    match (teller.ahead(1), teller.ahead(2)) {
+        (Some(Mark::Colon | Mark::Comma), _) if is_before_routines => ": var is missing before #",
+        (Some(Mark::Colon | Mark::Comma), _) => ": variables are declared before the routines",
+        (Some(Mark::Equal), _) if is_before_routines => ": const or type is missing before #",
+        (Some(Mark::Equal), _) => ": begin and end may be missing before #",
+        (Some(Mark::Becomes | Mark::Period | Mark::OpenParenthesis | Mark::OpenBracket), _) =>
+            statement_advice(teller, is_before_routines),
+        (None, Some(Mark::Semicolon | Mark::Comma | Mark::Equal)) if is_type(teller.name()) =>
+            ": a variable is declared as in var ~: integer",
+        _ => "",
+    }
+}
+
+// Of a statement where a body can begin.
+fn statement_advice(teller: &Teller, is_before_routines: bool) -> &'static str {
+    let is_behind_end = teller.back(1) == Some(Mark::Semicolon)
+        && teller.back(2) == Some(Mark::End);
+    if is_behind_end && !is_before_routines {
+        ": the end before it closes a routine, so that an end is too many or a begin is missing"
+    } else {
+        ": begin is missing before #"
+    }
 }
 
 fn mark_advice(teller: &mut Teller, mark: Mark) -> &'static str {
     if is_initial_value(teller, mark) {
-        return ": a variable gets its value in the body";
+        return if is_in_parentheses(teller) {
+            ": a parameter gets its value by the call"
+        } else {
+            ": a variable gets its value in the body"
+        };
     }
     if is_constant_operator(teller, mark) {
         return ": a constant is a number, a name or a character";
     }
     if is_relation(Some(mark)) {
         return relation_advice(teller);
+    }
+    if mark == Mark::Becomes && teller.takes("*") && !teller.is_in_annotation() {
+        return ": equality is written with =, and an assignment is a statement of its own";
     }
     if matches!(mark, Mark::Plus | Mark::Minus) && teller.takes("not") {
         return ": a sign stands first in an expression alone, as in 1 + (-2)";
@@ -121,7 +190,7 @@ fn is_before_else(teller: &Teller) -> bool {
 
 // Of what stands in an annotation.
 fn inner_advice(teller: &Teller, mark: Mark) -> &'static str {
-    match (back(teller, 1), mark) {
+    match (teller.back(1), mark) {
         (Some(Mark::Times), Mark::CloseParenthesis) => ": behind *) the closing quote is missing",
         (_, Mark::CloseParenthesis) => ": an annotation ends in *) and a quote",
         (_, Mark::Becomes) => ": an annotation says what is true; equality is written with =",
@@ -136,79 +205,250 @@ fn inner_advice(teller: &Teller, mark: Mark) -> &'static str {
 }
 
 // Of a mark that stands at a wrong place.
-fn place_advice(teller: &Teller, mark: Mark) -> &'static str {
+fn place_advice(teller: &mut Teller, mark: Mark) -> &'static str {
     match mark {
-        Mark::Else if back(teller, 1) == Some(Mark::Semicolon) => {
-            ": no semicolon stands before else"
-        }
-        Mark::Var if is_system_parameter(teller) => {
-            ": parameters of a class, a monitor or a process have no var"
-        }
-        Mark::Const | Mark::Type | Mark::Var if back(teller, 1) == Some(Mark::Closes) => {
-            ": constants, types and variables are declared before the invariants"
-        }
-        Mark::Const | Mark::Type | Mark::Var => {
-            ": constants, types and variables are declared before the routines, or an end is missing further up"
-        }
-        Mark::Invariant => {
-            ": invariants stand in a class or a monitor, behind its declarations and before its routines"
-        }
-        Mark::Array | Mark::Record | Mark::Set if is_type_of_parameter(teller) => {
-            ": the type of a parameter or a result is a name that a type part defines"
-        }
+        Mark::Else => else_advice(teller),
+        Mark::Var if is_system_parameter(teller) =>
+            ": parameters of a class, a monitor or a process have no var",
+        Mark::Var if is_in_parentheses(teller) => ": a function has no var parameters",
+        Mark::Const | Mark::Type | Mark::Var if teller.back(1) == Some(Mark::Closes) =>
+            ": constants, types and variables are declared before the invariants",
+        Mark::Const | Mark::Type | Mark::Var =>
+            ": constants, types and variables are declared before the routines, or an end is missing further up",
+        Mark::Invariant =>
+            ": invariants stand in a class or a monitor, behind its declarations and before its routines",
+        Mark::Array | Mark::Record | Mark::Set if is_type_of_parameter(teller) =>
+            ": the type of a parameter or a result is a name that a type part defines",
         Mark::Period if is_real(teller) => ": there are no real numbers",
+        Mark::Period
+            if teller.back(1) == Some(Mark::CloseParenthesis) && teller.takes_one_of(&["*", ";"]) =>
+            ": a call has no fields; an element of an array is written with brackets, as in a[1]",
+        Mark::Procedure | Mark::Function if teller.takes("var") =>
+            ": a routine stands in the program or in a system type, and not in another routine",
+        Mark::Class | Mark::Monitor | Mark::Process
+            if teller.ahead(1).is_none() && teller.takes("begin") =>
+            ": a system type is defined in a type part, as in type ~ = #",
+        Mark::Class | Mark::Monitor | Mark::Process =>
+            ": a system type is defined in a type part of the program alone, and used by its name",
+        Mark::OpenParenthesis if teller.back(2) == Some(Mark::Colon) && teller.takes("..") =>
+            ": a component is given its arguments by init",
+        Mark::Until if teller.takes("end") => until_advice(teller),
+        Mark::Entry if teller.takes("procedure") =>
+            ": entry stands behind procedure or function, as in procedure entry p",
+        Mark::End if teller.takes("begin") =>
+            ": begin is missing before it, also where there is no statement",
+        Mark::Semicolon => semicolon_advice(teller),
+        Mark::Colon => colon_advice(teller),
+        Mark::Comma => comma_advice(teller),
+        Mark::OpenBracket | Mark::CloseBracket if teller.takes("..") =>
+            ": an array has a first and a last index, as in array [1..10] of integer",
+        Mark::CloseParenthesis if teller.takes("]") => ": ] is missing before it",
+        Mark::CloseBracket if teller.takes(")") => ": ) is missing before it",
+        Mark::CloseParenthesis if !is_in_parentheses(teller) => ": no ( is open before it",
+        Mark::Minus if teller.takes(",") && teller.takes(":") =>
+            ": a name has letters, digits and _ alone",
+        Mark::Becomes if teller.back(1) == Some(Mark::CloseParenthesis) =>
+            ": a call can't be assigned; an element of an array is written with brackets, as in a[1]",
+        Mark::End if teller.takes("until") => ": a repeat ends in until and a condition",
+        Mark::DoublePeriod if is_in_case(teller) && teller.takes(":") =>
+            ": a label is one constant, and labels stand one by one, as in 0, 1, 2:",
+        Mark::Begin => missing_word(teller),
+        _ if is_statement(teller.tokens, teller.at) && teller.takes("begin") =>
+            ": begin is missing before #",
+        _ if is_statement(teller.tokens, teller.at) => missing_word(teller),
         _ => "",
     }
 }
 
-// Whether it is an operator after the value of a constant's declaration.
-fn is_constant_operator(teller: &mut Teller, mark: Mark) -> bool {
-    let is_operator = is_adding(Some(mark)) || is_multiplying(Some(mark));
-    is_operator && is_in_constant(teller) && teller.takes(";")
+// Of an `until` before which something else is open.
+fn until_advice(teller: &Teller) -> &'static str {
+    match open_before(teller.tokens, teller.at, &[Mark::Repeat], &[Mark::Until]) {
+        Some(_) => ": an end is missing before it",
+        None => ": no repeat is open before it",
+    }
 }
 
-// Whether the token before it is the value of a constant's declaration.
-fn is_in_constant(teller: &Teller) -> bool {
-    let is_signed = is_adding(back(teller, 2)) && back(teller, 3) == Some(Mark::Equal);
-    is_signed || back(teller, 2) == Some(Mark::Equal)
+// Whether a word behind which statements stand is before the token.
+fn is_behind_word(teller: &Teller) -> bool {
+    matches!(
+        teller.back(1),
+        Some(
+            Mark::Begin | Mark::Cycle | Mark::Do | Mark::Else | Mark::Of | Mark::Repeat | Mark::Then
+        )
+    )
 }
 
-// Whether it stands after the type of a variable, as if to give it a value.
-fn is_initial_value(teller: &mut Teller, mark: Mark) -> bool {
-    matches!(mark, Mark::Equal | Mark::Becomes)
-        && back(teller, 2) == Some(Mark::Colon)
-        && !teller.takes(":=")
+// Whether the heading of a procedure ends before the token.
+fn is_behind_procedure(teller: &mut Teller) -> bool {
+    let is_heading = teller.back(1) == Some(Mark::CloseParenthesis)
+        || matches!(teller.back(2), Some(Mark::Procedure | Mark::Entry));
+    is_heading
+        && teller.ahead(2) == Some(Mark::Semicolon)
+        && teller.takes(";")
+        && !teller.takes("end")
 }
 
-// Whether it stands among the parameters of a system type.
-fn is_system_parameter(teller: &Teller) -> bool {
-    let mut depth: usize = 1;
-    for place in (0..teller.at).rev() {
-        match teller.mark_at(place) {
-            Some(Mark::CloseParenthesis) => depth = depth.saturating_add(1),
-            Some(Mark::OpenParenthesis) => {
-                depth = depth.saturating_sub(1);
-                if depth == 0 {
-                    return matches!(
-                        mark_before(teller.tokens, place),
-                        Some(Mark::Class | Mark::Monitor | Mark::Process)
-                    );
-                }
+// Of a colon that stands at a wrong place.
+fn colon_advice(teller: &mut Teller) -> &'static str {
+    if teller.ahead(1) == Some(Mark::Equal) && teller.takes(":=") {
+        ": := is one sign, without a blank in it"
+    } else if is_behind_word(teller) {
+        ": no colon stands behind %"
+    } else if is_behind_procedure(teller) {
+        ": a procedure has no type; what has a result is a function"
+    } else if teller.takes("then") {
+        ": write then"
+    } else if teller.takes("do") {
+        ": write do"
+    } else if teller.takes(":=") && teller.ahead(1).is_none() {
+        ": variables are declared before begin, as in var %: ~"
+    } else if teller.takes("=") {
+        ": = stands behind the name of a constant or a type"
+    } else {
+        ""
+    }
+}
+
+// Of a comma that stands at a wrong place.
+fn comma_advice(teller: &mut Teller) -> &'static str {
+    if is_behind_in(teller) {
+        ": a set stands in brackets, as in [1, 2]"
+    } else if !teller.takes(";") {
+        ""
+    } else if teller.takes("..") {
+        ": the constants of an enumeration stand in parentheses, as in (red, green)"
+    } else if teller.takes("else") || teller.takes("until") || is_in_body(teller) {
+        ": statements are separated by semicolons, and only what one init starts by commas"
+    } else {
+        ": a semicolon is wanted here"
+    }
+}
+
+// Whether `in` stands before the parenthesis in which the token stands.
+fn is_behind_in(teller: &Teller) -> bool {
+    match open_parenthesis(teller.tokens, teller.at) {
+        Some(open) => mark_before(teller.tokens, open) == Some(Mark::In),
+        None => false,
+    }
+}
+
+// Whether the innermost word that is open has statements in it.
+fn is_in_body(teller: &Teller) -> bool {
+    match open_before(teller.tokens, teller.at, &OPENING, &CLOSING) {
+        Some(open) => teller.mark_at(open) != Some(Mark::Record),
+        None => false,
+    }
+}
+
+// Of a semicolon that stands at a wrong place.
+fn semicolon_advice(teller: &mut Teller) -> &'static str {
+    if teller.back(1) == Some(Mark::Semicolon) {
+        ": one semicolon is enough"
+    } else if teller.takes(":") && !teller.takes(",") {
+        ": a function has the type of its result behind its parameters, as in function f(n: integer): integer"
+    } else if teller.takes(":") && !is_in_case(teller) {
+        ": the type is missing before it, as in x: integer"
+    } else if teller.ahead(1) == Some(Mark::CloseParenthesis) && teller.takes(")") {
+        ": ) stands before a semicolon"
+    } else if teller.takes(",") {
+        ": a comma is wanted here"
+    } else if is_last_semicolon(teller) && teller.takes(".") {
+        ": a program ends in a period"
+    } else {
+        ""
+    }
+}
+
+// Whether the innermost word that is open is `case`.
+fn is_in_case(teller: &Teller) -> bool {
+    match open_before(teller.tokens, teller.at, &OPENING, &CLOSING) {
+        Some(open) => teller.mark_at(open) == Some(Mark::Case),
+        None => false,
+    }
+}
+
+// Of an `else` to which there is no `then`.
+fn else_advice(teller: &Teller) -> &'static str {
+    if is_in_case(teller) && !is_behind_then(teller) {
+        ": a case has no else: each value that may come has a label"
+    } else if teller.back(1) == Some(Mark::Semicolon) {
+        ": no semicolon stands before else"
+    } else {
+        ""
+    }
+}
+
+// Whether the statement before the token, to which a semicolon may belong, has a `then`.
+fn is_behind_then(teller: &Teller) -> bool {
+    let mut closed: usize = 0;
+    for place in (0..teller.at.saturating_sub(1)).rev() {
+        if is_mark_of(teller.tokens, place, &CLOSING) {
+            closed = closed.saturating_add(1);
+        } else if is_mark_of(teller.tokens, place, &OPENING) {
+            closed = closed.saturating_sub(1);
+        } else if closed == 0 {
+            match teller.mark_at(place) {
+                Some(Mark::Then) => return true,
+                Some(Mark::Semicolon | Mark::Of) => return false,
+                _ => {}
             }
-            Some(Mark::Begin | Mark::End) => return false,
-            _ => {}
         }
     }
     false
 }
 
+// Whether it is an operator after the value of a constant's declaration.
+fn is_constant_operator(teller: &mut Teller, mark: Mark) -> bool {
+    let is_operator = is_adding(Some(mark)) || is_multiplying(Some(mark));
+    is_operator && is_in_constant(teller) && !teller.takes("*")
+}
+
+// Whether the token before it is the value of a constant's declaration, or a bound of a subrange.
+fn is_in_constant(teller: &Teller) -> bool {
+    let sign = if is_adding(teller.back(2)) {
+        teller.back(3)
+    } else {
+        teller.back(2)
+    };
+    matches!(
+        sign,
+        Some(Mark::Equal | Mark::DoublePeriod | Mark::OpenBracket)
+    )
+}
+
+// Whether it stands after the type of a variable, as if to give it a value.
+fn is_initial_value(teller: &mut Teller, mark: Mark) -> bool {
+    matches!(mark, Mark::Equal | Mark::Becomes)
+        && teller.back(2) == Some(Mark::Colon)
+        && !teller.takes(":=")
+}
+
+// Whether a parenthesis is open at the token.
+fn is_in_parentheses(teller: &Teller) -> bool {
+    open_parenthesis(teller.tokens, teller.at).is_some()
+}
+
+// Whether it stands among the parameters of a system type.
+fn is_system_parameter(teller: &Teller) -> bool {
+    match open_parenthesis(teller.tokens, teller.at) {
+        Some(open) => matches!(
+            mark_before(teller.tokens, open),
+            Some(Mark::Class | Mark::Monitor | Mark::Process)
+        ),
+        None => false,
+    }
+}
+
 // Of a sign that compares.
 fn relation_advice(teller: &mut Teller) -> &'static str {
-    if teller.mark() == Some(Mark::In) && back(teller, 2) == Some(Mark::For) {
+    if teller.mark() == Some(Mark::In) && teller.back(2) == Some(Mark::For) {
         return ": a for goes from one value to another, as in for i := 1 to 5 do";
     }
     if teller.takes(":=") {
         return ": an assignment is written with :=";
+    }
+    if teller.takes(":") && teller.takes(",") && !is_in_case(teller) {
+        return ": the type stands behind a colon, as in x: integer";
     }
     if teller.takes("*") {
         return ": comparisons that and or or joins stand in parentheses, as (a = b) and (c = d)";
@@ -221,62 +461,124 @@ fn word_advice(teller: &mut Teller) -> &'static str {
     if teller.at >= teller.tokens.count() {
         return end_advice(teller);
     }
-    let name = teller.name();
-    let before = match teller.at.checked_sub(1) {
-        Some(before) => teller.name_at(before),
-        None => "",
-    };
-    if is_annotation_word(before) {
-        instead_of(before)
-    } else if is_else_if(name) {
-        ": write else if"
-    } else if is_loop(before) {
-        ": what is repeated for ever stands between cycle and end"
-    } else if before == "return" {
-        ": a function gives its result by an assignment to its own name"
-    } else if !name.is_empty() && is_start(before) {
-        ": processes are started by init"
+    if !teller.name().is_empty() && is_start(teller.name_before()) {
+        return ": processes are started by init";
+    }
+    if teller.takes(":") {
+        return untyped_advice(teller);
+    }
+    if teller.takes(":=") {
+        return bare_advice(teller);
+    }
+    match missing_word(teller) {
+        "" => missing_sign(teller),
+        said => said,
+    }
+}
+
+// Of what stands where a colon can.
+fn untyped_advice(teller: &mut Teller) -> &'static str {
+    if matches!(teller.back(2), Some(Mark::Function | Mark::Entry)) {
+        return ": the type of a function's result stands behind a colon, as in function f: integer";
+    }
+    match (is_type(teller.name_before()), is_in_parentheses(teller)) {
+        (true, true) => ": a parameter is declared as in #: %",
+        (true, false) => ": a variable is declared as in var #: %",
+        (false, true) => ": a parameter is declared as in x: integer",
+        (false, false) if teller.takes(",") => ": a colon or a comma may be missing before it",
+        _ => ": a colon may be missing before it",
+    }
+}
+
+// Of the sign that may be missing before the token.
+fn missing_sign(teller: &mut Teller) -> &'static str {
+    match (teller.takes("*"), teller.takes(",")) {
+        (true, true) => ": an operator or a comma may be missing before it",
+        (true, false) if teller.takes(";") =>
+            ": an operator or a semicolon may be missing before it",
+        (true, false) => ": an operator may be missing before it",
+        (false, true) if teller.name().is_empty() && teller.takes("(") =>
+            ": a parenthesis or a comma may be missing before it",
+        (false, true) => ": a comma may be missing before it",
+        (false, false) if is_glued(teller) && teller.takes("x") => ": a name begins with a letter",
+        _ if teller.takes("(") => ": a parenthesis may be missing before it",
+        _ => "",
+    }
+}
+
+// Whether a name begins where the number ends that is the token.
+fn is_glued(teller: &Teller) -> bool {
+    let next = teller.at.saturating_add(1);
+    match (
+        find(teller.source, Sought::Token(teller.at)),
+        find(teller.source, Sought::Token(next)),
+    ) {
+        (Some(one), Some(other)) => {
+            one.from.saturating_add(one.len) == other.from && !teller.name_at(next).is_empty()
+        }
+        _ => false,
+    }
+}
+
+// Of what stands behind a name as if it were its argument or its value.
+fn bare_advice(teller: &Teller) -> &'static str {
+    match teller.name_before() {
+        "display" => ": the value stands in parentheses, as in display(x)",
+        "delay" | "continue" => ": the queue stands in parentheses, as in %(q)",
+        "" if teller.back(1) == Some(Mark::CloseBracket) =>
+            ": := or a period may be missing before it",
+        "" => "",
+        _ => ": := or a parenthesis may be missing before it",
+    }
+}
+
+// Of the word that a statement wants between its parts.
+fn missing_word(teller: &mut Teller) -> &'static str {
+    if teller.takes("then") {
+        ": then may be missing before it"
+    } else if teller.takes("do") {
+        ": do may be missing before it"
+    } else if teller.takes("of") {
+        ": of may be missing before it"
+    } else if teller.takes("to") {
+        ": to may be missing before it"
     } else {
         ""
     }
 }
 
-/// Whether a name stands in other languages for `else if`.
-pub fn is_else_if(name: &str) -> bool {
-    matches!(name, "elsif" | "elif" | "elseif")
-}
-
-/// Whether a name begins in other languages what is repeated for ever.
-pub fn is_loop(name: &str) -> bool {
-    matches!(name, "loop" | "forever")
-}
-
-// Whether a name is the word of an annotation that stands in no comment.
-fn is_annotation_word(name: &str) -> bool {
-    name.eq_ignore_ascii_case("assert") || name.eq_ignore_ascii_case("invariant")
-}
-
 fn end_advice(teller: &mut Teller) -> &'static str {
     if teller.takes(".") {
         ": the final period is missing"
+    } else if teller.takes("begin") && !teller.takes("end") {
+        ": the initial statement of the program is missing"
     } else {
         ": an end may be missing further up"
     }
 }
 
-/// Whether a reserved word stands where a name is wanted, and no more than a name.
-pub fn is_reserved_name(teller: &mut Teller) -> bool {
+// Whether a reserved word stands where a name is wanted, and no more than a name.
+fn is_reserved_name(teller: &mut Teller) -> bool {
+    let is_declared = matches!(
+        teller.ahead(1),
+        Some(Mark::Colon | Mark::Comma | Mark::Equal)
+    );
     is_word(teller)
-        && !is_system_parameter(teller)
+        && !(teller.mark() == Some(Mark::Var) && is_in_parentheses(teller))
         && !is_type_of_parameter(teller)
+        && !is_mark_of(
+            teller.tokens,
+            teller.at,
+            &[Mark::Class, Mark::Monitor, Mark::Process],
+        )
         && teller.takes("x")
-        && !teller.takes_one_of(&["not", "while", "begin"])
+        && (is_declared || !teller.takes_one_of(&["not", "while", "begin"]))
 }
 
 // Whether a type is written where the name of one is wanted.
 fn is_type_of_parameter(teller: &Teller) -> bool {
     matches!(teller.mark(), Some(Mark::Array | Mark::Record | Mark::Set))
-        && back(teller, 1) == Some(Mark::Colon)
+        && teller.back(1) == Some(Mark::Colon)
 }
 
 // Whether it is a reserved word, or the sign for one.

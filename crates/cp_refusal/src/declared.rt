@@ -1,11 +1,11 @@
 //! The declarations of a program, and what a name stands for at a place of it.
 
 use crate::extent::{Extent, between, body_extent, definition_end};
-use crate::rules::name_at;
+use crate::rules::{mark_before, name_at};
 use cp_check::names_at_fault;
 use cp_check::operand::Context;
 use cp_scope::{Meaning, ScopeTable, ValueType};
-use cp_text::{Name, Tokens};
+use cp_text::{Mark, Name, Tokens};
 use cp_tree::{
     Body, Constant, ConstantDefinition, Definition, FieldGroup, Group, Identifier, Part, PartKind,
     Program, ProgramPartKind, Routine, RoutineKind, Simple, SimpleKind, System, SystemDefinition,
@@ -59,10 +59,8 @@ pub struct Declaration<'a> {
     pub owner: &'a str,
     /// The name of the routine that it is in; empty outside of routines.
     pub routine: &'a str,
-    /// The numbers of the token from which on it is visible, and of the one that ends its block.
+    /// The numbers of the token from which on it is visible, and of the one that ends its block. A system type is visible from its end on.
     seen: Extent,
-    /// The body of a routine or a system type.
-    pub body: Extent,
 }
 
 impl<'a> Declaration<'a> {
@@ -70,36 +68,27 @@ impl<'a> Declaration<'a> {
         matches!(self.what, Declared::Routine(_))
     }
 
-    pub fn is_system_type(&self) -> bool {
-        matches!(self.what, Declared::System(_))
-    }
-
-    /// Whether it is the routine or the system type that the checker knows by this token.
-    fn is_headed_at(&self, at: usize) -> bool {
+    /// Whether the checker knows it by this token: a routine, or a type.
+    fn is_known_at(&self, at: usize) -> bool {
         match self.what {
             Declared::Routine(_) => self.at == at,
             Declared::System(system) => system.at == at,
+            Declared::Type(written) => written.at == at,
             _ => false,
         }
     }
 
     /// Whether it is a parameter of a routine or a system type.
     fn is_parameter_of(&self, called: Declaration) -> bool {
-        let (owner, routine) = if called.is_system_type() {
-            (called.name, "")
-        } else {
-            (called.owner, called.name)
+        let (owner, routine) = match called.what {
+            Declared::System(_) => (called.name, ""),
+            _ => (called.owner, called.name),
         };
         matches!(
             self.what,
             Declared::Parameter(_) | Declared::VarParameter(_)
         ) && self.owner == owner
             && self.routine == routine
-    }
-
-    /// Whether it is a routine of a system type.
-    pub fn is_routine_of(&self, owner: &str) -> bool {
-        self.is_routine() && !owner.is_empty() && self.owner == owner
     }
 
     /// Whether it is a variable of a system type or of the program, and not of a routine there.
@@ -143,9 +132,7 @@ pub const IN_PROGRAM: Context = Context {
 pub struct Declarations<'a> {
     pub tokens: &'a Tokens,
     pub all: Vec<Declaration<'a>>,
-    bodies: Vec<OwnedBody<'a>>,
-    /// The body of the program itself.
-    body: Extent,
+    pub bodies: Vec<OwnedBody<'a>>,
     /// The names that the checker knew where it ended.
     pub scopes: ScopeTable,
 }
@@ -163,7 +150,6 @@ impl<'a> Declarations<'a> {
             tokens,
             all: Vec::new(alloc),
             bodies: Vec::new(alloc),
-            body: body_extent(tokens, &tree.program.body),
             scopes,
         };
         declarations.add_program(&tree.program)?;
@@ -227,17 +213,17 @@ impl<'a> Declarations<'a> {
         system: &'a System,
         block: Block<'a>,
     ) -> Result<(), AllocError> {
-        let body = body_extent(self.tokens, &system.body);
+        let end = body_extent(self.tokens, &system.body).to;
         let inner = Block {
             owner: name.name.as_str(),
-            end: body.to,
+            end,
             context: Context {
                 owner: Some(system.kind),
                 ..block.context
             },
             ..block
         };
-        self.add_with(name, Declared::System(system), body.to, block, body)?;
+        self.add(name, Declared::System(system), end, block)?;
         self.add_groups(&system.parameters, inner)?;
         self.add_parts(&system.parts, inner)?;
         self.add_routines(&system.routines, inner)?;
@@ -256,10 +242,9 @@ impl<'a> Declarations<'a> {
     }
 
     fn add_routine(&mut self, routine: &'a Routine, block: Block<'a>) -> Result<(), AllocError> {
-        let body = body_extent(self.tokens, &routine.body);
         let inner = Block {
             routine: routine.name.name.as_str(),
-            end: body.to,
+            end: body_extent(self.tokens, &routine.body).to,
             context: Context {
                 routine: Some(routine.name.at),
                 ..block.context
@@ -270,7 +255,7 @@ impl<'a> Declarations<'a> {
             return self.add_body(&routine.body, inner);
         }
         let from = after_heading(routine);
-        self.add_with(&routine.name, Declared::Routine(routine), from, block, body)?;
+        self.add(&routine.name, Declared::Routine(routine), from, block)?;
         match &routine.kind {
             RoutineKind::Procedure(groups) => {
                 for one in groups {
@@ -395,17 +380,6 @@ impl<'a> Declarations<'a> {
         from: usize,
         block: Block<'a>,
     ) -> Result<(), AllocError> {
-        self.add_with(name, what, from, block, between(0, 0))
-    }
-
-    fn add_with(
-        &mut self,
-        name: &'a Identifier,
-        what: Declared<'a>,
-        from: usize,
-        block: Block<'a>,
-        body: Extent,
-    ) -> Result<(), AllocError> {
         self.all.push(Declaration {
             name: name.name.as_str(),
             spelling: &name.name,
@@ -414,7 +388,6 @@ impl<'a> Declarations<'a> {
             owner: block.owner,
             routine: block.routine,
             seen: between(from, block.end),
-            body,
         })?;
         Ok(())
     }
@@ -444,52 +417,57 @@ impl<'a> Declarations<'a> {
         false
     }
 
-    /// The system type with a name.
-    pub fn system_type(&self, name: &str) -> Option<Declaration<'a>> {
+    /// The name of the system type of which an entry has this name; empty where there is none, or the name is also declared otherwise.
+    pub fn owner_of_entry(&self, name: &str) -> &'a str {
+        let mut owner = "";
         for one in &self.all {
-            if one.is_system_type() && one.name == name {
-                return Some(*one);
+            if one.name == name {
+                if mark_before(self.tokens, one.at) != Some(Mark::Entry) {
+                    return "";
+                }
+                owner = one.owner;
+            }
+        }
+        owner
+    }
+
+    /// The system type with a name.
+    pub fn system_type(&self, name: &str) -> Option<&'a System> {
+        for one in &self.all {
+            if let Declared::System(system) = one.what
+                && one.name == name
+            {
+                return Some(system);
             }
         }
         None
     }
 
-    /// The body of the system type with a name, or that of the program where the name is empty.
-    pub fn body_of(&self, owner: &str) -> Extent {
-        match self.system_type(owner) {
-            Some(system) => system.body,
-            None => self.body,
-        }
-    }
-
-    /// The name of the system type of a variable or of its elements, or of a parameter; empty where it has none.
-    pub fn component_of(&self, one: &Declaration<'a>) -> &'a str {
-        let found = match self.type_of_permanent(one) {
-            Some(ValueType::Array(at)) => match self.scopes.shapes().array(at) {
-                Some(array) => Some(array.element),
-                None => None,
-            },
+    /// The system type of a variable or of its elements, or of a parameter.
+    fn component_type_of(&self, one: &Declaration<'a>) -> Option<Declaration<'a>> {
+        let found = match self.type_of_permanent(one)? {
+            ValueType::Array(at) => self.scopes.shapes().array(at)?.element,
             other => other,
         };
         match found {
-            Some(ValueType::Component(_, at)) => match self.headed_at(at) {
-                Some(system) => system.name,
-                None => "",
-            },
-            _ => "",
+            ValueType::Component(_, at) => self.known_at(at),
+            _ => None,
+        }
+    }
+
+    /// The system type of a variable or of its elements, or of a parameter.
+    pub fn component_of(&self, one: &Declaration<'a>) -> Option<&'a System> {
+        match self.component_type_of(one)?.what {
+            Declared::System(system) => Some(system),
+            _ => None,
         }
     }
 
     /// The type of a variable or a parameter of a system type or of the program.
     fn type_of_permanent(&self, one: &Declaration<'a>) -> Option<ValueType> {
         let meaning = match self.system_type(one.owner) {
-            Some(
-                Declaration {
-                    what: Declared::System(system),
-                    ..
-                },
-            ) => self.scopes.shapes().member(system.at, one.spelling)?,
-            _ => self.scopes.look(one.spelling)?,
+            Some(system) => self.scopes.shapes().member(system.at, one.spelling)?,
+            None => self.scopes.look(one.spelling)?,
         };
         match meaning {
             Meaning::Variable(value_type) | Meaning::Parameter(value_type) => Some(value_type),
@@ -497,10 +475,21 @@ impl<'a> Declarations<'a> {
         }
     }
 
-    /// The routine or the system type that the checker knows by this token.
-    fn headed_at(&self, at: usize) -> Option<Declaration<'a>> {
+    /// Where the entry with a name of the system type is written that the checker knows by a token.
+    pub fn entry(&self, system: usize, name: &str) -> Option<usize> {
+        let owner = self.known_at(system)?.name;
         for one in &self.all {
-            if one.is_headed_at(at) {
+            if one.owner == owner && one.name == name && self.scopes.shapes().is_entry(one.at) {
+                return Some(one.at);
+            }
+        }
+        None
+    }
+
+    /// The routine or the type that the checker knows by this token.
+    pub fn known_at(&self, at: usize) -> Option<Declaration<'a>> {
+        for one in &self.all {
+            if one.is_known_at(at) {
                 return Some(*one);
             }
         }
@@ -511,7 +500,7 @@ impl<'a> Declarations<'a> {
     pub fn component_type(&self, owner: &str, name: &str) -> Option<&'a str> {
         for one in &self.all {
             if one.is_component_of(owner) && one.name == name {
-                return Some(self.component_of(one));
+                return Some(self.component_type_of(one)?.name);
             }
         }
         None
@@ -519,7 +508,7 @@ impl<'a> Declarations<'a> {
 
     /// The parameter before which so many stand, of the routine or the system type that the checker knows by a token.
     pub fn parameter(&self, heading: usize, number: usize) -> Option<Declaration<'a>> {
-        let called = self.headed_at(heading)?;
+        let called = self.known_at(heading)?;
         let mut left = number;
         for one in &self.all {
             if one.is_parameter_of(called) {
@@ -535,7 +524,7 @@ impl<'a> Declarations<'a> {
     /// The name of the system type that a token is in; empty in the program.
     fn owner_at(&self, at: usize) -> &'a str {
         for one in &self.all {
-            if one.is_system_type() && one.at <= at && at < one.body.to {
+            if matches!(one.what, Declared::System(_)) && one.at <= at && at < one.seen.from {
                 return one.name;
             }
         }

@@ -7,7 +7,7 @@ ghost use Rattle.cp_text.specs.Reading.{HasFault, HasTokens};
 ghost use Rattle.cp_refusal.specs.Explaining as spec;
 ghost use Rattle.cp_refusal.specs.Lines.{last_line};
 
-use crate::advice::{advice, is_reserved_name};
+use crate::advice::advice;
 use crate::candidates::put_wanted;
 use crate::extent::single;
 use crate::foreign::sign_sentence;
@@ -88,7 +88,7 @@ fn scan_sentence(cause: ScanCause, text: &[u8]) -> &'static str {
         ScanCause::BadChar if is_coded(text) =>
             "this is no character: the code of a character is 0 to 127",
         ScanCause::BadChar =>
-            "this is no character: between the quotes stands one sign, as 'a', or its code, as '(:97:)'; there are no strings",
+            "this is no character: between the quotes stands one sign, as 'a', or its code, as '(:97:)'; there are no strings and no type of them",
         ScanCause::NumberTooLarge => "this number is larger than 32767",
         ScanCause::NameTooLong => "this name has more than 40 characters",
         ScanCause::TooManyTokens =>
@@ -217,20 +217,65 @@ fn put_unexpected(teller: &mut Teller, missing: &Missing) {
     } else {
         teller.put(", found the end of the source");
     }
+    put_missing(teller, missing);
+}
+
+// What is missing further up, or else what may have been meant.
+fn put_missing(teller: &mut Teller, missing: &Missing) {
     match missing {
+        Missing::Nothing => {
+            let said = advice(teller);
+            teller.put_about(said);
+        }
         Missing::Semicolon(before) => {
-            teller.put(": a semicolon may be missing at the end of line ");
+            let sign = if teller.takes(",") {
+                ": a comma or a semicolon"
+            } else {
+                ": a semicolon"
+            };
+            teller.put(sign);
+            teller.put(" may be missing at the end of line ");
             put_line(teller, *before);
         }
-        Missing::End(open) => {
-            teller.put(": the ");
-            teller.put_tokens(single(*open));
-            teller.put(" of line ");
-            put_line(teller, *open);
-            teller.put(" has no end");
+        Missing::End(open) => put_open(teller, *open),
+        Missing::EndByLayout(open) => {
+            put_open(teller, *open);
+            teller.put(", as the lines are indented");
         }
-        Missing::Nothing => put_meant(teller),
+        Missing::Beginning(closed) => {
+            teller.put(": the end before it closes the ");
+            put_with_line(teller, *closed);
+            teller.put(", so that an end is too many or a begin is missing");
+        }
+        Missing::Word(at, word) => {
+            teller.put(": ");
+            put_with_line(teller, *at);
+            teller.put(" may be meant for ");
+            teller.put(word);
+        }
+        Missing::WordHere(word) => {
+            teller.put_about(": # may be meant for ");
+            teller.put(word);
+        }
     }
+}
+
+// That nothing closes the word or the bracket at a token.
+fn put_open(teller: &mut Teller, open: usize) {
+    teller.put(": the ");
+    put_with_line(teller, open);
+    teller.put(match teller.mark_at(open) {
+        Some(Mark::OpenParenthesis) => " has no )",
+        Some(Mark::OpenBracket) => " has no ]",
+        _ => " has no end",
+    });
+}
+
+// A token and its line.
+fn put_with_line(teller: &mut Teller, at: usize) {
+    teller.put_tokens(single(at));
+    teller.put(" of line ");
+    put_line(teller, at);
 }
 
 // The token that is refused.
@@ -254,29 +299,15 @@ fn put_line(teller: &mut Teller, at: usize) {
     teller.text.put_display(line);
 }
 
-// What may have been meant, where nothing is missing further up.
-fn put_meant(teller: &mut Teller) {
-    if is_reserved_name(teller) {
-        teller.put(": ");
-        for byte in teller.spelling() {
-            match byte {
-                b'&' => teller.put("and"),
-                _ => teller.text.put_char(char::from(byte.to_ascii_lowercase())),
-            }
-        }
-        teller.put(" is a reserved word");
-    } else {
-        let said = advice(teller);
-        teller.put(said);
-    }
-}
-
 // The place further up that the excerpt shows too.
 fn earlier(source: &[u8], tokens: &Tokens, missing: &Missing) -> Option<ByteRange> {
     match missing {
         Missing::Semicolon(before) => Some(after(span_of(source, *before, tokens))),
-        Missing::End(open) => Some(span_of(source, *open, tokens)),
-        Missing::Nothing => None,
+        Missing::End(at)
+        | Missing::EndByLayout(at)
+        | Missing::Beginning(at)
+        | Missing::Word(at, _) => Some(span_of(source, *at, tokens)),
+        Missing::WordHere(_) | Missing::Nothing => None,
     }
 }
 
@@ -309,8 +340,11 @@ fn left_out(
     at: usize,
 ) -> Result<String, AllocError> {
     let mut teller = Teller::new(alloc, source, tokens, at);
-    teller.put_tokens(single(at));
-    teller.put(" is a reserved word for what is left out of this language");
+    teller.put_about(match teller.mark() {
+        Some(Mark::Program) if at == 0 =>
+            "a program has no heading: it begins with const, type, var, a routine or begin",
+        _ => "# is a reserved word for what is left out of this language",
+    });
     teller.text.finish()
 }
 
@@ -323,7 +357,7 @@ fn explain_unexpected(
     ensures { IfOk result (spec.IsRefusedAt (codes "parse") source.now tokens.now at) }
 {
     let mut teller = Teller::new(alloc, source, tokens, at);
-    let missing = what_is_missing(&mut teller);
+    let missing = what_is_missing(&mut teller)?;
     put_unexpected(&mut teller, &missing);
     let earlier = earlier(source, tokens, &missing);
     not_parsed(source, tokens, at, teller.text.finish(), earlier)

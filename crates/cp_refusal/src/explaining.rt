@@ -122,7 +122,7 @@ impl<'a> Judging<'a> {
             }
             FactorKind::Not(inner) => {
                 let inner = self.factor(false, inner).ok()?;
-                self.put_wanted("not", "a boolean", inner);
+                self.put_negated(inner);
                 Some(())
             }
             FactorKind::Set(nodes) => self.explain_set(nodes),
@@ -150,7 +150,13 @@ impl<'a> Judging<'a> {
         for (number, selector) in node.selectors.iter().enumerate() {
             let scopes = &self.declarations.scopes;
             let (part, index) = match selector {
-                Selector::Field(name) => (member_of(scopes, name, whole).ok()?, None),
+                Selector::Field(name) => match member_of(scopes, name, whole) {
+                    Ok(part) => (part, None),
+                    Err(_fault) => {
+                        self.put_no_member(Designated::of(node, number, whole.named));
+                        return Some(());
+                    }
+                },
                 Selector::Index(index) => {
                     let index = self.expression(false, index).ok()?;
                     (element_of(scopes, whole, index.operand), Some(index))
@@ -224,6 +230,7 @@ impl<'a> Judging<'a> {
         let taken = self.parameters(heading).len();
         if taken != nodes.len() {
             self.put_count(called, taken, nodes.len());
+            self.put_parameters(heading);
             return Some(());
         }
         for number in 0..nodes.len() {

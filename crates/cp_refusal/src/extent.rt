@@ -37,35 +37,6 @@ pub fn closing(tokens: &Tokens, at: usize, opening: &[Mark], closing: &[Mark]) -
     tokens.count()
 }
 
-/// The number of the token after the bracket that closes the one at this number.
-pub fn after_bracket(tokens: &Tokens, at: usize) -> usize {
-    let opening = [Mark::OpenParenthesis, Mark::OpenBracket];
-    let closed = closing(
-        tokens,
-        at,
-        &opening,
-        &[Mark::CloseParenthesis, Mark::CloseBracket],
-    );
-    closed.saturating_add(1).min(tokens.count())
-}
-
-/// The tokens within the brackets that open at this number.
-pub fn inside(tokens: &Tokens, at: usize) -> Extent {
-    between(
-        at.saturating_add(1),
-        after_bracket(tokens, at).saturating_sub(1),
-    )
-}
-
-/// The number of the token after the name at this number and an index, where it has one.
-pub fn after_index(tokens: &Tokens, at: usize) -> usize {
-    let next = at.saturating_add(1);
-    match mark_at(tokens, next) {
-        Some(Mark::OpenBracket) => after_bracket(tokens, next),
-        _ => next,
-    }
-}
-
 /// Whether a sign or word stands between the factors of a term.
 pub fn is_multiplying(mark: Option<Mark>) -> bool {
     matches!(mark, Some(Mark::Times | Mark::Div | Mark::Mod | Mark::And))

@@ -1,7 +1,11 @@
 //! What stands in this language for words and signs of other ones.
 
+use crate::rules::{is_mark_of, mark_before};
+use crate::teller::Teller;
+use cp_text::Mark;
+
 /// Words of other languages, in lower case, and what stands for them here.
-static WORDS: [(&[&str], &str); 22] = [
+static WORDS: [(&[&str], &str); 26] = [
     (
         &["condition", "cond"],
         ": a condition is a queue, as in q: queue",
@@ -16,7 +20,7 @@ static WORDS: [(&[&str], &str); 22] = [
         ": a process waits by delay(q), where q is a queue of the monitor",
     ),
     (
-        &["signal", "notify"],
+        &["signal", "notify", "wake", "wakeup", "resume"],
         ": a process that waits is let go on by continue(q)",
     ),
     (
@@ -45,8 +49,16 @@ static WORDS: [(&[&str], &str); 22] = [
         ": nothing is read, a program has no input",
     ),
     (
-        &["exit", "break", "halt", "return"],
+        &["exit", "break", "halt"],
         ": nothing leaves a loop or a routine before its end",
+    ),
+    (
+        &["return"],
+        ": nothing leaves a routine before its end, and a function gives its result by an assignment to its own name",
+    ),
+    (
+        &["default", "otherwise", "others"],
+        ": a case has no else: each value that may come has a label",
     ),
     (
         &["sleep"],
@@ -63,19 +75,125 @@ static WORDS: [(&[&str], &str); 22] = [
     ),
     (&["dec"], ": write x := x - 1"),
     (
-        &["cobegin", "fork", "start"],
+        &["result"],
+        ": a function gives its result by an assignment to its own name",
+    ),
+    (&["nil", "null"], ": there are no pointers"),
+    (
+        &["cobegin", "parbegin", "fork", "start"],
         ": a process is a variable of a process type, and is started by init in the body",
     ),
 ];
 
-/// What stands here for a name of another language; empty where nothing is known of it.
-pub fn instead_of(name: &str) -> &'static str {
-    for (words, said) in &WORDS {
+/// Words of other languages where the parser stops at them or behind them, and what is said of them.
+static STOPS: [(&[&str], &str); 17] = [
+    (&["elsif", "elif", "elseif"], ": write else if"),
+    (
+        &["loop", "forever"],
+        ": what is repeated for ever stands between cycle and end",
+    ),
+    (
+        &["return"],
+        ": a function gives its result by an assignment to its own name",
+    ),
+    (&["label", "goto"], ": there are no labels and no goto"),
+    (
+        &["new"],
+        ": nothing is made by new: a component is a variable, and init starts it",
+    ),
+    (
+        &["synchronized"],
+        ": the entries of a monitor exclude one another without a word for it",
+    ),
+    (
+        &["private", "public", "protected", "static"],
+        ": what is called from outside has entry, as in procedure entry p, and all else is private",
+    ),
+    (
+        &["def", "void", "func", "proc", "sub"],
+        ": a routine begins with procedure or function",
+    ),
+    (
+        &["import", "include", "uses", "module"],
+        ": a program is one text, and takes in no other",
+    ),
+    (
+        &["default", "otherwise", "others"],
+        ": a case has no else: each value that may come has a label",
+    ),
+    (&["down"], ": write downto"),
+    (&["let"], ": an assignment is written as in x := 2"),
+    (
+        &["step", "by"],
+        ": a for goes by steps of one, up with to and down with downto",
+    ),
+    (
+        &["enum"],
+        ": an enumeration is written as in type colour = (red, green)",
+    ),
+    (&["struct"], ": write record"),
+    (&["switch"], ": write case"),
+    (&["xor"], ": write <> in place of xor"),
+];
+
+// What stands in a table for a name; empty where it is not there.
+fn said_in(table: &[(&[&str], &'static str)], name: &str) -> &'static str {
+    for (words, said) in table {
         if words.contains(&name) {
             return said;
         }
     }
     ""
+}
+
+/// What stands here for a name of another language; empty where nothing is known of it.
+pub fn instead_of(name: &str) -> &'static str {
+    said_in(&WORDS, name)
+}
+
+/// What is said where the parser stops at a word of another language, or behind one; empty where it is none, or is declared.
+pub fn foreign_advice(teller: &Teller) -> &'static str {
+    for name in [teller.name_before(), teller.name()] {
+        let said = said_in(&STOPS, name);
+        if !said.is_empty() && !is_declared(teller, name) {
+            return said;
+        }
+    }
+    let before = teller.name_before();
+    if is_declared(teller, before) || teller.back(2) == Some(Mark::Period) {
+        ""
+    } else {
+        instead_of(before)
+    }
+}
+
+// Whether a name seems to be declared before the token that the parser refuses.
+fn is_declared(teller: &Teller, name: &str) -> bool {
+    for place in 0..teller.at {
+        let next = place.saturating_add(1);
+        let is_listed = next < teller.at
+            && is_mark_of(
+                teller.tokens,
+                next,
+                &[Mark::Colon, Mark::Comma, Mark::Equal],
+            );
+        let is_headed = matches!(
+            mark_before(teller.tokens, place),
+            Some(Mark::Procedure | Mark::Function | Mark::Entry)
+        );
+        if teller.name_at(place) == name && (is_listed || is_headed) {
+            return true;
+        }
+    }
+    false
+}
+
+/// Whether a name is that of a type, here or in other languages.
+pub fn is_type(name: &str) -> bool {
+    matches!(
+        name,
+        "integer" | "int" | "boolean" | "bool" | "char" | "real" | "float" | "double" | "string"
+    )
 }
 
 /// Fields of a component that are meant to start it.
@@ -107,12 +225,16 @@ pub fn sign_sentence(text: &[u8]) -> &'static str {
             "this sign is none of the language: a block stands between begin and end, and a comment between double quotes",
         [b'{' | b'}', ..] | [b'/', b'/' | b'*', ..] =>
             "this sign is none of the language: comments stand between double quotes",
-        [b'/', ..] => "this sign is none of the language: integers are divided by div",
+        [b'/', ..] =>
+            "this sign is none of the language: integers are divided by div, and there are no real numbers",
+        [b'?', ..] => "this sign is none of the language: write if .. then .. else",
         [b'!', b'=', ..] => "this sign is none of the language: write <> in place of !=",
         [b'!', ..] => "this sign is none of the language: write not",
         [b'|', ..] => "this sign is none of the language: write or",
         [b'%', ..] => "this sign is none of the language: write mod",
         [b'^', ..] => "this sign is none of the language: there are no pointers",
+        [b'_', ..] => "this sign is none of the language: a name begins with a letter",
+        [0x80..=0xFF, ..] => "this sign stands in comments alone",
         _ => "this sign is none of the language",
     }
 }

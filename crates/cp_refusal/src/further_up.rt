@@ -1,11 +1,14 @@
-//! What is missing further up than where the parser notices it.
+//! What is missing, or misspelt, further up than where the parser notices it.
 
-use crate::advice::{is_else_if, is_loop};
 use crate::extent::closing;
+use crate::foreign::foreign_advice;
+use crate::layout::open_by_layout;
 use crate::page::are_on_one_line;
 use crate::rules::is_mark_of;
+use crate::spelling::misspelt_word;
 use crate::teller::Teller;
 use cp_text::{Kind, Mark, Tokens};
+use std::alloc::AllocError;
 
 /// What is missing, and the number of the token that shows it.
 #[derive(Clone, Copy)]
@@ -13,21 +16,67 @@ pub enum Missing {
     Nothing,
     /// A semicolon after this token, the last of its line.
     Semicolon(usize),
-    /// The end of what this token opens.
+    /// What closes the word or the bracket at this token.
     End(usize),
+    /// What closes the word at this token, as the lines are indented.
+    EndByLayout(usize),
+    /// The beginning for an `end` behind that which closes this token.
+    Beginning(usize),
+    /// A reserved word, for which this name stands.
+    Word(usize, &'static str),
+    /// A reserved word, for which the name stands that the parser refuses.
+    WordHere(&'static str),
 }
 
 /// What is missing before the token that the parser refuses.
-pub fn what_is_missing(teller: &mut Teller) -> Missing {
+pub fn what_is_missing(teller: &mut Teller) -> Result<Missing, AllocError> {
+    if let Some((at, word)) = misspelt_word(teller)? {
+        return Ok(if at == teller.at {
+            Missing::WordHere(word)
+        } else {
+            Missing::Word(at, word)
+        });
+    }
+    let by_layout = open_by_layout(teller)?;
+    Ok(match by_layout {
+        Some(_) if is_real(teller) || !takes_end(teller) => missing_by_words(teller),
+        Some(open) if is_never_closed(teller.tokens, open) => Missing::End(open),
+        Some(open) => Missing::EndByLayout(open),
+        None => missing_by_words(teller),
+    })
+}
+
+// What is missing, whatever the layout is.
+fn missing_by_words(teller: &mut Teller) -> Missing {
+    if let Some(open) = open_block(teller) {
+        return Missing::End(open);
+    }
     if let Some(before) = line_without_semicolon(teller) {
         return Missing::Semicolon(before);
     }
-    if is_real(teller) || !is_after_a_block(teller) || !teller.takes("end") {
-        return Missing::Nothing;
+    if let Some(open) = open_bracket(teller) {
+        return Missing::End(open);
     }
-    match open_before(teller.tokens, teller.at) {
-        Some(open) if is_never_closed(teller.tokens, open) => Missing::End(open),
-        _ => Missing::Nothing,
+    match closed_too_often(teller) {
+        Some(closed) => Missing::Beginning(closed),
+        None => Missing::Nothing,
+    }
+}
+
+// The word without an `end` before what follows a whole block.
+fn open_block(teller: &mut Teller) -> Option<usize> {
+    let open = open_before(teller.tokens, teller.at, &OPENING, &CLOSING)?;
+    // The name before `=` has been read as that of a field.
+    let is_behind_fields = teller.mark() == Some(Mark::Equal)
+        && teller.mark_at(open) == Some(Mark::Record)
+        && teller.takes(",");
+    if is_real(teller) || !is_behind_fields && (!is_after_a_block(teller) || !takes_end(teller)) {
+        return None;
+    }
+    if is_never_closed(teller.tokens, open) {
+        Some(open)
+    } else {
+        None
     }
 }
 
@@ -47,7 +96,7 @@ fn is_number(tokens: &Tokens, at: Option<usize>) -> bool {
 }
 
 /// What an `end` or `until` closes.
-const OPENING: [Mark; 5] = [
+pub const OPENING: [Mark; 5] = [
     Mark::Begin,
     Mark::Case,
     Mark::Cycle,
@@ -55,21 +104,12 @@ const OPENING: [Mark; 5] = [
     Mark::Repeat,
 ];
 
-const CLOSING: [Mark; 2] = [Mark::End, Mark::Until];
+pub const CLOSING: [Mark; 2] = [Mark::End, Mark::Until];
 
 // Whether more is opened than closed from a word on that opens something.
 fn is_never_closed(tokens: &Tokens, open: usize) -> bool {
     closing(tokens, open, &OPENING, &CLOSING) >= tokens.count()
 }
-
-/// What a declaration or a routine begins with, apart from a name.
-const DECLARATIONS: [Mark; 5] = [
-    Mark::Const,
-    Mark::Type,
-    Mark::Var,
-    Mark::Procedure,
-    Mark::Function,
-];
 
 /// What a statement or an invariant begins with, apart from a name.
 const STATEMENTS: [Mark; 10] = [
@@ -85,11 +125,47 @@ const STATEMENTS: [Mark; 10] = [
     Mark::Invariant,
 ];
 
-// Whether what begins with the token follows a whole block.
-fn is_after_a_block(teller: &Teller) -> bool {
-    teller.at >= teller.tokens.count()
+/// Whether a word stands at a token that begins a statement or an invariant.
+pub fn is_statement(tokens: &Tokens, at: usize) -> bool {
+    is_mark_of(tokens, at, &STATEMENTS)
+}
+
+/// What a declaration or a routine begins with, apart from a name.
+const DECLARATIONS: [Mark; 5] = [
+    Mark::Const,
+    Mark::Type,
+    Mark::Var,
+    Mark::Procedure,
+    Mark::Function,
+];
+
+/// Whether a word stands at a token that begins declarations or a routine.
+pub fn is_declaration(tokens: &Tokens, at: usize) -> bool {
+    is_mark_of(tokens, at, &DECLARATIONS)
+}
+
+/// Whether what begins with the token, or with the name before it, follows a whole block.
+pub fn is_after_a_block(teller: &Teller) -> bool {
+    let ahead = if teller.mark() == Some(Mark::Equal) {
+        1
+    } else {
+        2
+    };
+    let is_system = matches!(
+        teller.ahead(ahead),
+        Some(Mark::Class | Mark::Monitor | Mark::Process)
+    );
+    is_system && (ahead == 1 || teller.ahead(1) == Some(Mark::Equal))
+        || teller.at >= teller.tokens.count()
         || teller.mark() == Some(Mark::Period)
-        || is_mark_of(teller.tokens, teller.at, &DECLARATIONS)
+        || is_declaration(teller.tokens, teller.at)
+}
+
+// Whether an `end` can stand at the token, or before the period that is the last one.
+fn takes_end(teller: &mut Teller) -> bool {
+    let is_behind_period = teller.at >= teller.tokens.count()
+        && teller.back(1) == Some(Mark::Period);
+    is_behind_period || teller.takes("end")
 }
 
 // The last token of an earlier line, after which a semicolon can stand and does not.
@@ -101,27 +177,29 @@ fn line_without_semicolon(teller: &mut Teller) -> Option<usize> {
         None | Some(Mark::CloseParenthesis | Mark::CloseBracket | Mark::End)
     );
     let is_beginning = !teller.name().is_empty()
-        || is_mark_of(tokens, at, &DECLARATIONS)
-        || is_mark_of(tokens, at, &STATEMENTS);
-    // These end no line: they are words of other languages.
-    if is_else_if(teller.name()) || is_loop(teller.name_at(before)) {
-        return None;
-    }
+        || is_declaration(tokens, at)
+        || is_statement(tokens, at);
     let is_torn = is_ending && is_beginning && !are_on_one_line(teller.source, before);
-    if is_torn && teller.takes(";") {
+    // Words of other languages end no line.
+    if is_torn && foreign_advice(teller).is_empty() && teller.takes(";") {
         Some(before)
     } else {
         None
     }
 }
 
-// The innermost word before a token that is open there.
-fn open_before(tokens: &Tokens, at: usize) -> Option<usize> {
+/// The innermost word before a token that is open there, of those that open something.
+pub fn open_before(
+    tokens: &Tokens,
+    at: usize,
+    opening: &[Mark],
+    closing: &[Mark],
+) -> Option<usize> {
     let mut closed: usize = 0;
     for place in (0..at).rev() {
-        if is_mark_of(tokens, place, &CLOSING) {
+        if is_mark_of(tokens, place, closing) {
             closed = closed.saturating_add(1);
-        } else if is_mark_of(tokens, place, &OPENING) {
+        } else if is_mark_of(tokens, place, opening) {
             if closed == 0 {
                 return Some(place);
             }
@@ -129,4 +207,106 @@ fn open_before(tokens: &Tokens, at: usize) -> Option<usize> {
         }
     }
     None
+}
+
+/// The parenthesis in which a token stands.
+pub fn open_parenthesis(tokens: &Tokens, at: usize) -> Option<usize> {
+    open_before(
+        tokens,
+        at,
+        &[Mark::OpenParenthesis],
+        &[Mark::CloseParenthesis],
+    )
+}
+
+/// What stands in no brackets, be it in those of parameters or others.
+const NEVER_INSIDE: [Mark; 14] = [
+    Mark::Begin,
+    Mark::Const,
+    Mark::Type,
+    Mark::Procedure,
+    Mark::Function,
+    Mark::Becomes,
+    Mark::Then,
+    Mark::Do,
+    Mark::Of,
+    Mark::To,
+    Mark::Downto,
+    Mark::Else,
+    Mark::End,
+    Mark::Until,
+];
+
+const OPENING_BRACKETS: [Mark; 2] = [Mark::OpenParenthesis, Mark::OpenBracket];
+
+const CLOSING_BRACKETS: [Mark; 2] = [Mark::CloseParenthesis, Mark::CloseBracket];
+
+// The bracket that is open before a token that stands in none, and is not closed behind it.
+fn open_bracket(teller: &mut Teller) -> Option<usize> {
+    let is_outside = is_mark_of(teller.tokens, teller.at, &NEVER_INSIDE)
+        || is_mark_of(teller.tokens, teller.at, &[Mark::Semicolon, Mark::Colon]);
+    if !is_outside || is_closed_behind(teller) || !is_closing_wanted(teller) {
+        return None;
+    }
+    open_before(
+        teller.tokens,
+        teller.at,
+        &OPENING_BRACKETS,
+        &CLOSING_BRACKETS,
+    )
+}
+
+// Whether a bracket may be closed at the token, or before the semicolon in front of it.
+fn is_closing_wanted(teller: &mut Teller) -> bool {
+    let is_behind_parameters = teller.back(1) == Some(Mark::Semicolon)
+        && is_mark_of(teller.tokens, teller.at, &NEVER_INSIDE);
+    is_behind_parameters || teller.takes_one_of(&[")", "]"])
+}
+
+// Whether a bracket that is open at the token is closed behind it, before what stands in none.
+fn is_closed_behind(teller: &Teller) -> bool {
+    let (tokens, at) = (teller.tokens, teller.at);
+    if at < tokens.count()
+        && is_mark_of(tokens, at, &NEVER_INSIDE)
+        && teller.mark() != Some(Mark::Becomes)
+    {
+        return false;
+    }
+    let mut opened: usize = 0;
+    for place in at.saturating_add(1)..tokens.count() {
+        if is_mark_of(tokens, place, &NEVER_INSIDE) {
+            return false;
+        }
+        if is_mark_of(tokens, place, &OPENING_BRACKETS) {
+            opened = opened.saturating_add(1);
+        } else if is_mark_of(tokens, place, &CLOSING_BRACKETS) {
+            if opened == 0 {
+                return true;
+            }
+            opened = opened.saturating_sub(1);
+        }
+    }
+    false
+}
+
+// What the `end` before the token closes, where the program is whole with it and does not end, or another `end` follows that closes nothing.
+fn closed_too_often(teller: &mut Teller) -> Option<usize> {
+    let before = teller.at.checked_sub(1)?;
+    if teller.mark_at(before) != Some(Mark::End)
+        || teller.at >= teller.tokens.count()
+        || is_last_semicolon(teller)
+        || teller.takes("end")
+    {
+        return None;
+    }
+    let is_twice = teller.mark() == Some(Mark::End) && teller.takes(";");
+    if !is_twice && !teller.takes(".") {
+        return None;
+    }
+    open_before(teller.tokens, before, &OPENING, &CLOSING)
+}
+
+/// Whether the token is a semicolon, and the last one of the source.
+pub fn is_last_semicolon(teller: &Teller) -> bool {
+    teller.mark() == Some(Mark::Semicolon) && teller.at.saturating_add(1) >= teller.tokens.count()
 }

@@ -35,14 +35,15 @@ impl<'a> Judging<'a> {
         self.teller.at == at && self.rule == rule
     }
 
-    /// Whether the fault of a part is the one that is told of.
-    pub fn is_told(&mut self, fault: CheckFault) -> bool {
-        match fault {
-            CheckFault::Rule { at, rule } => self.is_broken(at, rule),
-            CheckFault::Memory => {
+    /// Something, where a part is refused for the fault that is told of.
+    pub fn told<T: Drop>(&mut self, answer: Result<T, CheckFault>) -> Option<()> {
+        match answer {
+            Err(CheckFault::Rule { at, rule }) if self.is_broken(at, rule) => Some(()),
+            Err(CheckFault::Memory) => {
                 self.teller.text.refuse();
-                false
+                None
             }
+            _ => None,
         }
     }
 

@@ -3,7 +3,7 @@
 use crate::ends::end_of_selected;
 use crate::extent::{Extent, between};
 use cp_check::operand::{Named, Operand, value};
-use cp_scope::{Base, Use, ValueType, values_of};
+use cp_scope::{Base, Predeclared, Use, ValueType, values_of};
 use cp_tree::{Addition, Designator, Multiplication, Relation, Selector};
 
 /// A value where it is written.
@@ -136,10 +136,33 @@ pub fn multiplied(operation: Multiplication) -> Operands {
 
 /// What more is to be said of two operands of which none or both are such as are taken.
 pub fn about_sets(operands: Operands, left: ValueType, right: ValueType) -> &'static str {
-    match (is_set(left) && is_set(right), operands) {
-        (false, _) => "",
-        (true, Operands::Integers) => ": sets have or, and and -",
-        (true, _) => " of another type",
+    match operands {
+        Operands::Integers if is_set(left) || is_set(right) => ": sets have or, and and -",
+        _ if is_set(left) && is_set(right) => " of another type",
+        _ => "",
+    }
+}
+
+/// Why a type without a name is another one than each that has the same phrase.
+pub fn about_unnamed(found: ValueType) -> &'static str {
+    match found {
+        ValueType::Record(_) => ": each record that is written is a type of its own",
+        ValueType::Ordinal(range) if found.is_same(values_of(range.base)) => {
+            ": each enumeration that is written is a type of its own"
+        }
+        ValueType::Ordinal(_) => ": its type has other bounds",
+        _ => "",
+    }
+}
+
+/// What a procedure of the language does with a queue; empty for all else.
+pub fn about_waiting(called: Named) -> &'static str {
+    match called {
+        Named::Predeclared(Predeclared::Delay) => ": delay(q) waits in the queue q",
+        Named::Predeclared(Predeclared::Continue) => {
+            ": continue(q) lets the process go on that waits in the queue q"
+        }
+        _ => "",
     }
 }
 

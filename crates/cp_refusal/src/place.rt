@@ -40,6 +40,8 @@ pub enum Sought {
     Token(usize),
     /// The first piece with a fault of this cause.
     Fault(ScanCause),
+    /// The first comment that is no annotation.
+    Comment,
 }
 
 fn piece(shape: PieceKind, len: usize) -> SourcePiece {
@@ -222,6 +224,7 @@ pub fn find(source: &[u8], sought: Sought) -> Option<ByteRange>
         let found = match sought {
             Sought::Token(at) => is_token(piece.shape) && before == at,
             Sought::Fault(cause) => has_fault(cause, piece.shape, &text[..len], before),
+            Sought::Comment => piece.shape == PieceKind::Comment,
         };
         if found {
             return Some(ByteRange { from, len });
@@ -237,24 +240,22 @@ pub fn find(source: &[u8], sought: Sought) -> Option<ByteRange>
 
 /// The comments of a source that are no annotations.
 pub fn comments(alloc: Global, source: &[u8]) -> Result<Vec<ByteRange>, AllocError> {
-    let mut found = Vec::new(alloc);
-    let mut left: usize = 0;
-    let mut open = None;
-    for from in 0..source.len() {
-        if left > 0 {
-            left -= 1;
-            continue;
-        }
-        let text = &source[from..];
-        let (piece, behind) = next_piece(text, open);
-        let len = piece.len.min(text.len());
-        if piece.shape == PieceKind::Comment {
-            found.push(ByteRange { from, len })?;
-        }
-        left = len.saturating_sub(1);
-        open = behind;
+    let mut all = Vec::new(alloc);
+    let mut begun: usize = 0;
+    for _ in 0..source.len() {
+        // No annotation is open behind a comment.
+        let rest = source.get(begun..).unwrap_or(&[]);
+        let Some(found) = find(rest, Sought::Comment) else {
+            return Ok(all);
+        };
+        let from = begun.saturating_add(found.from);
+        all.push(ByteRange {
+            from,
+            len: found.len,
+        })?;
+        begun = from.saturating_add(found.len);
     }
-    Ok(found)
+    Ok(all)
 }
 
 /// Whether a comment stands between the token of this number and the one before it.

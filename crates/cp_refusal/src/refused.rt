@@ -18,12 +18,8 @@ impl<'a> Judging<'a> {
     /// What is refused in an expression, which may stand in the place of a `var` argument.
     #[cycle(expression)]
     pub fn refused_in(&mut self, is_var: bool, node: &'a Expression) -> Option<Refused<'a>> {
-        let Err(fault) = self.expression(is_var, node) else {
-            return None;
-        };
-        if !self.is_told(fault) {
-            return None;
-        }
+        let answer = self.expression(is_var, node);
+        self.told(answer)?;
         let Some((relation, right)) = &node.right else {
             return self.refused_in_sum(is_var, &node.left);
         };
@@ -36,12 +32,8 @@ impl<'a> Judging<'a> {
 
     #[cycle(expression)]
     fn refused_in_sum(&mut self, is_var: bool, node: &'a Sum) -> Option<Refused<'a>> {
-        let Err(fault) = self.sum(is_var, node) else {
-            return None;
-        };
-        if !self.is_told(fault) {
-            return None;
-        }
+        let answer = self.sum(is_var, node);
+        self.told(answer)?;
         let is_alone = is_var && node.sign.is_none() && node.more.is_empty();
         let mut inner = self.refused_in_term(is_alone, &node.first);
         for (_, more) in &node.more {
@@ -54,12 +46,8 @@ impl<'a> Judging<'a> {
 
     #[cycle(expression)]
     fn refused_in_term(&mut self, is_var: bool, node: &'a Term) -> Option<Refused<'a>> {
-        let Err(fault) = self.term(is_var, node) else {
-            return None;
-        };
-        if !self.is_told(fault) {
-            return None;
-        }
+        let answer = self.term(is_var, node);
+        self.told(answer)?;
         let mut inner = self.refused_in_factor(is_var && node.more.is_empty(), &node.first);
         for (_, more) in &node.more {
             if inner.is_none() {
@@ -71,12 +59,8 @@ impl<'a> Judging<'a> {
 
     #[cycle(expression)]
     fn refused_in_factor(&mut self, is_var: bool, node: &'a Factor) -> Option<Refused<'a>> {
-        let Err(fault) = self.factor(is_var, node) else {
-            return None;
-        };
-        if !self.is_told(fault) {
-            return None;
-        }
+        let answer = self.factor(is_var, node);
+        self.told(answer)?;
         let inner = match &node.kind {
             FactorKind::Number(_) | FactorKind::Character(_) => None,
             FactorKind::Named(name, nodes) => match self.refused_in_designator(name) {
@@ -104,12 +88,8 @@ impl<'a> Judging<'a> {
     /// What is refused in a name with its selectors.
     #[cycle(expression)]
     pub fn refused_in_designator(&mut self, node: &'a Designator) -> Option<Refused<'a>> {
-        let Err(fault) = self.designator(node) else {
-            return None;
-        };
-        if !self.is_told(fault) {
-            return None;
-        }
+        let answer = self.designator(node);
+        self.told(answer)?;
         let mut inner = None;
         for selector in &node.selectors {
             if let Selector::Index(index) = selector

@@ -6,10 +6,9 @@ ghost use Rattle.cp_refusal.specs.Explaining.{rule_code};
 use crate::declared::{Declarations, IN_PROGRAM};
 use crate::extent::{Extent, between, single};
 use crate::foreign::{instead_of, is_start};
+use crate::further_up::open_parenthesis;
 use crate::judging::Judging;
-use crate::page::line_number;
-use crate::place::{Sought, find};
-use crate::spelling::similar_declaration;
+use crate::spelling::{Known, similar_declaration, similar_standard_name};
 use crate::teller::Teller;
 use cp_scope::Rule;
 use cp_text::{Kind, Mark, Tokens};
@@ -97,6 +96,15 @@ fn too_large(tokens: &Tokens, at: usize) -> &'static str {
     }
 }
 
+fn misplaced_component(tokens: &Tokens, at: usize) -> &'static str {
+    match open_parenthesis(tokens, at) {
+        Some(open) if !name_at(tokens, open.saturating_sub(1)).is_empty() =>
+            " is a system type, and a routine has no components as parameters: a system type is given them",
+        _ =>
+            " can't stand here: a component is declared only among permanent variables, a monitor in the program, a process or a monitor, a process in the program, a class in any of these",
+    }
+}
+
 /// What is wrong with a token where a rule is broken, in the order of `Rule`; empty where that hangs on the token.
 const COMPLAINTS: [&str; 22] = [
     " is not declared here",
@@ -111,7 +119,7 @@ const COMPLAINTS: [&str; 22] = [
     " calls itself: no routine may",
     " can't stand here: a queue is declared only among the permanent variables of a monitor",
     "",
-    " can't stand here: a component is declared only among permanent variables, a monitor in the program, a process or a monitor, a process in the program, a class in any of these",
+    "",
     " is a class, and a monitor or a process can't be given a class: what is shared has to be a monitor",
     " is a process or a queue, and can't be a parameter",
     " stands only in the initial statement of the program or of a system type",
@@ -130,6 +138,7 @@ fn complaint(declarations: &Declarations, at: usize, rule: Rule) -> &'static str
         Rule::C5 => disagreement(tokens, at),
         Rule::C9 => wrong_entry(tokens, at),
         Rule::C12 => wrong_wait(declarations, at),
+        Rule::C13 => misplaced_component(tokens, at),
         Rule::C20 => too_large(tokens, at),
         _ => COMPLAINTS[rule as usize],
     }
@@ -197,10 +206,18 @@ fn complained_of(tokens: &Tokens, broken: Broken) -> Extent {
 /// Says what is there and what is wanted, where that can be told.
 fn put_particular(judging: &mut Judging, rule: Rule) -> bool {
     match rule {
-        Rule::C1 => put_undeclared(&mut judging.teller, &judging.declarations),
-        Rule::C8 => put_no_start(&mut judging.teller),
+        Rule::C1 if !is_behind_period(&judging.teller) => put_undeclared(
+            &mut judging.teller,
+            &judging.declarations,
+        ),
+        Rule::C8 if is_start(judging.teller.name()) => {
+            judging.teller.put_about(
+                "# is no routine of this component: processes are started by init",
+            );
+            true
+        }
         Rule::C9 | Rule::C10 | Rule::C22 => put_own_name(&mut judging.teller),
-        Rule::C5 | Rule::C6 | Rule::C7 | Rule::C17 | Rule::C21 => {
+        Rule::C1 | Rule::C5 | Rule::C6 | Rule::C7 | Rule::C8 | Rule::C17 | Rule::C21 => {
             judging.tell();
             judging.teller.text.len() > 0
         }
@@ -208,19 +225,27 @@ fn put_particular(judging: &mut Judging, rule: Rule) -> bool {
     }
 }
 
+fn is_behind_period(teller: &Teller) -> bool {
+    teller.back(1) == Some(Mark::Period)
+}
+
 /// Says of a name that is not visible where it is declared, what is meant by it elsewhere, or which name may have been meant.
 fn put_undeclared(teller: &mut Teller, declarations: &Declarations) -> bool {
-    teller.put_tokens(single(teller.at));
-    if mark_before(teller.tokens, teller.at) == Some(Mark::Period) {
-        teller.put(" is no field of this record");
-        return true;
-    }
-    teller.put(" is not declared here");
+    teller.put_about("# is not declared here");
+    let owner = declarations.owner_of_entry(teller.name());
     let known = what_is_known(declarations, teller.name());
-    if !known.is_empty() {
+    if !owner.is_empty() {
+        teller.put(": it is an entry of ");
+        teller.put(owner);
+        teller.put(", and called with a component and a period before it");
+    } else if !known.is_empty() {
         teller.put(known);
-    } else if let Some(other) = similar_declaration(teller, declarations) {
+    } else if let Some(other) = similar_declaration(teller, declarations, Known::Visible) {
         put_declared(teller, other);
+    } else if let Some(other) = similar_standard_name(teller.name()) {
+        teller.put(": ");
+        teller.put(other);
+        teller.put(" may be meant");
     }
     true
 }
@@ -238,26 +263,12 @@ const ELSEWHERE: &str =
     ": it is declared elsewhere, and a block sees only what is declared before it and around it; a system type sees no variable and no routine of the program";
 
 /// Says in which line the name at a token is declared.
-fn put_declared(teller: &mut Teller, at: usize) {
+pub fn put_declared(teller: &mut Teller, at: usize) {
     teller.put(": ");
     teller.put_tokens(single(at));
     teller.put(" is declared in line ");
-    let from = match find(teller.source, Sought::Token(at)) {
-        Some(span) => span.from,
-        None => 0,
-    };
-    let line = line_number(teller.source, from);
+    let line = teller.tokens.line(at.min(teller.tokens.count()));
     teller.text.put_display(line);
-}
-
-/// Says how processes are started, where a component is told to start.
-fn put_no_start(teller: &mut Teller) -> bool {
-    if !is_start(teller.name()) {
-        return false;
-    }
-    teller.put_tokens(single(teller.at));
-    teller.put(" is no routine of this component: processes are started by init");
-    true
 }
 
 /// Says that an annotation in a function can't speak of its result, where it names the function.
@@ -265,8 +276,7 @@ fn put_own_name(teller: &mut Teller) -> bool {
     if !teller.is_in_annotation() || !is_own_name(teller) {
         return false;
     }
-    teller.put_tokens(single(teller.at));
-    teller.put(" is the function itself: an annotation can't speak of its result");
+    teller.put_about("# is the function itself: an annotation can't speak of its result");
     true
 }
 

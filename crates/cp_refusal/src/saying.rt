@@ -1,13 +1,17 @@
 //! What is there and what is wanted, where a construct breaks a rule.
 
-use crate::extent::single;
+use crate::extent::{between, closing, is_relation, single};
 use crate::judging::Judging;
 use crate::operands::{
-    Designated, Operands, Value, about_sets, are_alike, phrase, why_not_compared, why_not_selected,
+    Designated, Operands, Value, about_sets, about_unnamed, about_waiting, are_alike, phrase,
+    why_not_compared, why_not_selected,
 };
+use crate::rules::{mark_before, put_declared};
+use crate::spelling::{Known, similar_declaration};
 use cp_check::operand::Named;
 use cp_check::statement::Target;
-use cp_scope::ValueType;
+use cp_scope::{Base, ValueType, values_of};
+use cp_text::Mark;
 use cp_tree::{Relation, Selector};
 
 /// What is wanted where each ordinal value will do.
@@ -96,6 +100,89 @@ impl<'a> Judging<'a> {
         });
         self.teller.put(", but is called with ");
         self.teller.text.put_display(given);
+        self.teller.put(about_waiting(called.named));
+    }
+
+    /// Says what the parameters of a routine or a system type are, where it has some.
+    pub fn put_parameters(&mut self, heading: usize) {
+        let last = self.parameters(heading).len().saturating_sub(1);
+        if let Some(first) = self.declarations.parameter(heading, 0)
+            && let Some(last) = self.declarations.parameter(heading, last)
+            && let Some(type_name) = last.what.type_name()
+        {
+            let tokens = self.teller.tokens;
+            let from = if mark_before(tokens, first.at) == Some(Mark::Var) {
+                first.at.saturating_sub(1)
+            } else {
+                first.at
+            };
+            self.teller.put(": its heading has ");
+            self.teller
+                .put_tokens(between(from, type_name.at.saturating_add(1)));
+        }
+    }
+
+    /// Says which of the types with one phrase a value has, by its name or its bounds.
+    fn put_own_type(&mut self, value: Value) {
+        let found = value.value_type();
+        let name = self.type_name(found);
+        if !name.is_empty() {
+            self.put_of_type(value, name);
+            return;
+        }
+        match found {
+            ValueType::Ordinal(range) if range.base.is_same(Base::Integer) => {
+                self.put_of_type(value, "");
+                self.teller
+                    .text
+                    .put_display(format_args!("{}..{}", range.low, range.high));
+            }
+            ValueType::Array(at) => {
+                self.put_of_type(value, "");
+                let to = closing(
+                    self.teller.tokens,
+                    at,
+                    &[Mark::OpenBracket],
+                    &[Mark::CloseBracket],
+                );
+                self.teller.put_tokens(between(at, to.saturating_add(1)));
+                self.teller
+                    .put(", and each array that is written is a type of its own");
+            }
+            _ => self.teller.put(about_unnamed(found)),
+        }
+    }
+
+    /// Says the name of a value's type.
+    fn put_of_type(&mut self, value: Value, name: &str) {
+        self.teller.put(": ");
+        self.teller.put_tokens(value.extent());
+        self.teller.put(" is of type ");
+        self.teller.put(name);
+    }
+
+    /// The name of a type; empty where it has none.
+    fn type_name(&self, found: ValueType) -> &'a str {
+        match found {
+            ValueType::Array(at) | ValueType::Record(at) | ValueType::Component(_, at) => {
+                self.name_of_written(at)
+            }
+            ValueType::Ordinal(range) if found.is_same(values_of(range.base)) => match range.base {
+                Base::Integer => "integer",
+                Base::Boolean => "boolean",
+                Base::Char => "char",
+                Base::Enumeration(at, _) => self.name_of_written(at),
+            },
+            _ => "",
+        }
+    }
+
+    /// The name of the type that is written at a token; empty where it has none.
+    fn name_of_written(&self, at: usize) -> &'a str {
+        match self.declarations.known_at(at) {
+            Some(one) => one.name,
+            None => "",
+        }
     }
 
     /// Says which argument is of another type than its parameter.
@@ -116,7 +203,8 @@ impl<'a> Judging<'a> {
         self.teller.put_tokens(value.extent());
         self.teller.put(", is ");
         self.teller.put(phrase(value.value_type()));
-        self.teller.put(if are_alike(parameter.value_type, value.value_type()) {
+        let is_alike = are_alike(parameter.value_type, value.value_type());
+        self.teller.put(if is_alike {
             ", but of another type than the parameter "
         } else {
             ", but the parameter is "
@@ -128,6 +216,9 @@ impl<'a> Judging<'a> {
                 self.teller.put(": ");
                 self.teller.put_tokens(single(name.at));
             }
+        }
+        if is_alike {
+            self.put_own_type(value);
         }
     }
 
@@ -162,10 +253,13 @@ impl<'a> Judging<'a> {
     pub fn put_no_call(&mut self, whole: Designated) {
         self.put_role(
             whole,
-            if self.is_function(whole.named) {
-                ": a statement calls a procedure, and a function's value has to be used"
-            } else {
-                ", and can't be called"
+            match whole.named {
+                Named::Variable(ValueType::Component(..)) =>
+                    ", and can't be called: init starts it",
+                named if self.is_function(named) => {
+                    ": a statement calls a procedure, and a function's value has to be used"
+                }
+                _ => ", and can't be called",
             },
         );
     }
@@ -175,6 +269,7 @@ impl<'a> Judging<'a> {
         self.put_after(
             whole,
             match whole.named {
+                Named::Kind => " is a type, and init starts a variable of it",
                 Named::Variable(array @ ValueType::Array(_)) if self.is_fixed(array) => {
                     " is an array, and init takes its elements one by one"
                 }
@@ -202,7 +297,33 @@ impl<'a> Judging<'a> {
                 self.teller.put(why_not_selected(value_type, selector));
             }
             (None, Selector::Index(_), _) => self.put_role(before, ", and has no elements"),
-            (None, Selector::Field(_), _) => self.put_role(before, ", and has no fields"),
+            (None, Selector::Field(_), _) => self.put_role(
+                before,
+                match before.named {
+                    Named::Kind => ": what stands before a period is a variable of such a type",
+                    _ => ", and has no fields",
+                },
+            ),
+        }
+    }
+
+    /// Says that the token is no field of a record and no routine of a component, and which one may have been meant.
+    pub fn put_no_member(&mut self, before: Designated<'a>) {
+        let known = match before.value_type() {
+            Some(ValueType::Record(at)) => {
+                self.teller.put_about("# is no field of this record");
+                Known::FieldOf(at)
+            }
+            Some(ValueType::Component(_, at)) => {
+                self.teller.put_about(
+                    "# is no routine of this component, whose variables can't be reached from outside",
+                );
+                Known::EntryOf(at)
+            }
+            _ => return,
+        };
+        if let Some(other) = similar_declaration(&self.teller, &self.declarations, known) {
+            put_declared(&mut self.teller, other);
         }
     }
 
@@ -255,11 +376,28 @@ impl<'a> Judging<'a> {
         match (operands.admits(left), operands.admits(right)) {
             (true, false) => self.put_is(right),
             (false, true) => self.put_is(left),
-            _ => {
-                self.put_both(left, " and ", right);
-                self.teller.put(about_sets(operands, left.value_type(), right.value_type()));
-            }
+            _ => self.put_both(left, " and ", right),
         }
+        self.teller.put(about_sets(operands, left.value_type(), right.value_type()));
+        if operands == Operands::BooleansOrSets && self.is_compared(left, right) {
+            self.teller.put(
+                ": comparisons that and or or joins stand in parentheses, as (a = b) and (c = d)",
+            );
+        }
+    }
+
+    /// Says that `not` takes a boolean, and how a comparison stands behind it.
+    pub fn put_negated(&mut self, inner: Value) {
+        self.put_wanted("not", "a boolean", inner);
+        if is_relation(self.teller.mark_at(inner.to)) {
+            self.teller.put(": a comparison behind not stands in parentheses, as in not (a = b)");
+        }
+    }
+
+    /// Whether a sign that compares stands before or behind two operands.
+    fn is_compared(&self, left: Value, right: Value) -> bool {
+        is_relation(mark_before(self.teller.tokens, left.operand.at))
+            || is_relation(self.teller.mark_at(right.to))
     }
 
     /// Says the operator before an operand.
@@ -283,6 +421,9 @@ impl<'a> Judging<'a> {
         self.put_operator(right);
         self.teller.put(why_not_compared(relation, left.value_type(), right.value_type()));
         self.put_both(left, " and ", right);
+        if left.value_type().is_ordinal() && are_alike(left.value_type(), right.value_type()) {
+            self.put_own_type(right);
+        }
     }
 
     // -- statements
@@ -294,6 +435,7 @@ impl<'a> Judging<'a> {
         } else if are_alike(wanted, right.value_type()) {
             self.put_both(left.with_type(wanted), " and ", right);
             self.teller.put(", but of another type");
+            self.put_own_type(right);
         } else {
             self.put_after(left, "");
             self.put_taken(phrase(wanted));

@@ -1,9 +1,13 @@
-//! Names that are written nearly alike.
+//! Words that are written nearly alike.
 
 use crate::declared::Declarations;
+use crate::extent::definition_end;
+use crate::foreign::instead_of;
 use crate::teller::Teller;
+use cp_text::Name;
+use std::alloc::AllocError;
 
-// What is left of two names where they first differ.
+// What is left of two words where they first differ.
 fn after_prefix<'a>(one: &'a [u8], other: &'a [u8]) -> (&'a [u8], &'a [u8]) {
     let count = one.iter().zip(other).take_while(|(a, b)| *a == *b).count();
     (
@@ -16,10 +20,14 @@ fn after_first(text: &[u8]) -> &[u8] {
     text.get(1..).unwrap_or(&[])
 }
 
-// Whether one letter put in, left out or taken for another one makes them equal.
+// Whether one letter put in, left out or taken for another one makes them equal, or two neighbours that change places.
 fn is_one_apart(one: &[u8], other: &[u8]) -> bool {
     let (a, b) = after_prefix(one, other);
-    after_first(a) == after_first(b) || after_first(a) == b || a == after_first(b)
+    let is_turned = match (a, b) {
+        ([p, q, a @ ..], [r, s, b @ ..]) => p == s && q == r && a == b,
+        _ => false,
+    };
+    is_turned || after_first(a) == after_first(b) || after_first(a) == b || a == after_first(b)
 }
 
 // The same of two letters.
@@ -41,23 +49,132 @@ fn is_alike(one: &str, other: &str, letters: usize) -> bool {
     let shorter = one.len().min(other.len());
     match letters {
         1 => shorter >= 3 && is_one_apart(one, other),
-        _ => shorter >= 4 && is_two_apart(one, other),
+        _ => shorter >= 5 && is_two_apart(one, other),
     }
 }
 
-/// The place where a visible name is declared that differs by one or two letters from the name at the token.
-pub fn similar_declaration(teller: &Teller, declarations: &Declarations) -> Option<usize> {
-    let name = teller.name();
+/// What the names are that one may have been meant for.
+#[derive(Clone, Copy)]
+pub enum Known {
+    /// What is visible at the token.
+    Visible,
+    /// The fields of the record that is written at this token.
+    FieldOf(usize),
+    /// The entries of the system type that is written at this token.
+    EntryOf(usize),
+}
+
+impl Known {
+    // The token at which a name is declared that is one of these.
+    fn declared(
+        self,
+        declarations: &Declarations,
+        name: &Name,
+        place: usize,
+        at: usize,
+    ) -> Option<usize> {
+        match self {
+            Known::Visible => Some(declarations.find(name.as_str(), at)?.at),
+            Known::FieldOf(record) => {
+                declarations.scopes.shapes().field(record, name)?;
+                let is_written = record < place
+                    && place < definition_end(declarations.tokens, record);
+                if is_written { Some(place) } else { None }
+            }
+            Known::EntryOf(system) => declarations.entry(system, name.as_str()),
+        }
+    }
+}
+
+/// The place where a known name is declared that differs by one or two letters from the name at the token.
+pub fn similar_declaration(
+    teller: &Teller,
+    declarations: &Declarations,
+    known: Known,
+) -> Option<usize> {
     for letters in [1, 2] {
         for place in (0..teller.at).rev() {
-            let other = teller.name_at(place);
-            if other.is_empty() || other == name || !is_alike(name, other, letters) {
-                continue;
-            }
-            if let Some(found) = declarations.find(other, teller.at) {
-                return Some(found.at);
+            if let Some(other) = teller.whole_name_at(place)
+                && other.as_str() != teller.name()
+                && is_alike(teller.name(), other.as_str(), letters)
+                && let Some(found) = known.declared(declarations, other, place, teller.at)
+            {
+                return Some(found);
             }
         }
     }
     None
+}
+
+/// The names that the language itself declares.
+const STANDARD: [&str; 15] = [
+    "integer", "boolean", "char", "queue", "true", "false", "display", "delay", "continue",
+    "empty", "abs", "succ", "pred", "ord", "chr",
+];
+
+/// The reserved words that have three letters or more.
+const RESERVED: [&str; 28] = [
+    "and",
+    "array",
+    "begin",
+    "case",
+    "class",
+    "const",
+    "cycle",
+    "div",
+    "downto",
+    "else",
+    "end",
+    "entry",
+    "for",
+    "function",
+    "init",
+    "mod",
+    "monitor",
+    "not",
+    "procedure",
+    "process",
+    "record",
+    "repeat",
+    "set",
+    "then",
+    "type",
+    "until",
+    "var",
+    "while",
+];
+
+// The word of these that differs from a name by one or two letters.
+fn similar_word(words: &[&'static str], name: &str) -> Option<&'static str> {
+    for letters in [1, 2] {
+        for word in words {
+            if is_alike(name, word, letters) {
+                return Some(word);
+            }
+        }
+    }
+    None
+}
+
+/// The name of the language itself that differs by one or two letters from this one.
+pub fn similar_standard_name(name: &str) -> Option<&'static str> {
+    similar_word(&STANDARD, name)
+}
+
+/// How many tokens more have to be read where a reserved word stands for a name.
+const READ_ON: usize = 3;
+
+/// The last name for which a reserved word may have been meant: it differs by few letters, and a program can go on with it beyond what is refused.
+pub fn misspelt_word(teller: &Teller) -> Result<Option<(usize, &'static str)>, AllocError> {
+    let last = teller.at.saturating_add(1).min(teller.tokens.count());
+    for place in (0..last).rev() {
+        let name = teller.name_at(place);
+        if let Some(word) = similar_word(&RESERVED, name)
+            && instead_of(name).is_empty()
+            && teller.reads_with(place, word)? >= teller.at.saturating_add(READ_ON)
+        {
+            return Ok(Some((place, word)));
+        }
+    }
+    Ok(None)
 }

@@ -217,7 +217,8 @@ impl<'a> Judging<'a> {
         match target.named {
             Named::Variable(ValueType::Component(_, system)) => {
                 if self.is_broken(target.extent.from, self.rule) {
-                    return self.explain_call(target, system, &node.arguments);
+                    let _ = self.explain_call(target, system, &node.arguments);
+                    return None;
                 }
                 Some(())
             }

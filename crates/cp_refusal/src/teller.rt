@@ -1,12 +1,12 @@
 //! Who tells of a source that is refused at a token.
 
-use crate::extent::Extent;
+use crate::extent::{Extent, single};
 use crate::page::push_tokens;
-use crate::place::{ByteRange, Sought, find};
+use crate::place::{Sought, find};
 use crate::rules::{mark_at, name_at};
 use cp_drops::drop_tree;
 use cp_prose::Prose;
-use cp_text::{Mark, ScanCause, Tokens, scan};
+use cp_text::{Kind, Mark, Name, ScanCause, Tokens, scan};
 use cp_tree::{ParseFault, parse};
 use std::alloc::{AllocError, Global};
 
@@ -57,14 +57,9 @@ impl<'a> Teller<'a> {
         self.name_at(self.at)
     }
 
-    /// Where the token stands; none at the end of the source.
-    fn place(&self) -> Option<ByteRange> {
-        find(self.source, Sought::Token(self.at))
-    }
-
     /// The token as it is written.
     pub fn spelling(&self) -> &'a [u8] {
-        match self.place() {
+        match find(self.source, Sought::Token(self.at)) {
             Some(place) => {
                 let rest = &self.source[place.from.min(self.source.len())..];
                 &rest[..place.len.min(rest.len())]
@@ -83,6 +78,35 @@ impl<'a> Teller<'a> {
         name_at(self.tokens, at)
     }
 
+    /// The name at this number, where there is one.
+    pub fn whole_name_at(&self, at: usize) -> Option<&'a Name> {
+        match self.tokens.get(at) {
+            Some(Kind::Name(name)) => Some(name),
+            _ => None,
+        }
+    }
+
+    /// The name before the token that is refused; an empty text where there is none.
+    pub fn name_before(&self) -> &'a str {
+        match self.at.checked_sub(1) {
+            Some(before) => self.name_at(before),
+            None => "",
+        }
+    }
+
+    /// The reserved word or sign so many tokens before the one that is refused.
+    pub fn back(&self, number: usize) -> Option<Mark> {
+        match self.at.checked_sub(number) {
+            Some(place) => self.mark_at(place),
+            None => None,
+        }
+    }
+
+    /// The reserved word or sign so many tokens behind the one that is refused.
+    pub fn ahead(&self, number: usize) -> Option<Mark> {
+        self.mark_at(self.at.saturating_add(number))
+    }
+
     /// Whether the token stands in an annotation, behind its opening.
     pub fn is_in_annotation(&self) -> bool {
         opening_before(self.tokens, self.at).is_some()
@@ -91,6 +115,23 @@ impl<'a> Teller<'a> {
     /// Appends words.
     pub fn put(&mut self, words: &str) {
         self.text.put(words);
+    }
+
+    /// Appends words, in which `%` stands for the token before the one that is refused, `#` for this one, `~` for the next and `^` for the one behind that.
+    pub fn put_about(&mut self, words: &str) {
+        for byte in words.as_bytes() {
+            let ahead: usize = match byte {
+                b'%' => 0,
+                b'#' => 1,
+                b'~' => 2,
+                b'^' => 3,
+                _ => {
+                    self.text.put_char(char::from(*byte));
+                    continue;
+                }
+            };
+            self.put_tokens(single(self.at.saturating_add(ahead).saturating_sub(1)));
+        }
     }
 
     /// Appends some tokens as they are written.
@@ -121,33 +162,54 @@ impl<'a> Teller<'a> {
 
     /// Whether the parser refuses none of the tokens up to this one in the place of the one that is refused: the source is read up to there, and this word.
     fn may_stand(&self, word: &'static str) -> Result<bool, AllocError> {
-        let before = match self.place() {
-            Some(place) => place.from.min(self.source.len()),
-            None => self.source.len(),
-        };
         let mut draft = Vec::new(self.alloc);
-        draft.extend_from_slice(&self.source[..before])?;
+        draft.extend_from_slice(self.around(self.at).0)?;
         draft.extend_from_slice(b" ")?;
         draft.extend_from_slice(word.as_bytes())?;
         if self.is_in_annotation() && word != CLOSING {
             draft.extend_from_slice(CLOSING.as_bytes())?;
         }
-        let tokens = match scan(self.alloc, &draft) {
-            Ok(tokens) => tokens,
-            Err(fault) if fault.cause == ScanCause::Memory => return Err(AllocError),
-            Err(_) => return Ok(false),
-        };
-        match parse(self.alloc, &tokens) {
-            Ok(tree) => {
-                drop_tree(tree);
-                Ok(true)
+        Ok(tokens_read(self.alloc, &draft)? > self.at)
+    }
+
+    /// How many tokens the parser reads where this word stands in the place of one.
+    pub fn reads_with(&self, at: usize, word: &'static str) -> Result<usize, AllocError> {
+        let (before, behind) = self.around(at);
+        let mut draft = Vec::new(self.alloc);
+        draft.extend_from_slice(before)?;
+        draft.extend_from_slice(word.as_bytes())?;
+        draft.extend_from_slice(behind)?;
+        tokens_read(self.alloc, &draft)
+    }
+
+    /// What stands before a token, and behind it.
+    fn around(&self, at: usize) -> (&'a [u8], &'a [u8]) {
+        match find(self.source, Sought::Token(at)) {
+            Some(place) => {
+                let from = place.from.min(self.source.len());
+                let rest = &self.source[from..];
+                (&self.source[..from], &rest[place.len.min(rest.len())..])
             }
-            Err(ParseFault::Memory) => Err(AllocError),
-            Err(
-                ParseFault::Unexpected(place)
-                | ParseFault::OutsideProfile(place)
-                | ParseFault::TooDeep(place),
-            ) => Ok(place > self.at),
+            None => (self.source, &[]),
         }
+    }
+}
+
+/// How many tokens of a source the parser reads before one that it refuses; of a program more than there are.
+fn tokens_read(alloc: Global, source: &[u8]) -> Result<usize, AllocError> {
+    let tokens = match scan(alloc, source) {
+        Ok(tokens) => tokens,
+        Err(fault) if fault.cause == ScanCause::Memory => return Err(AllocError),
+        Err(_) => return Ok(0),
+    };
+    match parse(alloc, &tokens) {
+        Ok(tree) => {
+            drop_tree(tree);
+            Ok(usize::MAX)
+        }
+        Err(ParseFault::Memory) => Err(AllocError),
+        Err(
+            ParseFault::Unexpected(at) | ParseFault::OutsideProfile(at) | ParseFault::TooDeep(at),
+        ) => Ok(at),
     }
 }

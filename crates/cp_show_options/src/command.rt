@@ -44,6 +44,23 @@ const OUTCOME: OptionWords = OptionWords::Valued(
     "In place of --schedule: the first schedule of the outcome that `outcomes` tells with this number",
 );
 
+const END: OptionWords = OptionWords::Valued(
+    "end",
+    "N",
+    "In place of --schedule: that of the end that `ends` tells with this number",
+);
+
+const WAIT: OptionWords = OptionWords::Valued(
+    "wait",
+    "N",
+    "In place of --schedule: that of the process that `ends --waits` tells with this number, and its round",
+);
+
+const END_AT_ONCE: OptionWords = OptionWords::Switch(
+    "at-once",
+    "With --end: the numbers are those of `ends --at-once`",
+);
+
 const SIMPLEST: OptionWords = OptionWords::Switch(
     "simplest",
     "With --outcome: its simplest schedule, in which processes are switched least",
@@ -58,18 +75,19 @@ const ONE_SCHEDULE: &[OptionWords] = &[
     ),
     OUTCOME,
     SIMPLEST,
+    END,
+    END_AT_ONCE,
+    WAIT,
     OptionWords::Valued(
         "again",
         "WORD",
-        "A round after it that can be gone again and again; with it --ends is as good as given",
+        "With --schedule: a round after it that can be gone again and again",
     ),
-    ENDS,
+    OptionWords::Switch(
+        "ends",
+        "Beside --end, --wait or --again, which are of schedules of any length: changes nothing",
+    ),
 ];
-
-const ENDS: OptionWords = OptionWords::Switch(
-    "ends",
-    "Take schedules as cpx does with --ends: of up to 100 choices, or for a mark of any length",
-);
 
 const CHOICES: OptionWords = OptionWords::Valued(
     "choices",
@@ -105,12 +123,20 @@ const LIMITS: &[OptionWords] = &[
         "merge",
         "Changes nothing: schedules that come to one state are counted together in any case",
     ),
-    OptionWords::Valued(
-        "states",
-        "N",
-        "States that a layer may have, 1 to 10000000 [default: 200000]",
-    ),
 ];
+
+const LAYER_STATES: OptionWords = OptionWords::Valued(
+    "states",
+    "N",
+    "States that a layer may have, 1 to 10000000 [default: 200000]",
+);
+
+// The same of one schedule, which may be one of any length.
+const LAYER_OR_ALL_STATES: OptionWords = OptionWords::Valued(
+    "states",
+    "N",
+    "States that a layer may have, or that there may be in all with --end and --wait [default: 200000]",
+);
 
 // What of a picture is drawn.
 const DRAWING: &[OptionWords] = &[
@@ -130,6 +156,9 @@ const PLAYING: &[OptionWords] = &[
     ),
     OUTCOME,
     SIMPLEST,
+    END,
+    END_AT_ONCE,
+    WAIT,
     OptionWords::Switch(
         "ends",
         "Play schedules of any length: which ends can come, and rounds in which a process waits for ever",
@@ -137,7 +166,7 @@ const PLAYING: &[OptionWords] = &[
     OptionWords::Valued(
         "again",
         "WORD",
-        "With --schedule: a round after it that can be gone again and again; with it --ends is as good as given",
+        "With --schedule: a round after it that can be gone again and again",
     ),
     CHOICES,
     STEPS,
@@ -179,7 +208,7 @@ const WHERE: OptionWords = OptionWords::Valued(
 
 const MARKING: &[OptionWords] = &[
     OptionWords::Expectations,
-    ENDS,
+    OptionWords::Switch("ends", "Take schedules of any length"),
     OptionWords::Switch(
         "at-once",
         "With --ends: make kernel calls but enter at once, so fewer states; not for waiting",
@@ -195,15 +224,15 @@ static PARTS: [PartWords; 7] = [
     PartWords {
         name: "trace",
         about: "Tells one schedule in names: a line for each kernel call",
-        usage: "cpx_show trace --schedule WORD|--outcome N [OPTIONS] < PROGRAM",
-        options: &[ONE_SCHEDULE, LIMITS, &[JSON]],
+        usage: "cpx_show trace --schedule WORD|--outcome N|--end N|--wait N [OPTIONS] < PROGRAM",
+        options: &[ONE_SCHEDULE, LIMITS, &[LAYER_OR_ALL_STATES, JSON]],
         notes: "",
     },
     PartWords {
         name: "lanes",
         about: "Draws one schedule as a picture: SVG with a lane for each process",
-        usage: "cpx_show lanes --schedule WORD|--outcome N [OPTIONS] < PROGRAM > PICTURE.svg",
-        options: &[DRAWING, ONE_SCHEDULE, LIMITS],
+        usage: "cpx_show lanes --schedule WORD|--outcome N|--end N|--wait N [OPTIONS] < PROGRAM > PICTURE.svg",
+        options: &[DRAWING, ONE_SCHEDULE, LIMITS, &[LAYER_OR_ALL_STATES]],
         notes: "",
     },
     PartWords {
@@ -217,7 +246,7 @@ static PARTS: [PartWords; 7] = [
         name: "outcomes",
         about: "Tells the outcomes of all schedules in words: shares, first schedules, and whether these are all",
         usage: "cpx_show outcomes [OPTIONS] < PROGRAM",
-        options: &[LIMITS, &[JSON, COVER]],
+        options: &[LIMITS, &[LAYER_STATES, JSON, COVER]],
         notes: "",
     },
     PartWords {
@@ -231,14 +260,14 @@ static PARTS: [PartWords; 7] = [
         name: "refusal",
         about: "Says why a source is refused, in a sentence; or that it is accepted, with hints",
         usage: "cpx_show refusal [OPTIONS] < PROGRAM",
-        options: &[&[JSON, WHERE], LIMITS],
-        notes: "Of the options of a run, --signals alone changes something here: the hints.",
+        options: &[&[JSON, WHERE, SIGNALS]],
+        notes: "With --signals the hints are those of that rule.",
     },
     PartWords {
         name: "mark",
         about: "Says whether what is expected of all schedules holds: never OUTCOME, some OUTCOME, only OUTCOME..",
         usage: "cpx_show mark [OPTIONS] [EXPECTATION..] < PROGRAM",
-        options: &[MARKING, LIMITS],
+        options: &[MARKING, LIMITS, &[LAYER_STATES]],
         notes: EXPECTATIONS,
     },
 ];
@@ -285,7 +314,7 @@ fn option<'a>(alloc: Global, words: OptionWords) -> Arg<'a> {
         OptionWords::PageStates => Arg::new(alloc, "page-states")
             .long("states")
             .value_name("N")
-            .help("States that the page goes on from, 1 to 100000 [default: 2000]"),
+            .help("States that the page goes on from, 1 to 100000 [default: 10000]"),
         OptionWords::Expectations => Arg::new(alloc, "expectation")
             .value_name("EXPECTATION")
             .num_args(0..)

@@ -3,9 +3,10 @@
 ghost use Rattle.std.specs.Prelude.{◌≡◌, Err, map, true};
 ghost use Rattle.cp_tool.specs.Options.{asks_version};
 
+use crate::choosing::{ScheduleChoice, choice_of};
 use crate::command::command;
-use crate::faults::{USUAL_STATES, choice_fault, extent_of, outcome_of, page_states};
-use crate::words::{numbers_of, shared_words, texts_of, words_given};
+use crate::faults::{USUAL_STATES, choice_fault, extent_of, page_states};
+use crate::words::{shared_words, texts_of, words_given};
 use clap::ArgMatches;
 use clap::error::ErrorKind;
 use cp_lanes::{PictureView, SheetExtent};
@@ -70,12 +71,8 @@ impl ShowPart {
 pub struct Asked {
     pub part: ShowPart,
     pub options: Options,
-    /// The outcome whose first schedule is shown, where none is given.
-    pub outcome: Option<usize>,
-    /// Whether it is the simplest in place of the first.
-    pub simplest: bool,
-    /// How many numbers at the end of the schedule are a round that can be gone again and again.
-    pub round: usize,
+    /// Which schedule is shown, where one is.
+    pub schedule: ScheduleChoice,
 }
 
 /// What the words ask for, of which the first is the program's name. The version and the options of `cpx` are read as `cpx` reads them.
@@ -111,9 +108,7 @@ fn read_matches(alloc: Global, matches: &ArgMatches<'_>) -> Result<Asked, Option
     Ok(Asked {
         part: part_of(alloc, name, inner)?,
         options,
-        outcome: outcome_of(inner),
-        simplest: inner.get_flag("simplest"),
-        round: numbers_of(inner.get_str("again")),
+        schedule: choice_of(inner),
     })
 }
 

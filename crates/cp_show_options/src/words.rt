@@ -1,5 +1,6 @@
 //! The words that are given, as one text, and as `cpx` reads them.
 
+use crate::choosing::is_endless;
 use clap::ArgMatches;
 use cp_prose::Prose;
 use std::alloc::{AllocError, Global};
@@ -61,14 +62,22 @@ pub fn shared_words(
     if let Some(schedule) = matches.get_str("schedule") {
         words.push(schedule_word(alloc, schedule, matches.get_str("again"))?)?;
     }
-    let has_ends = with_ends || matches.get_flag("ends") || matches.get_str("again").is_some();
+    let has_ends = with_ends || is_endless(matches) || has_endless_switch(matches);
     words.push(String::from_str(alloc, if has_ends { "--ends" } else { "--merge" })?)?;
     for name in &SWITCHES {
         if matches.get_flag(name) {
             words.push(format!(in alloc; "--{name}")?)?;
         }
     }
+    if matches.get_str("wait").is_some() {
+        words.push(String::from_str(alloc, "--waits")?)?;
+    }
     Ok(words)
+}
+
+// Whether schedules are those of any length by what stands beside the schedule.
+fn has_endless_switch(matches: &ArgMatches<'_>) -> bool {
+    matches.get_flag("ends") || matches.get_str("again").is_some()
 }
 
 // The option of a schedule, with a round after it if there is one.

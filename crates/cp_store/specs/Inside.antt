@@ -177,7 +177,7 @@ ArgumentsAreRead =
     Covers m caller f → IsTrue (arguments_inside caller callee extent arguments) → FindsAll bindings caller f arguments →
     CanGiveAll m bindings f arguments
 
--- what the arguments of a call give fits into the frame that is open_frame after all others
+-- what the arguments of a call give fits into the frame that is opened after all others
 abbrev pub CallsFit : Type 0
 CallsFit =
     (m : Memory) (bindings : List ℕ) (caller callee : RoutineView) (f g : Frame) (arguments : List Argument) (bounds : List Bound) →

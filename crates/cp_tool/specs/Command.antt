@@ -11,11 +11,22 @@ valued name = record (new_rule name) { long = Some name; value_names = 1 }
 abbrev pub flag : Text → Rule
 flag name = record (new_rule name) { long = Some name; action = Some SetTrue }
 
+-- ---- the options, each after those before it
+
+-- how long schedules are, and who explores them
+abbrev pub with_limits : App → App
+with_limits app = with_rule (with_rule (with_rule (with_rule app (valued (codes "choices"))) (valued (codes "steps"))) (valued (codes "workers"))) (valued (codes "cut"))
+
+-- what is told of all schedules
+abbrev pub with_reports : App → App
+with_reports app = with_rule (with_rule (with_rule (with_rule (with_rule app (flag (codes "rows"))) (flag (codes "merge"))) (flag (codes "ends"))) (flag (codes "waits"))) (flag (codes "at-once"))
+
+-- how many states there may be, which schedule is traced alone, and who goes on in a monitor
+abbrev pub with_rules : App → App
+with_rules app = with_rule (with_rule (with_rule (with_rule app (valued (codes "states"))) (valued (codes "schedule"))) (valued (codes "gates"))) (valued (codes "signals"))
+
 abbrev pub cpx : App
-cpx =
-    with_rule (with_rule (with_rule (with_rule (with_rule (with_rule (with_rule (with_rule (with_rule (with_rule (with_rule (with_rule (with_rule (new_app (codes "cpx"))
-    (valued (codes "choices"))) (valued (codes "steps"))) (valued (codes "workers"))) (valued (codes "cut")))
-    (flag (codes "rows"))) (flag (codes "merge"))) (flag (codes "ends"))) (flag (codes "waits"))) (flag (codes "at-once"))) (valued (codes "states"))) (valued (codes "schedule"))) (valued (codes "gates"))) (valued (codes "signals"))
+cpx = with_rules (with_reports (with_limits (new_app (codes "cpx"))))
 
 -- the matches that the command has on these words
 unfoldable pub rows_for : List Text → List Row

@@ -1,6 +1,7 @@
 //! The command of `cpx`, as `clap` knows it.
 ghost use Rattle.std.specs.Prelude.{◌≡◌, IfOk, codes, false};
 ghost use Rattle.clap.specs.Words.{app_of, new_app, rule_of};
+ghost use Rattle.cp_tool.specs.Command as spec;
 ghost use Rattle.cp_tool.specs.Command.{cpx, valued, flag};
 
 use clap::{Arg, ArgAction, Command};
@@ -18,7 +19,16 @@ const NOTES: &str =
 pub fn command<'a>(alloc: Global) -> Result<Command<'a>, AllocError>
     ensures { IfOk result (λ c. app_of c ≡ cpx) }
 {
-    let command = describe_command(alloc).arg(option(
+    let command = with_limits(alloc, describe_command(alloc))?;
+    let command = with_reports(alloc, command)?;
+    with_rules(alloc, command)
+}
+
+// How long schedules are, and who explores them.
+fn with_limits<'a>(alloc: Global, command: Command<'a>) -> Result<Command<'a>, AllocError>
+    ensures { IfOk result (λ c. app_of c ≡ spec.with_limits (app_of command.entry)) }
+{
+    let command = command.arg(option(
         alloc,
         "choices",
         "K",
@@ -42,6 +52,13 @@ pub fn command<'a>(alloc: Global) -> Result<Command<'a>, AllocError>
         "D",
         "Choices that are dealt out to the threads, 0 to 20 [default: by their number]",
     ))?;
+    Ok(command)
+}
+
+// What is told of all schedules.
+fn with_reports<'a>(alloc: Global, command: Command<'a>) -> Result<Command<'a>, AllocError>
+    ensures { IfOk result (λ c. app_of c ≡ spec.with_reports (app_of command.entry)) }
+{
     let command = command.arg(switch(
         alloc,
         "rows",
@@ -67,6 +84,13 @@ pub fn command<'a>(alloc: Global) -> Result<Command<'a>, AllocError>
         "at-once",
         "With --ends, kernel calls but enter at once: fewer states",
     ))?;
+    Ok(command)
+}
+
+// How many states there may be, which schedule is traced alone, and who goes on in a monitor.
+fn with_rules<'a>(alloc: Global, command: Command<'a>) -> Result<Command<'a>, AllocError>
+    ensures { IfOk result (λ c. app_of c ≡ spec.with_rules (app_of command.entry)) }
+{
     let command = command.arg(option(
         alloc,
         "states",

@@ -61,8 +61,8 @@ fn read_matches<'a>(alloc: Global, words: &'a [&'a str]) -> Result<Options, Opti
     }
 }
 
-// How many words stand before the first, after the program's name, that asks for help.
-fn before_help(words: &[&str]) -> usize
+/// How many words stand before the first, after the program's name, that asks for help.
+pub fn before_help(words: &[&str]) -> usize
     ensures { result ≤ length words.now }
 {
     for at in 1..words.len() {

@@ -1,6 +1,7 @@
 //! Why words are refused, in a line for people.
 
 use crate::command::command;
+use crate::command_line::before_help;
 use crate::numbers::parse_number;
 use crate::schedule::word_of;
 use clap::ArgMatches;
@@ -30,10 +31,23 @@ pub fn reason_for<'a>(
         Ok(matches) => value_reason(alloc, &matches),
         Err(error) => match error.kind() {
             ErrorKind::OutOfMemory => Err(AllocError),
+            ErrorKind::DisplayHelp => reason_before_help(alloc, &words[..before_help(words)]),
             _ => {
                 let message = format!(in alloc; "{error}")?;
                 word_reason(alloc, message.as_str(), reading)
             }
+        },
+    }
+}
+
+// The same of the words that stand before the first that asks for help.
+fn reason_before_help<'a>(alloc: Global, words: &'a [&'a str]) -> Result<String, AllocError> {
+    let command = command(alloc)?;
+    match command.try_get_matches_from(words) {
+        Ok(matches) => value_reason(alloc, &matches),
+        Err(error) => match error.kind() {
+            ErrorKind::OutOfMemory => Err(AllocError),
+            _ => Ok(String::new(alloc)),
         },
     }
 }

@@ -32,7 +32,15 @@ enum RequestedWork {
 
 fn main(rt: HostRuntime) -> ExitCode {
     let code = match read_words(&rt) {
-        Ok(RequestedWork::Options(options)) => explore_input::<HostRuntime>(&rt, &rt, &options),
+        Ok(RequestedWork::Options(options)) => {
+            let code = explore_input::<HostRuntime>(&rt, &rt, &options);
+            if code == 5 && !options.merge {
+                let _ = eprintln!(rt;
+                    "cpx: a table has at most 50000 rows; try --merge, which makes no table"
+                );
+            }
+            code
+        }
         Ok(RequestedWork::Version) => print_status(print!(rt; "cpx {VERSION}\n")),
         Ok(RequestedWork::Refused(why)) => {
             let _ = eprintln!(rt; "options refused");

@@ -1,7 +1,5 @@
-pub mod Fronts
 pub mod Meaning
 pub mod Naming
-pub mod Reading
 pub mod Refusing
 pub mod Showing
 pub mod Telling

@@ -64,5 +64,14 @@ module _ (t : Tree) (r : Tables) (read : ∥ IsRead t.program ∥₁) (ok : IsAc
       record { so = h; found = subst (λ (n : ℕ). IsFoundIn (λ choices. table (named t (named_discipline o.discipline)) choices o.steps) n h.told.finding) asked.choices by_steps }
 
 -- the schedule that is asked for
-pub traced : (t : Tree) (r : Tables) (l : code_legend.Legend) (a : Asked) (f : ScheduleForm) (source : List (List ℕ)) (verdict : ShowVerdict) (text : List ℕ) → ∥ IsRead t.program ∥₁ → IsAccepted t → AreNamed t r l → IsTracedAs (IsStoryText f a.options r (legend_seen l) source) a r verdict text → IsTracedAs (IsTraceInNames f a.options t r l source) a r verdict text
-traced t r l a f source verdict text read ok is h = (h.0, λ reported once. let told = h.1 reported once in (told.0, told.1, in_names t r read ok is.stands.laid a.options l is f source told.0 text told.2))
+pub traced : (t : Tree) (r : Tables) (l : code_legend.Legend) (a : Asked) (f : ScheduleForm) (source : List (List ℕ)) (verdict : ShowVerdict) (text : List ℕ) → ∥ IsRead t.program ∥₁ → IsAccepted t → AreNamed t r l → IsTracedAs f (IsStoryText f a.options r (legend_seen l) source) a r verdict text → IsTracedAs f (IsTraceInNames f a.options t r l source) a r verdict text
+traced t r l a f source verdict text read ok is h =
+    record {
+      given = h.given;
+      told =
+          λ reported.
+          let it = h.told reported in
+          let s = it.0 in
+          let tells = it.2 in
+          (s, it.1, record { told = tells.told; is = in_names t r read ok is.stands.laid a.options l is f source s.word.items tells.told tells.is; first = tells.first; once = tells.once; marked = tells.marked });
+    }

@@ -37,9 +37,11 @@ use Rattle.cp_show_mark.specs.declared.answer.ShowVerdict.TheVariants.{Reported}
 use Rattle.cp_show_options.specs.declared.parts.Asked.{Asked}
 use Rattle.cp_show_options.specs.declared.parts.ShowPart.{ShowPart}
 use Rattle.cp_show_options.specs.declared.parts.ShowPart.TheVariants as part
-use Rattle.cpx_show.specs.Schedules.{IsStoryText, IsTracedAs, trace_form}
+use Rattle.cpx_show.specs.Schedules.{DrawsAll, IsStoryText, IsTracedAs, trace_form}
+use Rattle.cpx_show.specs.Selecting.{GivesSchedule}
 use Rattle.cpx_show.specs.Summaries.{AreOutcomesOf, IsCovered, form_of}
 use Rattle.cpx_show.specs.declared.schedules.ScheduleForm.{ScheduleForm}
+use Rattle.cpx_show.specs.declared.schedules.ScheduleForm.TheVariants as schedule_form
 
 -- The tables of a tree, and a legend of what its names stand for. So each component has the path that the language gives it.
 pub record AreNamed (t : Tree) (r : Tables) (l : code_legend.Legend) : Type 0 where
@@ -94,8 +96,8 @@ IsGivenMark json o t r l words with_own bytes source verdict text =
 
 -- One schedule in names; all outcomes; the mark of what is expected; or that a program is accepted. Of the other parts no more is said than this.
 abbrev pub IsShown : ShowPart → Asked → Tree → Tables → code_legend.Legend → (bytes : List ℕ) → (source : List (List ℕ)) → ShowVerdict → List ℕ → Type 0
-IsShown (part.Trace json) a t r l bytes source verdict text = IsTracedAs (IsTraceInNames (trace_form json) a.options t r l source) a r verdict text
-IsShown (part.Lanes view) a t r l bytes source verdict text = a.outcome ≡ None → verdict ≡ Reported
+IsShown (part.Trace json) a t r l bytes source verdict text = IsTracedAs (trace_form json) (IsTraceInNames (trace_form json) a.options t r l source) a r verdict text
+IsShown (part.Lanes view) a t r l bytes source verdict text = GivesSchedule a.schedule → DrawsAll (schedule_form.Picture view) → verdict ≡ Reported
 IsShown (part.Page states) a t r l bytes source verdict text = Unit {0}
 IsShown (part.Outcomes json cover) a t r l bytes source verdict text = AreOutcomesShown json cover a.options t r l verdict text
 IsShown (part.Ends json) a t r l bytes source verdict text = Unit {0}

@@ -15,7 +15,7 @@ use Rattle.cp_show_mark.specs.declared.answer.ShowVerdict.TheVariants.{Refused}
 use Rattle.cp_show_options.specs.declared.parts.Asked.{Asked}
 use Rattle.cp_show_options.specs.declared.parts.ShowPart.{ShowPart}
 use Rattle.cp_show_options.specs.declared.parts.ShowPart.TheVariants as part
-use Rattle.cpx_show.specs.Lines.{AreLinesShown}
+use Rattle.cp_outcomes.specs.Lines.{AreLinesShown}
 use Rattle.cpx_show.specs.Refused.{TellsRefused}
 use Rattle.cpx_show.specs.Shown.{AreNamed, IsShown}
 

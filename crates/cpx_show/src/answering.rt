@@ -13,7 +13,6 @@ ghost use Rattle.cp_show_mark.specs.declared.answer.ShowVerdict.{ShowVerdict};
 ghost use Rattle.cp_show_mark.specs.declared.answer.ShowVerdict.TheVariants.{Refused};
 ghost use Rattle.cpx_show.specs.Told.{IsOfSource, IsOfTree, IsRefusedAs, IsSilent, IsWritten, Tells};
 
-use crate::lines::lines_of;
 use crate::parts::show_part;
 use crate::refusals::explanation_text;
 use cp_front::{
@@ -21,6 +20,7 @@ use cp_front::{
     load_with_symbols, read_source, refusal_line, write_text,
 };
 use cp_legend::legend_of;
+use cp_outcomes::lines_of;
 use cp_progress::{ObserveProgress, ObserveWork};
 use cp_show_mark::{ShowAnswer, ShowVerdict};
 use cp_show_options::{Asked, ShowPart};

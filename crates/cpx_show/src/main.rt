@@ -3,10 +3,11 @@
 
 mod answering;
 mod covering;
-mod lines;
+mod missing;
 mod parts;
 mod refusals;
 mod schedules;
+mod selecting;
 mod summaries;
 
 ghost use Rattle.std.specs.Prelude.{◌≡◌};

@@ -51,7 +51,7 @@ pub fn show_part<O: ObserveProgress>(
             one_schedule(alloc, asked, observer, program, legend, lines, form)
         }
         ShowPart::Page { states } => page_answer(
-            alloc, asked, observer, program, legend, *states, source,
+            alloc, asked, observer, program, legend, *states, lines, source,
         ),
         ShowPart::Outcomes { json, cover } => show_outcomes(
             alloc, options, observer, loaded, legend, lines, *json, *cover,
@@ -101,7 +101,7 @@ fn show_trace<O: ObserveProgress>(
 ) -> Result<ShowAnswer, AllocError>
     requires accepted { IsAccepted (tree_view loaded.now.checked.tree) }
     requires named { AreNamed (tree_view loaded.now.checked.tree) loaded.now.program legend.now }
-    ensures { IfOk result (λ a. IsTracedAs (IsTraceInNames (schedule.trace_form as_json) asked.now.options (tree_view loaded.now.checked.tree) loaded.now.program legend.now (map string_bytes lines.now)) asked.now loaded.now.program a.verdict (string_bytes a.text)) }
+    ensures { IfOk result (λ a. IsTracedAs (schedule.trace_form as_json) (IsTraceInNames (schedule.trace_form as_json) asked.now.options (tree_view loaded.now.checked.tree) loaded.now.program legend.now (map string_bytes lines.now)) asked.now loaded.now.program a.verdict (string_bytes a.text)) }
 {
     let form = trace_form(as_json);
     one_schedule(alloc, asked, observer, &loaded.program, legend, lines, form)

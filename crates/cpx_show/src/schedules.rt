@@ -1,28 +1,26 @@
 //! One schedule: in names, and as a picture.
 
-ghost use Rattle.std.specs.Prelude.{◌≡◌, ◌≤◌, IfOk, length, map, string_bytes};
+ghost use Rattle.std.specs.Prelude.{◌≡◌, ◌++◌, ℕ, List, IfOk, Some, length, map, string_bytes};
 ghost use Rattle.cp_legend.specs.Names.{legend_seen};
 ghost use Rattle.cp_run.specs.Code.{answer_of};
-ghost use Rattle.cp_story.specs.Objects.{line_of};
-ghost use Rattle.cp_story.specs.StoryData.{story_data};
 ghost use Rattle.cp_story.specs.Text.{story_text};
 ghost use Rattle.cp_walk.specs.Rows.{UsedWithin};
 ghost use Rattle.cp_walk.specs.TraceText.{end_text};
-ghost use Rattle.cp_show_mark.specs.declared.answer.ShowVerdict.TheVariants.{Reported, TooMany, Misread};
+ghost use Rattle.cp_show_mark.specs.declared.answer.ShowVerdict.TheVariants.{Reported};
 ghost use Rattle.cpx_show.specs.Schedules as spec;
+ghost use Rattle.cpx_show.specs.declared.schedules.ScheduleForm.TheVariants.{Json, Lines};
 
-use cp_lanes::{PictureSubject, PictureView, picture_in};
+use crate::missing::rows_beyond;
+use crate::selecting::{ChosenSchedule, Selection, select_schedule};
+use cp_lanes::{PictureSubject, PictureView, SheetExtent, picture_in, row_count};
 use cp_legend::Legend;
-use cp_merged::word::word_of;
-use cp_outcomes::{First, first_of_outcome, simplest_of_outcome};
 use cp_progress::ObserveProgress;
 use cp_prose::Prose;
 use cp_show_mark::{ShowAnswer, ShowVerdict, story_of};
 use cp_show_options::Asked;
 use cp_slots::Resolved;
 use cp_story::{Story, json, text};
-use cp_tool::Options;
-use cp_walk::{Job, trace_report};
+use cp_walk::trace_report;
 use std::alloc::{AllocError, Global};
 
 /// How one schedule is shown.
@@ -57,15 +55,14 @@ pub fn one_schedule<O: ObserveProgress>(
     source: &[String],
     form: ScheduleForm,
 ) -> Result<ShowAnswer, AllocError>
-    ensures { IfOk result (λ a. spec.IsTracedAs (spec.IsStoryText form asked.now.options program.now (legend_seen legend.now) (map string_bytes source.now)) asked.now program.now a.verdict (string_bytes a.text)) }
+    ensures { IfOk result (λ a. spec.IsTracedAs form (spec.IsStoryText form asked.now.options program.now (legend_seen legend.now) (map string_bytes source.now)) asked.now program.now a.verdict (string_bytes a.text)) }
 {
-    match schedule_asked(alloc, asked, observer, program)? {
-        First::Word(word) => {
-            let text = schedule_part(alloc, asked, program, legend, source, word.as_slice(), form);
-            report_answer(text)
+    let selection = select_schedule(alloc, asked, observer, program, legend, source)?;
+    match selection {
+        Selection::Schedule(schedule) => {
+            schedule_part(alloc, asked, program, legend, source, &schedule, form)
         }
-        First::None(count) => no_outcome(alloc, count),
-        First::NotSearched => not_searched(alloc, asked),
+        Selection::Without(answer) => Ok(answer),
     }
 }
 
@@ -80,82 +77,47 @@ pub fn report_answer(text: Result<String, AllocError>) -> Result<ShowAnswer, All
     })
 }
 
-/// The schedule that is given, or the first or the simplest one of the outcome that is.
-pub fn schedule_asked<O: ObserveProgress>(
-    alloc: Global,
-    asked: &Asked,
-    observer: &mut O,
-    program: &Resolved,
-) -> Result<First, AllocError>
-    ensures { IfOk result (spec.IsAskedFor asked.now program.now) }
-{
-    let options = &asked.options;
-    let Some(number) = asked.outcome else {
-        return Ok(First::Word(word_of(word_given(options))));
-    };
-    let job = Job {
-        program,
-        limits: options.limits(),
-    };
-    if asked.simplest {
-        simplest_of_outcome(alloc, job, options.states, number, observer)
-    } else {
-        first_of_outcome(alloc, job, options.states, number, observer)
-    }
-}
-
-fn word_given(options: &Options) -> &[u8]
-    ensures length { length result.now ≤ 100 }
-    ensures word { result.now ≡ spec.word_given options.now }
-{
-    match &options.schedule {
-        Some(word) => word.as_slice(),
-        None => &[],
-    }
-}
-
-/// That a simplest schedule was not looked for.
-pub fn not_searched(alloc: Global, asked: &Asked) -> Result<ShowAnswer, AllocError>
-    ensures { IfOk result (λ a. a.verdict ≡ TooMany) }
-{
-    let states = asked.options.states;
-    Ok(ShowAnswer {
-        verdict: ShowVerdict::TooMany,
-        text: format!(in alloc;
-            "the simplest schedule was not searched: there are more than {states} states\n"
-        )?,
-    })
-}
-
-/// That there is no outcome of a number.
-pub fn no_outcome(alloc: Global, count: usize) -> Result<ShowAnswer, AllocError>
-    ensures { IfOk result (λ a. a.verdict ≡ Misread) }
-{
-    Ok(ShowAnswer {
-        verdict: ShowVerdict::Misread,
-        text: format!(in alloc; "there is no outcome of this number: there are {count}\n")?,
-    })
-}
-
+// A schedule in a form, unless the rows that are to be drawn of it are none of its rows.
 fn schedule_part(
     alloc: Global,
     asked: &Asked,
     program: &Resolved,
     legend: &Legend,
     source: &[String],
-    word: &[u8],
+    schedule: &ChosenSchedule,
     form: ScheduleForm,
-) -> Result<String, AllocError>
-    requires { length word.now ≤ 100 }
-    ensures { asked.now.round ≡ 0 → IfOk result (λ text. spec.IsStoryText form asked.now.options program.now (legend_seen legend.now) (map string_bytes source.now) word.now (string_bytes text)) }
+) -> Result<ShowAnswer, AllocError>
+    ensures told { IfOk result (λ a. a.verdict ≡ Reported → spec.TellsSchedule form (spec.IsStoryText form asked.now.options program.now (legend_seen legend.now) (map string_bytes source.now)) schedule.now (string_bytes a.text)) }
+    ensures drawn { spec.DrawsAll form → IfOk result (λ a. a.verdict ≡ Reported) }
 {
-    let before = events_before_round(alloc, asked, program, legend, word)?;
+    let word = schedule.word.as_slice();
+    let before = events_before_round(alloc, asked, program, legend, schedule)?;
     let story = story_of(alloc, &asked.options, program, legend, word)?;
-    let again = first_of_round(before, &story);
-    story_in(alloc, program, legend, &story, source, word, again, form)
+    if let Some(row) = missing_row(form, &story) {
+        return rows_beyond(alloc, row, row_count(&story));
+    }
+    let first = first_of_round(before, &story);
+    let text = story_in(alloc, program, legend, &story, source, word, first, form)?;
+    Ok(ShowAnswer {
+        verdict: ShowVerdict::Reported,
+        text,
+    })
 }
 
-// A story in a form.
+// The last row that is to be drawn, if a story has not so many.
+fn missing_row(form: ScheduleForm, story: &Story) -> Option<usize>
+    ensures { spec.DrawsAll form → result ≡ None }
+{
+    let ScheduleForm::Picture(view) = form else {
+        return None;
+    };
+    match view.extent {
+        SheetExtent::Between(_, last) if last > row_count(story) => Some(last),
+        _ => None,
+    }
+}
+
+// A story in a form, with the event marked with which a round begins.
 fn story_in(
     alloc: Global,
     program: &Resolved,
@@ -163,17 +125,37 @@ fn story_in(
     story: &Story,
     source: &[String],
     word: &[u8],
-    again: Option<usize>,
+    first: Option<usize>,
     form: ScheduleForm,
 ) -> Result<String, AllocError>
     requires { UsedWithin story.now.end (length word.now) }
-    ensures { again ≡ None → IfOk result (λ text. spec.IsWrittenAs form program.now (legend_seen legend.now) (map string_bytes source.now) word.now story.now (string_bytes text)) }
+    ensures { IfOk result (λ text. (told : List ℕ) × spec.IsWrittenAs form program.now (legend_seen legend.now) (map string_bytes source.now) word.now story.now told × spec.IsWithRound form first told (string_bytes text)) }
+{
+    let told = written_story(alloc, program, legend, story, source, word, first, form)?;
+    match first {
+        Some(row) => mark_round(alloc, told, row, form),
+        None => Ok(told),
+    }
+}
+
+fn written_story(
+    alloc: Global,
+    program: &Resolved,
+    legend: &Legend,
+    story: &Story,
+    source: &[String],
+    word: &[u8],
+    first: Option<usize>,
+    form: ScheduleForm,
+) -> Result<String, AllocError>
+    requires { UsedWithin story.now.end (length word.now) }
+    ensures { IfOk result (λ text. spec.IsWrittenAs form program.now (legend_seen legend.now) (map string_bytes source.now) word.now story.now (string_bytes text)) }
 {
     match form {
-        ScheduleForm::Lines => trace_text(alloc, program, legend, story, word, again),
-        ScheduleForm::Json => trace_json(alloc, legend, story, source, word, again),
+        ScheduleForm::Lines => trace_text(alloc, program, legend, story, word),
+        ScheduleForm::Json => json(alloc, legend, story, word, source),
         ScheduleForm::Picture(view) => {
-            picture(alloc, program, legend, story, source, word, again, view)
+            picture(alloc, program, legend, story, source, word, first, view)
         }
     }
 }
@@ -184,15 +166,15 @@ fn events_before_round(
     asked: &Asked,
     program: &Resolved,
     legend: &Legend,
-    word: &[u8],
+    schedule: &ChosenSchedule,
 ) -> Result<Option<usize>, AllocError>
-    requires { length word.now ≤ 100 }
-    ensures { asked.now.round ≡ 0 → IfOk result (λ before. before ≡ None) }
+    ensures { schedule.now.round ≡ 0 → IfOk result (λ before. before ≡ None) }
 {
-    if asked.round == 0 || asked.round > word.len() {
+    let word = schedule.word.as_slice();
+    if schedule.round == 0 || schedule.round > word.len() {
         return Ok(None);
     }
-    let before = &word[..word.len() - asked.round];
+    let before = &word[..word.len() - schedule.round];
     let story = story_of(alloc, &asked.options, program, legend, before)?;
     Ok(Some(story.events.len()))
 }
@@ -209,68 +191,70 @@ fn first_of_round(before: Option<usize>, whole: &Story) -> Option<usize>
     }
 }
 
-fn trace_json(
-    alloc: Global,
-    legend: &Legend,
-    story: &Story,
-    source: &[String],
-    word: &[u8],
-    again: Option<usize>,
-) -> Result<String, AllocError>
-    ensures { again ≡ None → IfOk result (λ text. string_bytes text ≡ line_of (story_data (legend_seen legend.now) story.now word.now (map string_bytes source.now))) }
-{
-    let told = json(alloc, legend, story, word, source)?;
-    match again {
-        Some(row) => json_with_again(alloc, told.as_str(), row),
-        None => Ok(told),
-    }
-}
-
-// An object that begins with the event with which the round begins.
-fn json_with_again(alloc: Global, told: &str, row: usize) -> Result<String, AllocError> {
-    let rest = told.strip_prefix("{").unwrap_or(told);
-    format!(in alloc; "{{\"again\":{row},{rest}")
-}
-
 fn trace_text(
     alloc: Global,
     program: &Resolved,
     legend: &Legend,
     story: &Story,
     word: &[u8],
-    again: Option<usize>,
 ) -> Result<String, AllocError>
     requires { UsedWithin story.now.end (length word.now) }
-    ensures { again ≡ None → IfOk result (λ text. string_bytes text ≡ story_text (legend_seen legend.now) story.now (end_text program.now.names word.now (answer_of story.now.end))) }
+    ensures { IfOk result (λ text. string_bytes text ≡ story_text (legend_seen legend.now) story.now (end_text program.now.names word.now (answer_of story.now.end))) }
 {
     let end = trace_report(alloc, program, &[], &story.end, word)?;
-    text_with_again(alloc, text(alloc, legend, story, end.text.as_str()), again)
+    text(alloc, legend, story, end.text.as_str())
 }
 
-// Lines with a heading before those of the round.
-fn text_with_again(
+// Marks in what is told where a round begins. A picture is drawn with it.
+fn mark_round(
     alloc: Global,
-    told: Result<String, AllocError>,
-    again: Option<usize>,
+    told: String,
+    row: usize,
+    form: ScheduleForm,
 ) -> Result<String, AllocError>
-    ensures { again ≡ None → result ≡ told }
+    ensures { IfOk result (λ text. spec.IsWithRound form (Some row) (string_bytes told) (string_bytes text)) }
 {
-    match again {
-        Some(row) => lines_with_again(alloc, told?.as_str(), row),
-        None => told,
+    match form {
+        ScheduleForm::Lines => lines_with_again(alloc, told.as_str(), row),
+        ScheduleForm::Json => json_with_again(alloc, told, row),
+        ScheduleForm::Picture(_) => Ok(told),
     }
 }
 
-fn lines_with_again(alloc: Global, told: &str, row: usize) -> Result<String, AllocError> {
-    let mut text = Prose::new(alloc);
-    for (place, line) in told.lines().enumerate() {
-        if place == row {
-            text.put("again and again:\n");
-        }
-        text.put(line);
-        text.put("\n");
+// An object that begins with the event with which the round begins.
+fn json_with_again(alloc: Global, told: String, row: usize) -> Result<String, AllocError>
+    ensures { IfOk result (λ text. spec.IsWithRound Json (Some row) (string_bytes told) (string_bytes text)) }
+{
+    match told.as_str().strip_prefix('{') {
+        Some(rest) => format!(in alloc; "{{\"again\":{row},{rest}"),
+        None => Ok(told),
     }
-    text.finish()
+}
+
+// Lines with a heading before the one before which there are so many.
+fn lines_with_again(alloc: Global, told: &str, row: usize) -> Result<String, AllocError>
+    ensures { IfOk result (λ text. spec.IsMarked Lines row told.now (string_bytes text)) }
+{
+    let mut text = String::new(alloc);
+    let mut rest = told;
+    for _ in 0..row {
+        rest = push_line(&mut text, rest)?;
+    }
+    text.push_str("again and again:\n")?;
+    text.push_str(rest)?;
+    Ok(text)
+}
+
+// Appends the first of some lines, and answers those after it.
+fn push_line<'a>(text: &mut String, lines: &'a str) -> Result<&'a str, AllocError>
+    ensures { IfOk result (λ rest. string_bytes text.new ++ rest.now ≡ string_bytes text.old ++ lines.now) }
+{
+    let Some((line, rest)) = lines.split_once('\n') else {
+        return Ok(lines);
+    };
+    text.push_str(line)?;
+    text.push_str("\n")?;
+    Ok(rest)
 }
 
 fn picture(

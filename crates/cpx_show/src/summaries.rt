@@ -1,12 +1,14 @@
 //! All schedules: the page on which they are played, their outcomes, and their ends.
 
 ghost use Rattle.std.specs.Prelude.{◌≡◌, ◌≤◌, IfOk, length, string_bytes};
+ghost use Rattle.cpx_show.specs.Selecting.{IsEndsSubjectOf};
 ghost use Rattle.cpx_show.specs.Summaries as spec;
 
-use crate::schedules::{no_outcome, not_searched, report_answer, schedule_asked};
+use crate::schedules::report_answer;
+use crate::selecting::{Selection, select_schedule};
 use cp_ends_story::{EndsFormat, EndsSubject, ends_story};
 use cp_legend::Legend;
-use cp_outcomes::{First, Format, Subject, outcomes};
+use cp_outcomes::{Format, Subject, outcomes};
 use cp_page::{Length, PageSubject, page};
 use cp_progress::ObserveProgress;
 use cp_show_mark::{ShowAnswer, ShowVerdict};
@@ -23,10 +25,11 @@ pub fn page_answer<O: ObserveProgress>(
     program: &Resolved,
     legend: &Legend,
     states: u32,
+    lines: &[String],
     source: &[u8],
 ) -> Result<ShowAnswer, AllocError> {
-    match schedule_asked(alloc, asked, observer, program)? {
-        First::Word(word) => {
+    match select_schedule(alloc, asked, observer, program, legend, lines)? {
+        Selection::Schedule(schedule) => {
             let subject = PageSubject {
                 program,
                 legend,
@@ -34,13 +37,12 @@ pub fn page_answer<O: ObserveProgress>(
                 length: length_of(&asked.options),
                 states,
                 source,
-                word: word.as_slice(),
-                round: asked.round,
+                word: schedule.word.as_slice(),
+                round: schedule.round,
             };
             report_answer(page(alloc, subject, observer))
         }
-        First::None(count) => no_outcome(alloc, count),
-        First::NotSearched => not_searched(alloc, asked),
+        Selection::Without(answer) => Ok(answer),
     }
 }
 
@@ -104,15 +106,7 @@ pub fn ends_answer<O: ObserveProgress>(
     source: &[String],
     as_json: bool,
 ) -> Result<ShowAnswer, AllocError> {
-    let subject = EndsSubject {
-        program,
-        legend,
-        limits: options.longest_limits(),
-        most: options.states,
-        waits: options.waits,
-        at_once: options.at_once,
-        source,
-    };
+    let subject = ends_subject(options, program, legend, source);
     let form = if as_json {
         EndsFormat::Json
     } else {
@@ -123,4 +117,24 @@ pub fn ends_answer<O: ObserveProgress>(
         verdict: verdict_on(told.is_whole),
         text: told.text,
     })
+}
+
+/// A program whose schedules of any length are looked at.
+pub fn ends_subject<'a>(
+    options: &Options,
+    program: &'a Resolved,
+    legend: &'a Legend,
+    source: &'a [String],
+) -> EndsSubject<'a>
+    ensures { IsEndsSubjectOf result options.now program.now }
+{
+    EndsSubject {
+        program,
+        legend,
+        limits: options.longest_limits(),
+        most: options.states,
+        waits: options.waits,
+        at_once: options.at_once,
+        source,
+    }
 }

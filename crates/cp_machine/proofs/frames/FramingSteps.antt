@@ -1,4 +1,4 @@
--- What the frames of a process may name stays there where frames are open_frame and given up.
+-- What the frames of a process may name stays there where frames are opened and given up.
 use Rattle.std.proofs.Common.{◌≡◌, ℕ, ◌+◌, ◌^◌, ◌<◌, ◌≤◌, ◌∙◌, List, ◌∷◌, ◌++◌, length, take, Option, Some, None, Ok, true, ap, sym, refl, subst, arith, get_or-set_same, get_or-set_other}
 use Rattle.cp_machine.proofs.Words.{slice_set, replicate, nat_lt, ltb-true, Tables, routine_at, IsSound, CallFits, arguments_inside, binds_from, result_inside, IsOf}
 use Rattle.cp_machine.proofs.Words.{IsTyped, Argument, Bound, Address, Permanent, Local, Frame, bind_frame, Memory, nowhere, and_left, and_right, Entry, Return}

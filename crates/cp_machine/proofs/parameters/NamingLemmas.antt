@@ -103,7 +103,7 @@ module _ (r : Tables) (s : State) (pid at : ℕ) (item : Item) (t : IsTaken r s 
 
 -- ---- where what fits is bound
 
--- the frame that is open_frame is the one that is executed
+-- the frame that is opened is the one that is executed
 pub opened_fits : (r : Tables) (s : State) (n : Machine) (pid routine component : ℕ) (end : Entry) (rest : List Entry) (arguments : List Argument) (bounds : List Bound) → pid < length s.processes.items → n ≡ open_frame r (machine_of s) pid routine component end rest → FitsNew r (machine_of s) pid routine component arguments bounds → FitsOwn n pid arguments bounds
 opened_fits r s n pid routine component end rest arguments bounds lt after h =
     let m = machine_of s in
@@ -112,7 +112,7 @@ opened_fits r s n pid routine component end rest arguments bounds lt after h =
     let P : Thread → Type 0 = λ x. store.AllFitFrame (record { permanents = m.permanents; cells = x.cells; references = x.references }) x.frame arguments bounds in
     subst (λ k. FitsOwn k pid arguments bounds) (sym after) (subst P (sym (get_or-set_same m.threads pid u no_thread (within s pid lt))) h)
 
--- the parameters of a component fit where the control stack changes, and after a frame that is open_frame
+-- the parameters of a component fit where the control stack changes, and after a frame that is opened
 pub replaced_fits : (r : Tables) (s : State) (n : Machine) (pid component : ℕ) (stack : List Entry) (arguments : List Argument) (bounds : List Bound) → pid < length s.processes.items → n ≡ with_stack (machine_of s) pid stack → FitsComponent r (machine_of s) pid component arguments bounds → FitsComponent r n pid component arguments bounds
 replaced_fits r s n pid component stack arguments bounds lt after h =
     let m = machine_of s in

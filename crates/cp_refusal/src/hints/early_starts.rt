@@ -2,10 +2,7 @@
 
 use crate::hints::Gathering;
 use crate::hints::written::{PlacedStatement, Written, name_alone};
-use cp_prose::Prose;
-use cp_tree::{
-    Definition, Designator, Program, ProgramPartKind, Selector, Start, StatementKind, SystemKind,
-};
+use cp_tree::{Designator, Selector, Start, StatementKind, SystemKind};
 use std::alloc::AllocError;
 
 /// A component of the program where it is named.
@@ -46,29 +43,13 @@ fn may_start(starts: &[PlacedStart], component: NamedComponent) -> bool {
     false
 }
 
-/// What a system type with a name is.
-fn kind_named(program: &Program, name: &str) -> Option<SystemKind> {
-    for part in &program.parts {
-        if let ProgramPartKind::Types(all) = &part.kind {
-            for one in all {
-                if let Definition::System(system) = &one.value
-                    && one.name.name.as_str() == name
-                {
-                    return Some(system.kind);
-                }
-            }
-        }
-    }
-    None
-}
-
 impl<'a, 'b> Gathering<'a, 'b> {
     /// The component variable of the program, or the element of one, that a name with its selectors is.
     fn named_component(&self, node: &'a Designator) -> Option<NamedComponent> {
         let one = self
             .declarations
             .find(node.name.name.as_str(), node.name.at)?;
-        let kind = kind_named(self.program, self.declarations.component_of(&one))?;
+        let kind = self.declarations.component_of(&one)?.kind;
         let index = match node.selectors.first() {
             Some(Selector::Index(index)) => self.declarations.value(index),
             _ => None,
@@ -92,7 +73,7 @@ impl<'a, 'b> Gathering<'a, 'b> {
                     all.push(PlacedStart {
                         start,
                         component,
-                        outermost_loop: placed.outermost_loop,
+                        outermost_loop: placed.around.outermost_loop,
                     })?;
                 }
             }
@@ -159,17 +140,13 @@ impl<'a, 'b> Gathering<'a, 'b> {
         process: &Designator,
         line: u32,
     ) -> Result<(), AllocError> {
-        if self.is_full() {
-            return Ok(());
-        }
         let name = given.name.name.as_str();
-        let mut sentence = Prose::new(self.alloc);
-        sentence.put(process.name.name.as_str());
-        sentence.put(" is started before ");
-        sentence.put(name);
-        sentence.put_display(format_args!(
-            " is initialised in line {line}: where it calls {name} before that, it is the run error not-init"
-        ));
-        self.push(given.name.at, sentence.finish()?)
+        let process = process.name.name.as_str();
+        self.add(
+            given.name.at,
+            format_args!(
+                "{process} is started before {name} is initialised in line {line}: where it calls {name} before that, it is the run error not-init"
+            ),
+        )
     }
 }

@@ -29,7 +29,7 @@ impl<'a> Declarations<'a> {
             return false;
         };
         let has_field = matches!(written.selectors.last(), Some(Selector::Field(_)));
-        one.is_routine() || has_field && !self.component_of(&one).is_empty()
+        one.is_routine() || has_field && self.component_of(&one).is_some()
     }
 }
 

@@ -2,8 +2,7 @@
 
 use crate::declared::{Declaration, Declared};
 use crate::hints::Gathering;
-use crate::hints::written::{Use, Written, routines_of};
-use cp_prose::Prose;
+use crate::hints::written::{Use, Written};
 use std::alloc::AllocError;
 
 /// The use of a declared name in a routine.
@@ -54,8 +53,11 @@ impl<'a, 'b> Gathering<'a, 'b> {
     /// The uses of names in routines, in reading order.
     fn routine_uses(&self) -> Result<Vec<RoutineUse>, AllocError> {
         let mut uses = Vec::new(self.alloc);
-        for routine in routines_of(self.alloc, self.program)? {
-            let written = Written::in_statements(self.alloc, &routine.body.statements)?;
+        for one in &self.declarations.bodies {
+            if one.context.routine.is_none() {
+                continue;
+            }
+            let written = Written::in_statements(self.alloc, &one.body.statements)?;
             for one in &written.names {
                 if let Some(declared) = self
                     .declarations
@@ -96,16 +98,13 @@ impl<'a, 'b> Gathering<'a, 'b> {
         local: &Declaration<'a>,
         variable: Declaration<'a>,
     ) -> Result<(), AllocError> {
-        if self.is_full() {
-            return Ok(());
-        }
         let line = self.line_of(variable.at);
-        let mut sentence = Prose::new(self.alloc);
-        sentence.put("this hides the permanent variable ");
-        sentence.put(local.name);
-        sentence.put_display(format_args!(" of line {line}: in "));
-        sentence.put(local.routine);
-        sentence.put(" the name is this one alone");
-        self.push(local.at, sentence.finish()?)
+        let (name, routine) = (local.name, local.routine);
+        self.add(
+            local.at,
+            format_args!(
+                "this hides the permanent variable {name} of line {line}: in {routine} the name is this one alone"
+            ),
+        )
     }
 }

@@ -1,25 +1,52 @@
 //! Constant indices that no element has.
 
+use crate::declared::Declared;
 use crate::hints::Gathering;
-use crate::hints::constant_values::Bounds;
 use crate::hints::written::{Written, WrittenName};
-use cp_prose::Prose;
-use cp_tree::{Expression, FieldGroup, Identifier, Selector, Simple, Type, TypeKind};
+use cp_scope::{Base, Meaning, Range, ValueType};
+use cp_tree::{Expression, Identifier, Selector, SimpleKind, Type, TypeKind};
 use std::alloc::AllocError;
 
-/// The type of a record's field, as it is written.
-fn type_of_field<'a>(groups: &'a [FieldGroup], field: &Identifier) -> Option<&'a Type> {
-    for group in groups {
-        for name in &group.names {
-            if name.name.as_str() == field.name.as_str() {
-                return Some(&group.field_type);
-            }
-        }
-    }
-    None
-}
+/// Through how many definitions a name is followed.
+const MOST_DEFINITIONS: usize = 20;
 
 impl<'a, 'b> Gathering<'a, 'b> {
+    /// The array or the record for which a type stands, as the checker knows it.
+    fn structure(&self, written: &'a Type) -> Option<ValueType> {
+        let mut written = written;
+        for _ in 0..MOST_DEFINITIONS {
+            let name = match &written.kind {
+                TypeKind::Array(..) => return Some(ValueType::Array(written.at)),
+                TypeKind::Record(..) => return Some(ValueType::Record(written.at)),
+                TypeKind::Simple(simple) => &simple.kind,
+                TypeKind::Set(_) => return None,
+            };
+            let SimpleKind::Name(name) = name else {
+                return None;
+            };
+            match self.declarations.find(name.as_str(), written.at)?.what {
+                Declared::Type(other) => written = other,
+                _ => return None,
+            }
+        }
+        None
+    }
+
+    /// The array or the record that a variable or a parameter is.
+    fn structure_of(&self, name: &'a Identifier) -> Option<ValueType> {
+        let declarations = self.declarations;
+        match declarations.find(name.name.as_str(), name.at)?.what {
+            Declared::Variable(written) => self.structure(written),
+            Declared::Parameter(named) | Declared::VarParameter(named) => {
+                match declarations.find(named.name.as_str(), named.at)?.what {
+                    Declared::Type(written) => self.structure(written),
+                    _ => None,
+                }
+            }
+            _ => None,
+        }
+    }
+
     /// Adds a hint on each index that is a constant outside of the bounds of its array.
     pub fn add_outside_indices(&mut self, written: &Written<'a>) -> Result<(), AllocError> {
         for one in &written.names {
@@ -31,48 +58,44 @@ impl<'a, 'b> Gathering<'a, 'b> {
     }
 
     fn add_outside_of(&mut self, written: WrittenName<'a>) -> Result<(), AllocError> {
-        let declarations = self.declarations;
-        let mut kind = declarations.kind_of_variable(written.name);
+        let shapes = self.declarations.scopes.shapes();
+        let mut whole = self.structure_of(written.name);
         for selector in written.selectors {
-            let part = match (kind, selector) {
-                (Some(TypeKind::Array(index, element)), Selector::Index(at)) => {
-                    self.add_if_outside(index, at)?;
-                    Some(&**element)
+            whole = match (whole, selector) {
+                (Some(ValueType::Array(at)), Selector::Index(index)) => match shapes.array(at) {
+                    Some(array) => {
+                        self.add_if_outside(array.index, index)?;
+                        Some(array.element)
+                    }
+                    None => None,
+                },
+                (Some(ValueType::Record(at)), Selector::Field(field)) => {
+                    match shapes.field(at, &field.name) {
+                        Some(Meaning::Variable(part)) => Some(part),
+                        _ => None,
+                    }
                 }
-                (Some(TypeKind::Record(groups, _)), Selector::Field(field)) => type_of_field(
-                    groups, field,
-                ),
                 _ => None,
             };
-            let Some(part) = part else {
-                return Ok(());
-            };
-            kind = declarations.kind_of(part);
         }
         Ok(())
     }
 
-    fn add_if_outside(&mut self, index: &'a Simple, at: &'a Expression) -> Result<(), AllocError> {
-        let declarations = self.declarations;
-        let (Some(value), Some(bounds)) = (declarations.value(at), declarations.bounds(index))
-        else {
-            return Ok(());
-        };
-        if bounds.low.value <= value && value <= bounds.high.value || self.is_full() {
-            return Ok(());
+    fn add_if_outside(&mut self, bounds: Range, index: &'a Expression) -> Result<(), AllocError> {
+        let (low, high) = (bounds.low, bounds.high);
+        match (self.declarations.value(index), bounds.base) {
+            (None, _) => Ok(()),
+            (Some(value), _) if low <= value && value <= high => Ok(()),
+            (Some(value), Base::Integer) => self.add(
+                index.at,
+                format_args!(
+                    "{value} is not in {low}..{high}: where this is evaluated, it is the run error range"
+                ),
+            ),
+            (Some(_), _) => self.add(
+                index.at,
+                "this is outside of the bounds of the index: where this is evaluated, it is the run error range",
+            ),
         }
-        self.add_outside(at.at, value, bounds)
-    }
-
-    fn add_outside(&mut self, at: usize, value: i64, bounds: Bounds) -> Result<(), AllocError> {
-        let mut sentence = Prose::new(self.alloc);
-        if bounds.low.is_integer {
-            let (low, high) = (bounds.low.value, bounds.high.value);
-            sentence.put_display(format_args!("{value} is not in {low}..{high}"));
-        } else {
-            sentence.put("this is outside of the bounds of the index");
-        }
-        sentence.put(": where this is evaluated, it is the run error range");
-        self.push(at, sentence.finish()?)
     }
 }

@@ -2,17 +2,16 @@
 
 use crate::hints::Gathering;
 use crate::hints::written::{Written, name_alone};
-use cp_prose::Prose;
 use cp_tree::{Designator, Statement, StatementKind};
 use std::alloc::AllocError;
 
 /// A queue where a `delay` or a `continue` names it.
 #[derive(Clone, Copy, Drop)]
-struct NamedQueue<'a> {
+pub struct NamedQueue<'a> {
     /// The token at which the queue, or the array that it is an element of, is declared.
     declared: usize,
-    named: &'a Designator,
-    is_delay: bool,
+    pub named: &'a Designator,
+    pub is_delay: bool,
 }
 
 /// Whether one of these is in the same variable as a queue, and named by a `delay` or by a `continue`, as is asked.
@@ -27,7 +26,7 @@ fn has(all: &[NamedQueue], declared: usize, is_delay: bool) -> bool {
 
 impl<'a, 'b> Gathering<'a, 'b> {
     /// The queue that a statement names, where it is a `delay` or a `continue` of the language itself.
-    fn named_queue(&self, statement: &'a Statement) -> Option<NamedQueue<'a>> {
+    pub fn named_queue(&self, statement: &'a Statement) -> Option<NamedQueue<'a>> {
         let StatementKind::Call(called, arguments) = &statement.kind else {
             return None;
         };
@@ -65,18 +64,17 @@ impl<'a, 'b> Gathering<'a, 'b> {
     }
 
     fn add_unnamed_queue(&mut self, queue: &Designator) -> Result<(), AllocError> {
-        if self.is_full() {
-            return Ok(());
-        }
-        let mut sentence = Prose::new(self.alloc);
-        sentence.put("no continue names ");
-        sentence.put(if queue.selectors.is_empty() {
+        let name = queue.name.name.as_str();
+        let element = if queue.selectors.is_empty() {
             ""
         } else {
             "an element of "
-        });
-        sentence.put(queue.name.name.as_str());
-        sentence.put(", so that whoever waits here waits for ever");
-        self.push(queue.name.at, sentence.finish()?)
+        };
+        self.add(
+            queue.name.at,
+            format_args!(
+                "no continue names {element}{name}, so that whoever waits here waits for ever"
+            ),
+        )
     }
 }

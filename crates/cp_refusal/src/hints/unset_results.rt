@@ -1,8 +1,8 @@
 //! Functions that never set their results.
 
+use crate::declared::Declared;
 use crate::hints::Gathering;
-use crate::hints::written::{Use, Written, routines_of};
-use cp_prose::Prose;
+use crate::hints::written::{Use, Written};
 use cp_tree::{Identifier, Routine, RoutineKind};
 use std::alloc::AllocError;
 
@@ -18,8 +18,9 @@ fn first_value(type_name: &str, is_of_program: bool) -> &'static str {
 impl<'a, 'b> Gathering<'a, 'b> {
     /// Adds a hint on each function whose result is never set.
     pub fn add_unset_results(&mut self) -> Result<(), AllocError> {
-        for routine in routines_of(self.alloc, self.program)? {
-            if let RoutineKind::Function(_, type_name) = &routine.kind
+        for one in &self.declarations.all {
+            if let Declared::Routine(routine) = one.what
+                && let RoutineKind::Function(_, type_name) = &routine.kind
                 && !self.sets_result(routine)?
             {
                 self.add_unset_result(routine, type_name)?;
@@ -49,18 +50,18 @@ impl<'a, 'b> Gathering<'a, 'b> {
         routine: &'a Routine,
         type_name: &'a Identifier,
     ) -> Result<(), AllocError> {
-        if self.is_full() {
-            return Ok(());
-        }
-        let name = routine.name.name.as_str();
         let at = type_name.at;
         let type_name = type_name.name.as_str();
         let is_of_program = self.declarations.find(type_name, at).is_some();
-        let mut sentence = Prose::new(self.alloc);
-        sentence.put("nothing in this function assigns to ");
-        sentence.put(name);
-        sentence.put(", so its result is always ");
-        sentence.put(first_value(type_name, is_of_program));
-        self.push(routine.name.at, sentence.finish()?)
+        let (name, value) = (
+            routine.name.name.as_str(),
+            first_value(type_name, is_of_program),
+        );
+        self.add(
+            routine.name.at,
+            format_args!(
+                "nothing in this function assigns to {name}, so its result is always {value}"
+            ),
+        )
     }
 }

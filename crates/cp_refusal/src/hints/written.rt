@@ -1,16 +1,37 @@
 //! What is written in the bodies of a program, in reading order.
 
+use crate::declared::OwnedBody;
 use cp_tree::{
-    Arm, Definition, Designator, Expression, Factor, FactorKind, Identifier, Program,
-    ProgramPartKind, Routine, Selector, Start, Statement, StatementKind, Sum, System, Term,
+    Arm, Designator, Expression, Factor, FactorKind, Identifier, Selector, Start, Statement,
+    StatementKind, Sum, Term,
 };
 use std::alloc::{AllocError, Global};
 
-/// A statement, and where the outermost loop around it begins, if there is one.
+/// What is around a statement in its body.
+#[derive(Clone, Copy, Drop)]
+pub struct Around {
+    /// Where the outermost loop around it begins, if there is one.
+    pub outermost_loop: Option<usize>,
+    /// Whether it is a part of another statement.
+    pub is_nested: bool,
+    /// Whether it stands in a branch of an `if`.
+    pub is_branch: bool,
+    /// Whether a `while` or a `repeat` is around it.
+    pub is_tested_again: bool,
+}
+
+const NOTHING_AROUND: Around = Around {
+    outermost_loop: None,
+    is_nested: false,
+    is_branch: false,
+    is_tested_again: false,
+};
+
+/// A statement, and what is around it.
 #[derive(Clone, Copy, Drop)]
 pub struct PlacedStatement<'a> {
     pub statement: &'a Statement,
-    pub outermost_loop: Option<usize>,
+    pub around: Around,
 }
 
 /// Statements that are done one after another.
@@ -44,35 +65,6 @@ pub struct Written<'a> {
     pub names: Vec<WrittenName<'a>>,
 }
 
-/// The system types of a program.
-fn systems_of(alloc: Global, program: &Program) -> Result<Vec<&System>, AllocError> {
-    let mut systems = Vec::new(alloc);
-    for part in &program.parts {
-        if let ProgramPartKind::Types(all) = &part.kind {
-            for one in all {
-                if let Definition::System(system) = &one.value {
-                    systems.push(system)?;
-                }
-            }
-        }
-    }
-    Ok(systems)
-}
-
-/// The routines of a program.
-pub fn routines_of(alloc: Global, program: &Program) -> Result<Vec<&Routine>, AllocError> {
-    let mut routines = Vec::new(alloc);
-    for system in systems_of(alloc, program)? {
-        for one in &system.routines {
-            routines.push(one)?;
-        }
-    }
-    for one in &program.routines {
-        routines.push(one)?;
-    }
-    Ok(routines)
-}
-
 impl<'a> Written<'a> {
     fn new(alloc: Global) -> Written<'a> {
         Written {
@@ -83,22 +75,12 @@ impl<'a> Written<'a> {
     }
 
     /// What is written in all bodies of a program.
-    pub fn in_program(alloc: Global, program: &'a Program) -> Result<Written<'a>, AllocError> {
+    pub fn in_bodies(alloc: Global, bodies: &[OwnedBody<'a>]) -> Result<Written<'a>, AllocError> {
         let mut written = Written::new(alloc);
-        for system in systems_of(alloc, program)? {
-            written.add_routines(&system.routines)?;
-            written.add_sequence(&system.body.statements, None)?;
+        for one in bodies {
+            written.add_sequence(&one.body.statements, NOTHING_AROUND)?;
         }
-        written.add_routines(&program.routines)?;
-        written.add_sequence(&program.body.statements, None)?;
         Ok(written)
-    }
-
-    fn add_routines(&mut self, routines: &'a [Routine]) -> Result<(), AllocError> {
-        for one in routines {
-            self.add_sequence(&one.body.statements, None)?;
-        }
-        Ok(())
     }
 
     /// What is written in a body.
@@ -107,7 +89,17 @@ impl<'a> Written<'a> {
         statements: &'a [Statement],
     ) -> Result<Written<'a>, AllocError> {
         let mut written = Written::new(alloc);
-        written.add_sequence(statements, None)?;
+        written.add_sequence(statements, NOTHING_AROUND)?;
+        Ok(written)
+    }
+
+    /// What is written in a statement.
+    pub fn in_statement(
+        alloc: Global,
+        statement: &'a Statement,
+    ) -> Result<Written<'a>, AllocError> {
+        let mut written = Written::new(alloc);
+        written.add_statement(statement, NOTHING_AROUND)?;
         Ok(written)
     }
 
@@ -122,7 +114,7 @@ impl<'a> Written<'a> {
     fn add_sequence(
         &mut self,
         statements: &'a [Statement],
-        around: Option<usize>,
+        around: Around,
     ) -> Result<(), AllocError> {
         self.sequences.push(Sequence { statements })?;
         for one in statements {
@@ -135,12 +127,13 @@ impl<'a> Written<'a> {
     fn add_statement(
         &mut self,
         statement: &'a Statement,
-        around: Option<usize>,
+        around: Around,
     ) -> Result<(), AllocError> {
-        self.statements.push(PlacedStatement {
-            statement,
-            outermost_loop: around,
-        })?;
+        self.statements.push(PlacedStatement { statement, around })?;
+        let inside = Around {
+            is_nested: true,
+            ..around
+        };
         match &statement.kind {
             StatementKind::Empty => Ok(()),
             StatementKind::Assign(target, value) => {
@@ -149,38 +142,39 @@ impl<'a> Written<'a> {
             }
             StatementKind::Call(called, arguments) => self.add_call(called, arguments),
             StatementKind::Init(starts) => self.add_starts(starts),
-            StatementKind::Block(inner) => self.add_sequence(inner, around),
+            StatementKind::Block(inner) => self.add_sequence(inner, inside),
             StatementKind::If(test, then, otherwise) => {
+                let inside = Around {
+                    is_branch: true,
+                    ..inside
+                };
                 self.add_expression(test)?;
-                self.add_statement(then, around)?;
-                self.add_other_branch(otherwise, around)
+                self.add_statement(then, inside)?;
+                match otherwise {
+                    Some(inner) => self.add_statement(inner, inside),
+                    None => Ok(()),
+                }
             }
             StatementKind::Case(selector, arms, _) => {
                 self.add_expression(selector)?;
-                self.add_arms(arms, around)
+                self.add_arms(arms, inside)
             }
             StatementKind::Asserted(_, tests, inner) => {
                 self.add_expressions(tests)?;
-                self.add_statement(inner, around)
+                self.add_statement(inner, inside)
             }
-            _ => self.add_loop(statement, around.unwrap_or(statement.at)),
+            _ => self.add_loop(
+                statement,
+                Around {
+                    outermost_loop: Some(around.outermost_loop.unwrap_or(statement.at)),
+                    ..inside
+                },
+            ),
         }
     }
 
     #[cycle(statements)]
-    fn add_other_branch(
-        &mut self,
-        branch: &'a Option<Box<Statement>>,
-        around: Option<usize>,
-    ) -> Result<(), AllocError> {
-        match branch {
-            Some(inner) => self.add_statement(inner, around),
-            None => Ok(()),
-        }
-    }
-
-    #[cycle(statements)]
-    fn add_arms(&mut self, arms: &'a [Arm], around: Option<usize>) -> Result<(), AllocError> {
+    fn add_arms(&mut self, arms: &'a [Arm], around: Around) -> Result<(), AllocError> {
         for one in arms {
             self.add_statement(&one.body, around)?;
         }
@@ -188,15 +182,18 @@ impl<'a> Written<'a> {
     }
 
     #[cycle(statements)]
-    fn add_loop(&mut self, statement: &'a Statement, outermost: usize) -> Result<(), AllocError> {
-        let around = Some(outermost);
+    fn add_loop(&mut self, statement: &'a Statement, around: Around) -> Result<(), AllocError> {
+        let tested = Around {
+            is_tested_again: true,
+            ..around
+        };
         match &statement.kind {
             StatementKind::While(test, body) => {
                 self.add_expression(test)?;
-                self.add_statement(body, around)
+                self.add_statement(body, tested)
             }
             StatementKind::Repeat(inner, test) => {
-                self.add_sequence(inner, around)?;
+                self.add_sequence(inner, tested)?;
                 self.add_expression(test)
             }
             StatementKind::For(variable, from, _, to, body) => {

@@ -2,7 +2,7 @@ use Rattle.std.proofs.Common.{List, String, Global, map, string_bytes, subst, sy
 use Rattle.std.proofs.lemmas.Result.{IfOk-weaker}
 use Rattle.cp_tree.specs.TreeView.{tree_view}
 use Rattle.cpx_show.proofs.Naming.{named}
-use Rattle.cpx_show.specs.Lines.{AreLinesShown}
+use Rattle.cp_outcomes.specs.Lines.{AreLinesShown}
 use Rattle.cpx_show.specs.Shown.{AreNamed}
 use Rattle.cpx_show.proofs.answering.show_loaded.Goals as goal
 

@@ -12,7 +12,7 @@ returns-in-Trace g c =
 pub returns-in-Lanes : goal.returns-in-Lanes
 returns-in-Lanes g c =
     let l = c.args.loaded.now in
-    by_part c.args.asked.now (tree_view l.checked.tree) l.program c.args.legend.now c.args.source.now (map string_bytes c.args.lines.now) _ c.one_schedule.result c.in-Lanes.is (IfOk-weaker c.one_schedule.result _ _ (λ a h. h.0) c.one_schedule.ensures)
+    by_part c.args.asked.now (tree_view l.checked.tree) l.program c.args.legend.now c.args.source.now (map string_bytes c.args.lines.now) _ c.one_schedule.result c.in-Lanes.is (IfOk-weaker c.one_schedule.result _ _ (λ a h. h.given) c.one_schedule.ensures)
 
 pub returns-in-Page : goal.returns-in-Page
 returns-in-Page g c =

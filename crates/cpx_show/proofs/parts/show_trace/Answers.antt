@@ -14,5 +14,5 @@ returns g c =
     let source = map string_bytes c.args.lines.now in
     IfOk-weaker c.one_schedule.result _ _
     (λ a h. traced (tree_view l.checked.tree) l.program c.args.legend.now asked (trace_form c.args.as_json) source a.verdict (string_bytes a.text) l.checked.tree.read c.requires.accepted c.requires.named
-    (subst (λ (f : ScheduleForm). IsTracedAs (IsStoryText f asked.options l.program (legend_seen c.args.legend.now) source) asked l.program a.verdict (string_bytes a.text)) c.trace_form-form.ensures h))
+    (subst (λ (f : ScheduleForm). IsTracedAs f (IsStoryText f asked.options l.program (legend_seen c.args.legend.now) source) asked l.program a.verdict (string_bytes a.text)) c.trace_form-form.ensures h))
     c.one_schedule.ensures

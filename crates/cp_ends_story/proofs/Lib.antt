@@ -1,0 +1,4 @@
+pub mod AtOnce
+pub mod Found
+pub mod Listing
+pub mod Numbering

@@ -1,9 +1,0 @@
-use Rattle.std.proofs.Common.{ℕ, List, ◌++◌, length, map, string_bytes}
-use Rattle.cpx_show.specs.Lines.{AreLinesShown}
-use Rattle.cpx_show.proofs.lines.lines_of.Given as goal
-
-abbrev pub invariant-loop-end : goal.invariant-loop-end
-invariant-loop-end l = (texts : List (List ℕ)) → AreLinesShown l.rest texts → AreLinesShown l.source (map string_bytes l.lines.items ++ texts)
-
-abbrev pub decreases-loop-end : goal.decreases-loop-end
-decreases-loop-end l = length l.rest

@@ -1,0 +1,4 @@
+var a: integer[3];
+begin
+  a[1] := 1
+end.

@@ -1,0 +1,5 @@
+var x: integer;
+begin
+  x := 1;
+  if x := 1 then display(x)
+end.

@@ -1,0 +1,4 @@
+procedure p;
+  display(1);
+end;
+begin p end.

@@ -1,0 +1,5 @@
+procedure p(n: integer);
+begin display(n) end;
+begin
+  p 3
+end.

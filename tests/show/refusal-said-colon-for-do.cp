@@ -1,0 +1,5 @@
+var b: boolean;
+begin
+  b := true;
+  while b: b := false
+end.

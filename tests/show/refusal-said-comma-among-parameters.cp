@@ -1,0 +1,3 @@
+procedure p(a: integer, b: integer);
+begin display(a + b) end;
+begin p(1, 2) end.

@@ -1,0 +1,2 @@
+const n: integer = 3;
+begin display(n) end.

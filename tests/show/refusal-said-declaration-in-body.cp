@@ -1,0 +1,6 @@
+var x: integer;
+begin
+  x := 1;
+  y: integer;
+  y := 2
+end.

@@ -1,0 +1,4 @@
+begin
+  integer i := 0;
+  display(i)
+end.

@@ -1,0 +1,2 @@
+int x;
+begin x := 4; display(x) end.

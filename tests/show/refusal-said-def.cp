@@ -1,0 +1,3 @@
+def hello(n: integer):
+  display(n);
+begin hello(1) end.

@@ -1,0 +1,8 @@
+var x: integer;
+begin
+  x := 3;
+  case x of
+    1: display(1);
+    default: display(2)
+  end
+end.

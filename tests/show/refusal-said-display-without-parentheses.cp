@@ -1,0 +1,5 @@
+var x: integer;
+begin
+  x := 1;
+  display x
+end.

@@ -1,0 +1,6 @@
+var x: integer;
+begin
+  x := 3;
+  while x > 0
+    x := x - 1
+end.

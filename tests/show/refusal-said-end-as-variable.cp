@@ -1,0 +1,2 @@
+var first, end: integer;
+begin end.

@@ -1,0 +1,2 @@
+type colour = enum (red, green);
+begin end.

@@ -1,0 +1,2 @@
+type colour = red, green;
+begin end.

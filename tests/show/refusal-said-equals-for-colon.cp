@@ -1,0 +1,3 @@
+type box = monitor; begin end;
+var b = box;
+begin init b end.

@@ -1,0 +1,5 @@
+function f(n: integer): integer;
+begin f := n end;
+begin
+  display(f(1).n)
+end.

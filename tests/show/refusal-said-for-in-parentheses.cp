@@ -1,0 +1,5 @@
+var i: integer;
+begin
+  for (i = 0; i < 5; i++) do
+    display(i)
+end.

@@ -1,0 +1,6 @@
+var i: integer;
+begin
+  i := 0;
+  goto 10;
+  display(i)
+end.

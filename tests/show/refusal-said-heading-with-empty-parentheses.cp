@@ -1,0 +1,3 @@
+procedure p();
+begin display(1) end;
+begin p end.

@@ -1,0 +1,3 @@
+procedure p n: integer;
+begin display(n) end;
+begin p(1) end.

@@ -1,0 +1,2 @@
+var größe: integer;
+begin end.

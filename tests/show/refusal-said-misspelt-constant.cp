@@ -1,0 +1,3 @@
+type colour = (red, green, blue);
+var c: colour;
+begin c := grene end.

@@ -1,0 +1,1 @@
+begin dipslay(1) end.

@@ -1,0 +1,3 @@
+procedrue p;
+begin display(1) end;
+begin p end.

@@ -1,0 +1,2 @@
+var n: intger;
+begin n := 1 end.

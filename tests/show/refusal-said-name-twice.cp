@@ -1,0 +1,5 @@
+type m = monitor; begin end;
+var y: m;
+begin
+  init y y
+end.

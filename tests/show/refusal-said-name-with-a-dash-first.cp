@@ -1,0 +1,2 @@
+var _x: integer;
+begin end.

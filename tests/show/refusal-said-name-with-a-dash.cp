@@ -1,0 +1,2 @@
+var total-sum: integer;
+begin end.

@@ -1,0 +1,2 @@
+var 1st: integer;
+begin end.

@@ -1,0 +1,5 @@
+var x: integer;
+begin
+  x := 2;
+  display(10 x)
+end.

@@ -1,0 +1,4 @@
+var x, y: integer;
+begin
+  x := 2 y := 3
+end.

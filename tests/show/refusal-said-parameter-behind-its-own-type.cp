@@ -1,0 +1,4 @@
+type box = monitor; begin end;
+worker = process(box b);
+begin end;
+begin end.

@@ -1,0 +1,3 @@
+procedure p(integer n);
+begin display(n) end;
+begin p(1) end.

@@ -1,0 +1,3 @@
+procedure p(a: integer := 5);
+begin display(a) end;
+begin p(1) end.

@@ -1,0 +1,6 @@
+type counter = monitor;
+  var n: integer;
+  private procedure up;
+  begin n := n + 1 end;
+begin n := 0 end;
+begin end.

@@ -1,0 +1,3 @@
+program main;
+var x: integer;
+begin x := 1; display(x) end.

@@ -1,0 +1,3 @@
+type p = process;
+begin display(1) end;
+var a: p;

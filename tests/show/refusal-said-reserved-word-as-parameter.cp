@@ -1,0 +1,3 @@
+type worker = process(in: integer);
+begin end;
+begin end.

@@ -1,0 +1,5 @@
+type outer = monitor;
+  type inner = class;
+  begin end;
+begin end;
+begin end.

@@ -1,0 +1,4 @@
+var x: record n: integer end; y: record n: integer end;
+begin
+  x := y
+end.

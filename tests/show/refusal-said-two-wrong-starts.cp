@@ -1,0 +1,7 @@
+type
+box = monitor; begin end;
+worker = process(b: box); begin end;
+var b: box; n: integer; w: worker;
+begin
+  init b, w(n), n
+end.

@@ -1,0 +1,6 @@
+procedure p;
+begin
+  var x: integer;
+  x := 1
+end;
+begin p end.

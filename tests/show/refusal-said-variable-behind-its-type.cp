@@ -1,0 +1,4 @@
+var integer x;
+begin
+  x := 1
+end.

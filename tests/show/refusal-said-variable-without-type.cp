@@ -1,0 +1,4 @@
+var x, y;
+begin
+  x := 1
+end.
