@@ -9,8 +9,7 @@ ghost use Rattle.cp_at_once.specs.Legs.{EndsQuietly, HasLeg, ends_quietly};
 
 use crate::entering::enters_next;
 use cp_machine::{Event, Kernel, Moved, State, Ticks, Watch, local_step, step};
-use cp_run::{Limits, candidates};
-use cp_slots::Resolved;
+use cp_run::{Job, candidates};
 use std::sync::ledger::Ledger;
 
 /// Whether a leg that ends in this event may be made at once: a kernel call that is no `enter`, or the end of the process.
@@ -25,24 +24,18 @@ fn is_quiet(event: Event) -> bool
 }
 
 /// Makes the leg of a ready process. Answers the event that it ends in; `Local` where it is longer than the limit of steps.
-fn take_leg<S: Ledger>(
-    program: &Resolved,
-    limits: Limits,
-    state: &mut State,
-    pid: u8,
-    steps: &mut Ticks<S>,
-) -> Event
-    requires own { IsStateOf program.now state.old }
+fn take_leg<S: Ledger>(job: &Job<'_>, state: &mut State, pid: u8, steps: &mut Ticks<S>) -> Event
+    requires own { IsStateOf job.now.program.now state.old }
     requires ready { is_ready (machine_of state.old) pid ≡ true }
     requires free { is_pending (machine_of state.old) ≡ false }
     requires quiet { output_of (machine_of state.old) ≡ [] }
-    ensures own { IsStateOf program.now state.new }
-    ensures leg { ends_quietly result ≡ true → EndsQuietly program.now limits.discipline (machine_of state.old) pid (machine_of state.new) }
+    ensures own { IsStateOf job.now.program.now state.new }
+    ensures leg { ends_quietly result ≡ true → EndsQuietly job.now.program.now job.now.limits.discipline (machine_of state.old) pid (machine_of state.new) }
     ensures kept { (moved : ℕ → Bool) (before : Machine) → KeepBodies moved before (machine_of state.old) → moved pid ≡ true → KeepBodies moved before (machine_of state.new) }
 {
-    for _ in 0..limits.steps {
-        if !local_step(program, state, pid, steps) {
-            let event = step(program, state, pid, steps);
+    for _ in 0..job.limits.steps {
+        if !local_step(job.program, state, pid, steps) {
+            let event = step(job.program, state, pid, steps);
             let Event::Local = event else {
                 return event;
             };
@@ -56,26 +49,25 @@ fn take_leg<S: Ledger>(
 
 // Whether the leg of a ready process may be made at once. There is room for a state, which differs by what some processes moved alone.
 fn has_quiet_leg<S: Ledger>(
-    program: &Resolved,
-    limits: Limits,
+    job: &Job<'_>,
     state: &State,
     ahead: &mut State,
     moved: &Moved,
     pid: u8,
     steps: &mut Ticks<S>,
 ) -> bool
-    requires own { IsStateOf program.now state.now }
-    requires ahead { IsStateOf program.now ahead.old }
+    requires own { IsStateOf job.now.program.now state.now }
+    requires ahead { IsStateOf job.now.program.now ahead.old }
     requires ready { is_ready (machine_of state.now) pid ≡ true }
     requires free { is_pending (machine_of state.now) ≡ false }
     requires quiet { output_of (machine_of state.now) ≡ [] }
     requires kept { KeepBodies (has_moved moved.now) (machine_of state.now) (machine_of ahead.old) }
-    ensures ahead { IsStateOf program.now ahead.new }
+    ensures ahead { IsStateOf job.now.program.now ahead.new }
     ensures kept { (moved : ℕ → Bool) → moved pid ≡ true → KeepBodies moved (machine_of state.now) (machine_of ahead.new) }
-    ensures leg { result ≡ true → HasLeg program.now limits.discipline (machine_of state.now) pid }
+    ensures leg { result ≡ true → HasLeg job.now.program.now job.now.limits.discipline (machine_of state.now) pid }
 {
     ahead.take_moved(state, moved);
-    let event = take_leg(program, limits, ahead, pid, steps);
+    let event = take_leg(job, ahead, pid, steps);
     if !is_quiet(event) {
         return false;
     }
@@ -87,29 +79,28 @@ fn has_quiet_leg<S: Ledger>(
 /// The least ready process whose leg may be made at once: it ends in a call that is no `enter` or in the end of the process, and leaves the status of each
 /// component as it was. There is none where it is to be chosen who enters a monitor. There is room for a state.
 pub fn process_at_once<S: Ledger>(
-    program: &Resolved,
-    limits: Limits,
+    job: &Job<'_>,
     state: &State,
     ahead: &mut State,
     steps: &mut Ticks<S>,
 ) -> Option<u8>
-    requires own { IsStateOf program.now state.now }
-    requires ahead { IsStateOf program.now ahead.old }
+    requires own { IsStateOf job.now.program.now state.now }
+    requires ahead { IsStateOf job.now.program.now ahead.old }
     requires quiet { output_of (machine_of state.now) ≡ [] }
-    ensures ahead { IsStateOf program.now ahead.new }
-    ensures leg { IfSome result (λ p. HasLeg program.now limits.discipline (machine_of state.now) p) }
-    ensures may { IfSome result (λ p. may (slots program.now limits.discipline) (machine_of state.now) p ≡ true) }
+    ensures ahead { IsStateOf job.now.program.now ahead.new }
+    ensures leg { IfSome result (λ p. HasLeg job.now.program.now job.now.limits.discipline (machine_of state.now) p) }
+    ensures may { IfSome result (λ p. may (slots job.now.program.now job.now.limits.discipline) (machine_of state.now) p ≡ true) }
 {
     if state.pending().is_some() {
         return None;
     }
-    let numbers = candidates(program, limits, state);
+    let numbers = candidates(job, state);
     let mut moved = Moved::everybody();
     for pid in numbers.as_slice() {
-        if enters_next(program, state, *pid) {
+        if enters_next(job.program, state, *pid) {
             continue;
         }
-        if has_quiet_leg(program, limits, state, ahead, &moved, *pid, steps) {
+        if has_quiet_leg(job, state, ahead, &moved, *pid, steps) {
             return Some(*pid);
         }
         moved = Moved::nobody();

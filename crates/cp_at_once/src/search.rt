@@ -21,9 +21,8 @@ use cp_ends::sight::Unseen;
 use cp_ends::told::Told;
 use cp_machine::{State, Ticks};
 use cp_progress::{ObserveProgress, Progress, Unobserved};
-use cp_run::{Halt, Limits};
+use cp_run::{Halt, Job};
 use cp_search::{SearchJob, Visit, visit_all};
-use cp_slots::Resolved;
 use std::alloc::{AllocError, Global};
 use std::marker::Brand;
 use std::sync::ledger::{Blank, Ledger};
@@ -39,31 +38,24 @@ struct SearchAtOnce<S: Ledger> {
 
 /// Goes on from the opening state, and from each state that is kept, with each number that may be chosen there. Where a choice is due after that, a leg
 /// that may be made at once is, up to so many in a row, and the state after them is kept. Stops where more than so many states would be.
-pub fn search_at_once(
-    alloc: Global,
-    program: &Resolved,
-    limits: Limits,
-    most: u32,
-) -> Result<FoundAtOnce, AllocError>
-    ensures { IfOk result (λ found. IsAnswer program.now limits.discipline limits.steps most found) }
+pub fn search_at_once(alloc: Global, job: &Job<'_>, most: u32) -> Result<FoundAtOnce, AllocError>
+    ensures { IfOk result (λ found. IsAnswer job.now.program.now job.now.limits.discipline job.now.limits.steps most found) }
 {
-    search_at_once_with(alloc, program, limits, most, &mut Unobserved)
+    search_at_once_with(alloc, job, most, &mut Unobserved)
 }
 
 /// The same, where an observer is told how far the search has come.
 pub fn search_at_once_with<O: ObserveProgress>(
     alloc: Global,
-    program: &Resolved,
-    limits: Limits,
+    job: &Job<'_>,
     most: u32,
     observer: &mut O,
 ) -> Result<FoundAtOnce, AllocError>
-    ensures { IfOk result (λ found. IsAnswer program.now limits.discipline limits.steps most found) }
+    ensures { IfOk result (λ found. IsAnswer job.now.program.now job.now.limits.discipline job.now.limits.steps most found) }
 {
     let job = SearchJob {
         alloc,
-        program,
-        limits,
+        run: *job,
         most,
     };
     search_with::<O, Brand>(&job, observer, Blank::new(1))
@@ -77,9 +69,9 @@ fn search_with<O: ObserveProgress, S: Ledger>(
     requires name { blank.name ≡ S.name }
     requires parts { blank.parts ≡ S.parts }
     requires one { S.parts ≡ 1 }
-    ensures { IfOk result (λ found. Answers job.now.program.now (slot_graph job.now.program.now job.now.limits.discipline job.now.limits.steps) (HasLeg job.now.program.now job.now.limits.discipline) job.now.most 8 found found.is_whole) }
+    ensures { IfOk result (λ found. Answers job.now.run.program.now (slot_graph job.now.run.program.now job.now.run.limits.discipline job.now.run.limits.steps) (HasLeg job.now.run.program.now job.now.run.limits.discipline) job.now.most 8 found found.is_whole) }
 {
-    let mut state = State::start(job.alloc, job.program, job.limits.discipline)?;
+    let mut state = State::start(job.alloc, job.run.program, job.run.limits.discipline)?;
     let found = FoundAtOnce::new(job.alloc, &state)?;
     let told = Told::new(job.alloc, Unseen);
     let mut search: SearchAtOnce<S> = SearchAtOnce {
@@ -90,8 +82,7 @@ fn search_with<O: ObserveProgress, S: Ledger>(
     };
     let arrival = open(
         job.alloc,
-        job.program,
-        job.limits,
+        &job.run,
         &mut state,
         &mut search.told,
         &mut search.steps,
@@ -117,13 +108,13 @@ impl<S: Ledger> SearchAtOnce<S> {
         arrival: Halt<End>,
         origin: OriginAtOnce,
     ) -> Result<bool, AllocError>
-        requires own { IsStateOf job.now.program.now state.old }
+        requires own { IsStateOf job.now.run.program.now state.old }
         requires quiet { output_of (machine_of state.old) ≡ [] }
-        requires ahead { IsStateOf job.now.program.now self.old.ahead }
+        requires ahead { IsStateOf job.now.run.program.now self.old.ahead }
         requires numbers { length origin.numbers.items ≤ 1 }
-        ensures own { IsStateOf job.now.program.now state.new }
-        ensures found { IfOk result (λ is_room. (states : List (Machine × List ℕ)) (word : List ℕ) (a : SlotArrival) → Holds job.now.program.now (slot_graph job.now.program.now job.now.limits.discipline job.now.limits.steps) job.now.most self.old.found states → IsWordOf states origin word → ArrivesAt (slot_graph job.now.program.now job.now.limits.discipline job.now.limits.steps) word a → goal_at arrival (machine_of state.old) ≡ a.goal → self.old.told.values.items ≡ a.shown → GoesOn job.now.program.now (slot_graph job.now.program.now job.now.limits.discipline job.now.limits.steps) (HasLeg job.now.program.now job.now.limits.discipline) job.now.most 8 self.old.found states self.new.found a is_room) }
-        ensures ahead { IsStateOf job.now.program.now self.new.ahead }
+        ensures own { IsStateOf job.now.run.program.now state.new }
+        ensures found { IfOk result (λ is_room. (states : List (Machine × List ℕ)) (word : List ℕ) (a : SlotArrival) → Holds job.now.run.program.now (slot_graph job.now.run.program.now job.now.run.limits.discipline job.now.run.limits.steps) job.now.most self.old.found states → IsWordOf states origin word → ArrivesAt (slot_graph job.now.run.program.now job.now.run.limits.discipline job.now.run.limits.steps) word a → goal_at arrival (machine_of state.old) ≡ a.goal → self.old.told.values.items ≡ a.shown → GoesOn job.now.run.program.now (slot_graph job.now.run.program.now job.now.run.limits.discipline job.now.run.limits.steps) (HasLeg job.now.run.program.now job.now.run.limits.discipline) job.now.most 8 self.old.found states self.new.found a is_room) }
+        ensures ahead { IsStateOf job.now.run.program.now self.new.ahead }
     {
         let mut arrival = arrival;
         let mut origin = origin;
@@ -135,15 +126,14 @@ impl<S: Ledger> SearchAtOnce<S> {
             }
             let ahead = &mut self.ahead;
             let steps = &mut self.steps;
-            let Some(pid) = process_at_once(job.program, job.limits, state, ahead, steps) else {
+            let Some(pid) = process_at_once(&job.run, state, ahead, steps) else {
                 return self.keep(job, state, origin);
             };
             origin.numbers.push(pid);
             self.told.values.clear();
             arrival = choose(
                 job.alloc,
-                job.program,
-                job.limits,
+                &job.run,
                 state,
                 pid,
                 &mut self.told,
@@ -176,10 +166,10 @@ impl<S: Ledger> SearchAtOnce<S> {
         state: &State,
         origin: OriginAtOnce,
     ) -> Result<bool, AllocError>
-        requires own { IsStateOf job.now.program.now state.now }
+        requires own { IsStateOf job.now.run.program.now state.now }
         requires quiet { output_of (machine_of state.now) ≡ [] }
         ensures ahead { self.new.ahead ≡ self.old.ahead }
-        ensures found { IfOk result (λ is_room. (g : SlotGraph) (states : List (Machine × List ℕ)) (word : List ℕ) → Holds job.now.program.now g job.now.most self.old.found states → IsWordOf states origin word → LeadsToPlace g (machine_of state.now) word → IsKept job.now.program.now g job.now.most self.old.found states self.new.found (machine_of state.now) is_room) }
+        ensures found { IfOk result (λ is_room. (g : SlotGraph) (states : List (Machine × List ℕ)) (word : List ℕ) → Holds job.now.run.program.now g job.now.most self.old.found states → IsWordOf states origin word → LeadsToPlace g (machine_of state.now) word → IsKept job.now.run.program.now g job.now.most self.old.found states self.new.found (machine_of state.now) is_room) }
     {
         let row = self.found.kept.row_of(job.alloc, state)?;
         if self.found.kept.contains(&row) {
@@ -201,13 +191,13 @@ impl<S: Ledger> Visit for SearchAtOnce<S> {
     ghost use Rattle.cp_at_once.specs.Following.{Answers, GoesThrough, Within};
     ghost use Rattle.cp_at_once.specs.Legs.{HasLeg};
 
-    ghost before = { λ v job n. IsStateOf job.program.now v.ahead × GoesThrough job.program.now (slot_graph job.program.now job.limits.discipline job.limits.steps) (HasLeg job.program.now job.limits.discipline) job.most 8 n v.found };
+    ghost before = { λ v job n. IsStateOf job.run.program.now v.ahead × GoesThrough job.run.program.now (slot_graph job.run.program.now job.run.limits.discipline job.run.limits.steps) (HasLeg job.run.program.now job.run.limits.discipline) job.most 8 n v.found };
 
-    ghost within = { λ v job at m done. IsStateOf job.program.now v.ahead × Within job.program.now (slot_graph job.program.now job.limits.discipline job.limits.steps) (HasLeg job.program.now job.limits.discipline) job.most 8 v.found at m done };
+    ghost within = { λ v job at m done. IsStateOf job.run.program.now v.ahead × Within job.run.program.now (slot_graph job.run.program.now job.run.limits.discipline job.run.limits.steps) (HasLeg job.run.program.now job.run.limits.discipline) job.most 8 v.found at m done };
 
-    ghost over = { λ v job. Answers job.program.now (slot_graph job.program.now job.limits.discipline job.limits.steps) (HasLeg job.program.now job.limits.discipline) job.most 8 v.found true };
+    ghost over = { λ v job. Answers job.run.program.now (slot_graph job.run.program.now job.run.limits.discipline job.run.limits.steps) (HasLeg job.run.program.now job.run.limits.discipline) job.most 8 v.found true };
 
-    ghost stops = { λ v job at. Answers job.program.now (slot_graph job.program.now job.limits.discipline job.limits.steps) (HasLeg job.program.now job.limits.discipline) job.most 8 v.found false };
+    ghost stops = { λ v job at. Answers job.run.program.now (slot_graph job.run.program.now job.run.limits.discipline job.run.limits.steps) (HasLeg job.run.program.now job.run.limits.discipline) job.most 8 v.found false };
 
     fn len(&self) -> usize {
         self.found.kept.len()
@@ -237,8 +227,7 @@ impl<S: Ledger> Visit for SearchAtOnce<S> {
         self.told.values.clear();
         let arrival = choose(
             job.alloc,
-            job.program,
-            job.limits,
+            &job.run,
             next,
             process,
             &mut self.told,

@@ -4,7 +4,7 @@ use Rattle.std.specs.Prelude.{Contains, slice_get}
 use Rattle.std.proofs.lemmas.Bool.{ltb-true, cases_order}
 use Rattle.std.proofs.lemmas.List.Elements.{Contains-append_left, Contains-append_right, Contains-append_cases, Contains-push, Contains-push_cases}
 use Rattle.std.proofs.lemmas.Option.{same_Some, slice_get_read, slice_get_within, get_or_from_slice_get}
-use Rattle.cp_cover.proofs.Words.{Tables, Machine, System, ReachedKey, CoverMark, Adds}
+use Rattle.cp_cover.proofs.Words.{Tables, Machine, System, StateKey, CoverMark, Adds}
 use Rattle.cp_key.proofs.Keys.{key_tells}
 use Rattle.cp_run.specs.Run.{Node, may, those_below, chosen, opened}
 use Rattle.cp_cover.specs.Reached.{IsDue, IsReached, chosen_marks, opened_marks}
@@ -52,7 +52,7 @@ pub later : (sys : System Machine) (steps d k : ℕ) (mark : CoverMark) → d �
 later sys steps d k mark le (inl h) = inl h
 later sys steps d k mark le (inr h) = let lt = h.3 in inr (h.0, h.1, h.2, omega (arith, lt, le), h.4, h.5, h.6)
 
-module _ (r : Tables) (sys : System Machine) (steps d : ℕ) (layer : List ReachedKey) where
+module _ (r : Tables) (sys : System Machine) (steps d : ℕ) (layer : List StateKey) where
   pub from_none : (marks : List CoverMark) → AreReached sys steps d marks → FromLayer r sys steps d layer 0 marks []
   from_none marks is =
       record {
@@ -63,12 +63,12 @@ module _ (r : Tables) (sys : System Machine) (steps d : ℕ) (layer : List Reach
         own = λ key h. absurd (none_in key h);
       }
 
-  same_machine : (key other : ReachedKey) (m n : Machine) (i : ℕ) → slice_get layer i ≡ Some key → slice_get layer i ≡ Some other → IsKeyOf key m → IsKeyOf other n → m ≡ n
+  same_machine : (key other : StateKey) (m n : Machine) (i : ℕ) → slice_get layer i ≡ Some key → slice_get layer i ≡ Some other → IsKeyOf key m → IsKeyOf other n → m ≡ n
   same_machine key other m n i at to k o =
       let one : key ≡ other = same_Some key other (sym at ∙ to) in
-      key_tells m n (sym k ∙ ap (λ (x : ReachedKey). x.bytes.items) one ∙ o)
+      key_tells m n (sym k ∙ ap (λ (x : StateKey). x.bytes.items) one ∙ o)
 
-  pub from_more : (count : ℕ) (key : ReachedKey) (m : Machine) (ps : List ℕ) (marks marks2 : List CoverMark) (next next2 : List ReachedKey) → FromLayer r sys steps d layer count marks next → slice_get layer count ≡ Some key → IsDue sys steps d m → IsKeyOf key m → ps ≡ those_below sys.processes (may sys m) → FromState r sys steps m ps marks next marks2 next2 → FromLayer r sys steps d layer (count + 1) marks2 next2
+  pub from_more : (count : ℕ) (key : StateKey) (m : Machine) (ps : List ℕ) (marks marks2 : List CoverMark) (next next2 : List StateKey) → FromLayer r sys steps d layer count marks next → slice_get layer count ≡ Some key → IsDue sys steps d m → IsKeyOf key m → ps ≡ those_below sys.processes (may sys m) → FromState r sys steps m ps marks next marks2 next2 → FromLayer r sys steps d layer (count + 1) marks2 next2
   from_more count key m ps marks marks2 next next2 f at due is all g =
       record {
         kept = λ mark h. g.kept mark (f.kept mark h);
@@ -86,7 +86,7 @@ module _ (r : Tables) (sys : System Machine) (steps d : ℕ) (layer : List Reach
         own = λ k h. ⊎_elim (λ (o : Contains next k). f.own k o) (λ x. (x.1, x.3, (m, x.0, due, may_of x.0 x.2, x.4), x.5)) (g.own k h);
       }
     where
-      here : (i : ℕ) (k : ReachedKey) (n : Machine) → i ≡ count → slice_get layer i ≡ Some k → IsKeyOf k n → n ≡ m
+      here : (i : ℕ) (k : StateKey) (n : Machine) → i ≡ count → slice_get layer i ≡ Some k → IsKeyOf k n → n ≡ m
       here i k n e to j = same_machine k key n m count (sym (ap (slice_get layer) e) ∙ to) at j is
 
       wanted : (p : ℕ) → may sys m p ≡ true → Contains ps p
@@ -98,10 +98,10 @@ module _ (r : Tables) (sys : System Machine) (steps d : ℕ) (layer : List Reach
       further : (o : Machine) → HasKey next o → HasKey next2 o
       further o h = (h.0, g.kept_keys h.0 h.1, h.2)
 
-  pub from_all : (count : ℕ) (marks : List CoverMark) (next : List ReachedKey) → length layer ≤ count → IsLayer r sys steps d layer → FromLayer r sys steps d layer count marks next → IsLayer r sys steps (suc d) next × AreReached sys steps (suc d) marks
+  pub from_all : (count : ℕ) (marks : List CoverMark) (next : List StateKey) → length layer ≤ count → IsLayer r sys steps d layer → FromLayer r sys steps d layer count marks next → IsLayer r sys steps (suc d) next × AreReached sys steps (suc d) marks
   from_all count marks next le is f = (made, record { reached = f.only; all = all })
     where
-      place : (key : ReachedKey) → Contains layer key → (i : ℕ) × (i < count) × (slice_get layer i ≡ Some key)
+      place : (key : StateKey) → Contains layer key → (i : ℕ) × (i < count) × (slice_get layer i ≡ Some key)
       place key c = let lt = c.1 in (c.0, omega (arith, lt, le), slice_get_read layer (length layer) c.0 key refl c.1 (sym c.2))
 
       made : IsLayer r sys steps (suc d) next
@@ -129,11 +129,11 @@ module _ (r : Tables) (sys : System Machine) (steps d : ℕ) (layer : List Reach
           (λ (apart : (x.0 < d) ⊎ (d < x.0)). ⊎_elim (λ (less : x.0 < d). f.kept mark (inr (x.0, x.1, x.2, less, x.4, x.5, x.6))) (λ (more : d < x.0). absurd (omega (arith, lt, more))) apart)
           (cases_order x.0 d)
 
-pub own_keys : (r : Tables) (sys : System Machine) (steps d : ℕ) (keys : List ReachedKey) → IsLayer r sys steps d keys → AreOwn r keys
+pub own_keys : (r : Tables) (sys : System Machine) (steps d : ℕ) (keys : List StateKey) → IsLayer r sys steps d keys → AreOwn r keys
 own_keys r sys steps d keys is = λ key h. (let x = is.own key h in (x.0, x.1, x.3))
 
 -- a choice is due in the machine of a key
-pub key_machine : (r : Tables) (sys : System Machine) (steps d : ℕ) (keys : List ReachedKey) (i : ℕ) (key : ReachedKey) (m : Machine) → IsLayer r sys steps d keys → slice_get keys i ≡ Some key → IsKeyOf key m → IsDue sys steps d m
+pub key_machine : (r : Tables) (sys : System Machine) (steps d : ℕ) (keys : List StateKey) (i : ℕ) (key : StateKey) (m : Machine) → IsLayer r sys steps d keys → slice_get keys i ≡ Some key → IsKeyOf key m → IsDue sys steps d m
 key_machine r sys steps d keys i key m is at k =
     let x = is.own key (contains_at keys i key at) in
     subst (IsDue sys steps d) (key_tells x.0 m (sym x.3 ∙ k)) x.2
@@ -151,7 +151,7 @@ first_marks sys steps marks h =
     all mark (inl o) = h.added mark o
     all mark (inr x) = let lt = x.3 in absurd (omega (arith, lt))
 
-pub first_layer : (r : Tables) (sys : System Machine) (steps : ℕ) (keys : List ReachedKey) → AddsNode r [] (opened sys steps) keys → IsLayer r sys steps 0 keys
+pub first_layer : (r : Tables) (sys : System Machine) (steps : ℕ) (keys : List StateKey) → AddsNode r [] (opened sys steps) keys → IsLayer r sys steps 0 keys
 first_layer r sys steps keys h =
     record {
       own = λ key c. ⊎_elim (λ (n : Contains [] key). absurd (none_in key n)) (λ x. (x.0, x.1, x.2, x.3)) (h.only key c);
@@ -165,5 +165,5 @@ same_marks sys steps d a b h is =
       all = λ mark x. h.added mark (is.all mark x);
     }
 
-pub open_layer : (r : Tables) (sys : System Machine) (steps : ℕ) (old keys : List ReachedKey) (node : Node Machine) → old ≡ [] → opened sys steps ≡ node → AddsNode r old node keys → IsLayer r sys steps 0 keys
+pub open_layer : (r : Tables) (sys : System Machine) (steps : ℕ) (old keys : List StateKey) (node : Node Machine) → old ≡ [] → opened sys steps ≡ node → AddsNode r old node keys → IsLayer r sys steps 0 keys
 open_layer r sys steps old keys node none is h = first_layer r sys steps keys (subst (λ n. AddsNode r [] n keys) (sym is) (subst (λ l. AddsNode r l node keys) none h))

@@ -1,6 +1,6 @@
 -- What comes of going on from one state.
 use Rattle.std.proofs.Common.{◌≡◌, ◌⊎◌, inl, inr, ⊎_elim, ℕ, Bool, true, false, if◌then◌else◌, List, [], ◌∷◌, ◌++◌, refl, sym, ap, subst, ◌∙◌, arith}
-use Rattle.cp_cover.proofs.Words.{Contains, Tables, Machine, System, ReachedKey, CoverMark, Adds, chosen_marks}
+use Rattle.cp_cover.proofs.Words.{Contains, Tables, Machine, System, StateKey, CoverMark, Adds, chosen_marks}
 use Rattle.std.specs.List.{list_any}
 use Rattle.std.specs.Cmp.Lexicographic.{bytes_decides}
 use Rattle.std.specs.Prelude.{◌||◌}
@@ -13,21 +13,21 @@ use Rattle.cp_run.specs.Run.{Node, Halted, Choosing, chosen}
 use Rattle.cp_ends.specs.contracts.state_key.ReachedKeyPartialEq.TheImpl as key_eq
 use Rattle.cp_cover.specs.Layers.{IsKeyOf, HasKey, AddsState, AddsNode, FromState}
 
-abbrev pub same_key : ReachedKey → ReachedKey → Bool
+abbrev pub same_key : StateKey → StateKey → Bool
 same_key = (key_eq.ghosts).eq
 
 -- a key that is known is that of one of the keys
-known_key : (keys : List ReachedKey) (key : ReachedKey) → list_any (same_key key) keys ≡ true → (other : ReachedKey) × Contains keys other × (other.bytes.items ≡ key.bytes.items)
+known_key : (keys : List StateKey) (key : StateKey) → list_any (same_key key) keys ≡ true → (other : StateKey) × Contains keys other × (other.bytes.items ≡ key.bytes.items)
 known_key [] key h = absurd (cc)
 known_key (k ∷ keys) key h = by (same_key key k) refl (known_key keys key)
   where
-    by : (b : Bool) → same_key key k ≡ b → (list_any (same_key key) keys ≡ true → (other : ReachedKey) × Contains keys other × (other.bytes.items ≡ key.bytes.items)) → (other : ReachedKey) × Contains (k ∷ keys) other × (other.bytes.items ≡ key.bytes.items)
+    by : (b : Bool) → same_key key k ≡ b → (list_any (same_key key) keys ≡ true → (other : StateKey) × Contains keys other × (other.bytes.items ≡ key.bytes.items)) → (other : StateKey) × Contains (k ∷ keys) other × (other.bytes.items ≡ key.bytes.items)
     by true e on = (k, Contains-append_left (k ∷ []) keys k (Contains-push [] k), sym ((bytes_decides key.bytes.items k.bytes.items).0 e))
     by false e on =
         let rest = on (sym (ap (λ b. b || list_any (same_key key) keys) e) ∙ h) in
         (rest.0, Contains-append_right (k ∷ []) keys rest.0 rest.1, rest.2)
 
-pub adds_state : (keys : List ReachedKey) (key : ReachedKey) (m : Machine) → IsKeyOf key m → AddsState keys m (insert_key same_key keys key)
+pub adds_state : (keys : List StateKey) (key : StateKey) (m : Machine) → IsKeyOf key m → AddsState keys m (insert_key same_key keys key)
 adds_state keys key m is = by (list_any (same_key key) keys) refl
   where
     by : (b : Bool) → list_any (same_key key) keys ≡ b → AddsState keys m (if b then keys else keys ++ key ∷ [])
@@ -46,7 +46,7 @@ node_of_choice : Node Machine → Machine → Machine
 node_of_choice (Halted kind m) n = n
 node_of_choice (Choosing m) n = m
 
-pub node_choosing : (r : Tables) (before after : List ReachedKey) (m : Machine) → IsMachineOf r m → AddsState before m after → AddsNode r before (Choosing m) after
+pub node_choosing : (r : Tables) (before after : List StateKey) (m : Machine) → IsMachineOf r m → AddsState before m after → AddsNode r before (Choosing m) after
 unfolding node_of_choice
 node_choosing r before after m own h =
     record {
@@ -56,14 +56,14 @@ node_choosing r before after m own h =
       only = λ key c. ⊎_elim (λ (o : Contains before key). inl o) (λ (is : IsKeyOf key m). inr (m, own, refl, is)) (h.only key c);
     }
 
-pub node_halted : (r : Tables) (before : List ReachedKey) (kind : OutcomeKind) (m : Machine) → AddsNode r before (Halted kind m) before
+pub node_halted : (r : Tables) (before : List StateKey) (kind : OutcomeKind) (m : Machine) → AddsNode r before (Halted kind m) before
 node_halted r before kind m = record { kept = λ key h. h; few = omega arith; found = λ n e. absurd (cc); only = λ key h. inl h }
 
 module _ (r : Tables) (sys : System Machine) (steps : ℕ) (m : Machine) where
   none_in : {X : Type 0} (x : X) → Contains [] x → ⊥
   none_in x h = let lt = h.1 in absurd (omega (arith, lt))
 
-  pub state_none : (marks : List CoverMark) (keys : List ReachedKey) → FromState r sys steps m [] marks keys marks keys
+  pub state_none : (marks : List CoverMark) (keys : List StateKey) → FromState r sys steps m [] marks keys marks keys
   state_none marks keys =
       record {
         kept = λ mark h. h;
@@ -74,7 +74,7 @@ module _ (r : Tables) (sys : System Machine) (steps : ℕ) (m : Machine) where
         own = λ key h. inl h;
       }
 
-  pub state_more : (ps : List ℕ) (p : ℕ) (a b c : List CoverMark) (k l q : List ReachedKey) → FromState r sys steps m ps a k b l → Adds b (chosen_marks sys steps m p) c → AddsNode r l (chosen sys steps m p) q → FromState r sys steps m (ps ++ p ∷ []) a k c q
+  pub state_more : (ps : List ℕ) (p : ℕ) (a b c : List CoverMark) (k l q : List StateKey) → FromState r sys steps m ps a k b l → Adds b (chosen_marks sys steps m p) c → AddsNode r l (chosen sys steps m p) q → FromState r sys steps m (ps ++ p ∷ []) a k c q
   state_more ps p a b c k l q f g h =
       record {
         kept = λ mark i. g.kept mark (f.kept mark i);
@@ -89,6 +89,6 @@ module _ (r : Tables) (sys : System Machine) (steps : ℕ) (m : Machine) where
       only_before mark (inl i) = inl i
       only_before mark (inr x) = inr (x.0, Contains-append_left ps (p ∷ []) x.0 x.1, x.2)
 
-      own_before : (key : ReachedKey) → Contains k key ⊎ ((o : ℕ) × (n : Machine) × Contains ps o × IsMachineOf r n × (chosen sys steps m o ≡ Choosing n) × IsKeyOf key n) → Contains k key ⊎ ((o : ℕ) × (n : Machine) × Contains (ps ++ p ∷ []) o × IsMachineOf r n × (chosen sys steps m o ≡ Choosing n) × IsKeyOf key n)
+      own_before : (key : StateKey) → Contains k key ⊎ ((o : ℕ) × (n : Machine) × Contains ps o × IsMachineOf r n × (chosen sys steps m o ≡ Choosing n) × IsKeyOf key n) → Contains k key ⊎ ((o : ℕ) × (n : Machine) × Contains (ps ++ p ∷ []) o × IsMachineOf r n × (chosen sys steps m o ≡ Choosing n) × IsKeyOf key n)
       own_before key (inl i) = inl i
       own_before key (inr x) = inr (x.0, x.1, Contains-append_left ps (p ∷ []) x.0 x.2, x.3, x.4, x.5)

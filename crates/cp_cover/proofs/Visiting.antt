@@ -5,7 +5,7 @@ use Rattle.cp_machine.specs.declared.discipline.Discipline.{Discipline}
 use Rattle.cp_run.specs.Run.{Node, may, those_below, chosen, opened}
 use Rattle.cp_run.specs.Slots.{slots}
 use Rattle.cp_search.specs.Searched.{IsSearched}
-use Rattle.cp_cover.proofs.Words.{Tables, Machine, System, ReachedKey, CoverMark, Adds}
+use Rattle.cp_cover.proofs.Words.{Tables, Machine, System, StateKey, CoverMark, Adds}
 use Rattle.cp_cover.proofs.FromLayer.{first_marks, from_all, from_more, from_none, key_machine, open_layer}
 use Rattle.cp_cover.proofs.FromState.{state_more, state_none}
 use Rattle.cp_cover.specs.Layers.{AddsNode, IsKeyOf}
@@ -18,7 +18,7 @@ not_stopped over stops None e h = h
 not_stopped over stops (Some at) e h = absurd (cc)
 
 -- the same limits
-pub known_as : (r : Tables) (discipline other : Discipline) (steps more most d e : ℕ) (marks : List CoverMark) (layer : List ReachedKey) → discipline ≡ other → steps ≡ more → d ≡ e → IsKnown r (slots r discipline) steps most d marks layer → IsKnown r (slots r other) more most e marks layer
+pub known_as : (r : Tables) (discipline other : Discipline) (steps more most d e : ℕ) (marks : List CoverMark) (layer : List StateKey) → discipline ≡ other → steps ≡ more → d ≡ e → IsKnown r (slots r discipline) steps most d marks layer → IsKnown r (slots r other) more most e marks layer
 known_as r discipline other steps more most d e marks layer g s same h =
     subst
     (λ (x : Discipline). IsKnown r (slots r x) more most e marks layer)
@@ -26,7 +26,7 @@ known_as r discipline other steps more most d e marks layer g s same h =
     (subst (λ (x : ℕ). IsKnown r (slots r discipline) x most e marks layer) s (subst (λ (x : ℕ). IsKnown r (slots r discipline) steps most x marks layer) same h))
 
 module _ (r : Tables) (sys : System Machine) (steps most : ℕ) where
-  pub known_first : (old marks : List CoverMark) (before layer : List ReachedKey) (node : Node Machine) → 1 ≤ most → old ≡ [] → Adds old (opened_marks sys steps) marks → before ≡ [] → opened sys steps ≡ node → AddsNode r before node layer → IsKnown r sys steps most 0 marks layer
+  pub known_first : (old marks : List CoverMark) (before layer : List StateKey) (node : Node Machine) → 1 ≤ most → old ≡ [] → Adds old (opened_marks sys steps) marks → before ≡ [] → opened sys steps ≡ node → AddsNode r before node layer → IsKnown r sys steps most 0 marks layer
   known_first old marks before layer node some none noted empty is h =
       let few = h.few in
       let len = ap length empty in
@@ -36,21 +36,21 @@ module _ (r : Tables) (sys : System Machine) (steps most : ℕ) where
         few = omega (arith, few, len, some);
       }
 
-  module _ (d : ℕ) (layer : List ReachedKey) where
-    pub begun_first : (old next : List ReachedKey) (marks : List CoverMark) → layer ≡ old → next ≡ [] → IsKnown r sys steps most d marks old → IsBegun r sys steps most d layer 0 marks next
+  module _ (d : ℕ) (layer : List StateKey) where
+    pub begun_first : (old next : List StateKey) (marks : List CoverMark) → layer ≡ old → next ≡ [] → IsKnown r sys steps most d marks old → IsBegun r sys steps most d layer 0 marks next
     begun_first old next marks same empty k =
         subst
-        (λ (l : List ReachedKey). IsBegun r sys steps most d l 0 marks next)
+        (λ (l : List StateKey). IsBegun r sys steps most d l 0 marks next)
         (sym same)
         (subst
-        (λ (l : List ReachedKey). IsBegun r sys steps most d old 0 marks l)
+        (λ (l : List StateKey). IsBegun r sys steps most d old 0 marks l)
         (sym empty)
         (record { layer = k.layer; room = k.few; from = from_none r sys steps d old marks k.marks; few = omega arith }))
 
-    pub within_first : (at : ℕ) (key : ReachedKey) (m : Machine) (marks : List CoverMark) (next : List ReachedKey) → slice_get layer at ≡ Some key → IsKeyOf key m → IsBegun r sys steps most d layer at marks next → Within r sys steps most d layer at m [] marks next
+    pub within_first : (at : ℕ) (key : StateKey) (m : Machine) (marks : List CoverMark) (next : List StateKey) → slice_get layer at ≡ Some key → IsKeyOf key m → IsBegun r sys steps most d layer at marks next → Within r sys steps most d layer at m [] marks next
     within_first at key m marks next is here b = record { key = key; is = is; here = here; marks_before = marks; next_before = next; begun = b; from = state_none r sys steps m marks next; few = b.few }
 
-    pub within_more : (at : ℕ) (m : Machine) (ps : List ℕ) (p : ℕ) (marks marks2 : List CoverMark) (next next2 : List ReachedKey) → Within r sys steps most d layer at m ps marks next → Adds marks (chosen_marks sys steps m p) marks2 → AddsNode r next (chosen sys steps m p) next2 → length next2 ≤ most → Within r sys steps most d layer at m (ps ++ p ∷ []) marks2 next2
+    pub within_more : (at : ℕ) (m : Machine) (ps : List ℕ) (p : ℕ) (marks marks2 : List CoverMark) (next next2 : List StateKey) → Within r sys steps most d layer at m ps marks next → Adds marks (chosen_marks sys steps m p) marks2 → AddsNode r next (chosen sys steps m p) next2 → length next2 ≤ most → Within r sys steps most d layer at m (ps ++ p ∷ []) marks2 next2
     within_more at m ps p marks marks2 next next2 w noted node few =
         record {
           key = w.key;
@@ -63,7 +63,7 @@ module _ (r : Tables) (sys : System Machine) (steps most : ℕ) where
           few = few;
         }
 
-    pub begun_more : (at : ℕ) (m : Machine) (marks : List CoverMark) (next : List ReachedKey) → Within r sys steps most d layer at m (those_below sys.processes (may sys m)) marks next → IsBegun r sys steps most d layer (at + 1) marks next
+    pub begun_more : (at : ℕ) (m : Machine) (marks : List CoverMark) (next : List StateKey) → Within r sys steps most d layer at m (those_below sys.processes (may sys m)) marks next → IsBegun r sys steps most d layer (at + 1) marks next
     begun_more at m marks next w =
         let due = key_machine r sys steps d layer at w.key m w.begun.layer w.is w.here in
         record {
@@ -73,7 +73,7 @@ module _ (r : Tables) (sys : System Machine) (steps most : ℕ) where
           few = w.few;
         }
 
-    pub known_after : (marks : List CoverMark) (next : List ReachedKey) → IsWhole r sys steps most d layer marks next → IsKnown r sys steps most (suc d) marks next
+    pub known_after : (marks : List CoverMark) (next : List StateKey) → IsWhole r sys steps most d layer marks next → IsKnown r sys steps most (suc d) marks next
     known_after marks next w =
         let b = w.begun in
         let after = from_all r sys steps d layer w.count marks next w.all b.layer b.from in

@@ -13,5 +13,5 @@ pub use Rattle.cp_slots.specs.Tables.{Tables}
 pub use Rattle.cp_cover.specs.Layers.{AddsNode, AreReached, FromLayer, FromState, IsLayer}
 pub use Rattle.cp_cover.specs.Marks.{Adds}
 unfoldable pub use Rattle.cp_cover.specs.Reached.{chosen_marks, opened_marks}
-pub use Rattle.cp_ends.specs.declared.state_key.ReachedKey.{ReachedKey}
+pub use Rattle.cp_key.specs.declared.state_key.StateKey.{StateKey}
 pub use Rattle.cp_cover.specs.declared.mark.CoverMark.{CoverMark}

@@ -5,10 +5,9 @@ ghost use Rattle.cp_slots.specs.Tables.{Tables};
 ghost use Rattle.cp_machine.specs.System.{machine_of, IsStateOf};
 ghost use Rattle.cp_run.specs.Code.{node_of};
 ghost use Rattle.cp_cover.specs.Layers.{AddsNode, AddsState, AreOwn, IsKeyOf};
-ghost use Rattle.cp_ends.specs.declared.state_key.ReachedKey.{ReachedKey};
+ghost use Rattle.cp_key.specs.declared.state_key.StateKey.{StateKey};
 
-use cp_ends::state_key::ReachedKey;
-use cp_key::{Parts, thaw};
+use cp_key::{Parts, StateKey, thaw};
 use cp_machine::{Moved, State};
 use cp_run::{Halt, OutcomeKind};
 use cp_search::SearchJob;
@@ -18,7 +17,7 @@ use std::alloc::{AllocError, Global};
 /// States in which a choice is due, each once.
 #[derive(Drop)]
 pub struct Layer {
-    pub known: IndexSet<ReachedKey>,
+    pub known: IndexSet<StateKey>,
 }
 
 impl Layer {
@@ -35,7 +34,7 @@ impl Layer {
     pub fn add(&mut self, alloc: Global, state: &State) -> Result<(), AllocError>
         ensures { IfOk result (λ _. AddsState self.old.known.keys (machine_of state.now) self.new.known.keys) }
     {
-        let mut key = ReachedKey {
+        let mut key = StateKey {
             bytes: Vec::new(alloc),
         };
         key.take_from(state)?;
@@ -50,8 +49,8 @@ impl Layer {
         state: &State,
         halt: Halt<OutcomeKind>,
     ) -> Result<(), AllocError>
-        requires { IsStateOf job.now.program.now state.now }
-        ensures { IfOk result (λ _. AddsNode job.now.program.now self.old.known.keys (node_of halt (machine_of state.now)) self.new.known.keys) }
+        requires { IsStateOf job.now.run.program.now state.now }
+        ensures { IfOk result (λ _. AddsNode job.now.run.program.now self.old.known.keys (node_of halt (machine_of state.now)) self.new.known.keys) }
     {
         match halt {
             Halt::Choice => self.add(job.alloc, state),
@@ -71,7 +70,7 @@ impl Layer {
         requires { (r : Tables) × IsStateOf r state.old × AreOwn r self.now.known.keys }
         ensures own { (r : Tables) → IsStateOf r state.old → AreOwn r self.now.known.keys → IsStateOf r state.new }
         ensures none { result ≡ false → length self.now.known.keys ≤ number }
-        ensures key { result ≡ true → (key : ReachedKey) × (slice_get self.now.known.keys number ≡ Some key) × IsKeyOf key (machine_of state.new) }
+        ensures key { result ≡ true → (key : StateKey) × (slice_get self.now.known.keys number ≡ Some key) × IsKeyOf key (machine_of state.new) }
     {
         let Some(key) = self.known.get_index(number) else {
             return false;

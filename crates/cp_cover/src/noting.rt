@@ -13,8 +13,7 @@ ghost use Rattle.cp_cover.specs.Reached.{item_marks, wait_marks, opened_marks, c
 use crate::mark::CoverMark;
 use crate::marks::Marks;
 use cp_machine::{Entry, Event, State, Status, Ticks};
-use cp_run::{Halt, Limits, Observe, OutcomeKind, halt_at, observe_choice, observe_opening};
-use cp_slots::Resolved;
+use cp_run::{Halt, Job, Observe, OutcomeKind, halt_at, observe_choice, observe_opening};
 use std::alloc::AllocError;
 use std::sync::ledger::Ledger;
 
@@ -110,8 +109,7 @@ impl Observe for Marks {
     #[inline(always)]
     fn expect_step(
         &mut self,
-        _program: &Resolved,
-        _limits: Limits,
+        _job: &Job<'_>,
         state: &State,
         process: u8,
     ) -> Result<(), AllocError> {
@@ -121,8 +119,7 @@ impl Observe for Marks {
     #[inline(always)]
     fn see_step(
         &mut self,
-        _program: &Resolved,
-        _limits: Limits,
+        _job: &Job<'_>,
         state: &State,
         process: u8,
         _event: Event,
@@ -132,15 +129,14 @@ impl Observe for Marks {
 
     fn see_admission(
         &mut self,
-        _program: &Resolved,
-        _limits: Limits,
+        _job: &Job<'_>,
         _state: &State,
         _process: u8,
     ) -> Result<(), AllocError> {
         Ok(())
     }
 
-    fn see_choice(&mut self, _program: &Resolved, _limits: Limits, _state: &State, _number: u8) {}
+    fn see_choice(&mut self, _job: &Job<'_>, _state: &State, _number: u8) {}
 
     // Whoever made a local step waits nowhere.
     ghost passes = { λ unseen marks r discipline before after process seen step h. adds_local r before after process seen marks.known.keys step h.0 h.1 };
@@ -148,37 +144,35 @@ impl Observe for Marks {
 
 /// Takes a due choice, and notes what the stretch after it comes to.
 pub fn note_choice<S: Ledger>(
-    program: &Resolved,
-    limits: Limits,
+    job: &Job<'_>,
     state: &mut State,
     process: u8,
     steps: &mut Ticks<S>,
     marks: &mut Marks,
 ) -> Result<Halt<OutcomeKind>, AllocError>
-    requires own { IsStateOf program.now state.old }
-    requires may { may (slots program.now limits.discipline) (machine_of state.old) process ≡ true }
-    ensures node { IfOk result (λ h. chosen (slots program.now limits.discipline) limits.steps (machine_of state.old) process ≡ node_of h (machine_of state.new)) }
-    ensures own { IsStateOf program.now state.new }
-    ensures marks { IfOk result (λ _. Adds marks.old.known.keys (chosen_marks (slots program.now limits.discipline) limits.steps (machine_of state.old) process) marks.new.known.keys) }
+    requires own { IsStateOf job.now.program.now state.old }
+    requires may { may (slots job.now.program.now job.now.limits.discipline) (machine_of state.old) process ≡ true }
+    ensures node { IfOk result (λ h. chosen (slots job.now.program.now job.now.limits.discipline) job.now.limits.steps (machine_of state.old) process ≡ node_of h (machine_of state.new)) }
+    ensures own { IsStateOf job.now.program.now state.new }
+    ensures marks { IfOk result (λ _. Adds marks.old.known.keys (chosen_marks (slots job.now.program.now job.now.limits.discipline) job.now.limits.steps (machine_of state.old) process) marks.new.known.keys) }
 {
-    let turn = observe_choice(program, limits, state, process, steps, marks)?;
+    let turn = observe_choice(job, state, process, steps, marks)?;
     Ok(halt_at(turn))
 }
 
 /// Begins a run in the opening state, and notes what it comes to before the first choice.
 pub fn note_opening<S: Ledger>(
-    program: &Resolved,
-    limits: Limits,
+    job: &Job<'_>,
     state: &mut State,
     steps: &mut Ticks<S>,
     marks: &mut Marks,
 ) -> Result<Halt<OutcomeKind>, AllocError>
-    requires own { IsStateOf program.now state.old }
-    requires start { machine_of state.old ≡ opening program.now limits.discipline }
-    ensures node { IfOk result (λ h. opened (slots program.now limits.discipline) limits.steps ≡ node_of h (machine_of state.new)) }
-    ensures own { IsStateOf program.now state.new }
-    ensures marks { IfOk result (λ _. Adds marks.old.known.keys (opened_marks (slots program.now limits.discipline) limits.steps) marks.new.known.keys) }
+    requires own { IsStateOf job.now.program.now state.old }
+    requires start { machine_of state.old ≡ opening job.now.program.now job.now.limits.discipline }
+    ensures node { IfOk result (λ h. opened (slots job.now.program.now job.now.limits.discipline) job.now.limits.steps ≡ node_of h (machine_of state.new)) }
+    ensures own { IsStateOf job.now.program.now state.new }
+    ensures marks { IfOk result (λ _. Adds marks.old.known.keys (opened_marks (slots job.now.program.now job.now.limits.discipline) job.now.limits.steps) marks.new.known.keys) }
 {
-    let turn = observe_opening(program, limits, state, steps, marks)?;
+    let turn = observe_opening(job, state, steps, marks)?;
     Ok(halt_at(turn))
 }

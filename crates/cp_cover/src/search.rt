@@ -11,9 +11,8 @@ use crate::marks::Marks;
 use crate::noting::{note_choice, note_opening};
 use cp_machine::{State, Ticks};
 use cp_progress::{ObserveProgress, Progress};
-use cp_run::{Halt, Limits, OutcomeKind};
+use cp_run::{Halt, Job, OutcomeKind};
 use cp_search::{SearchJob, Visit, visit_all};
-use cp_slots::Resolved;
 use std::alloc::{AllocError, Global};
 use std::marker::Brand;
 use std::mem;
@@ -46,19 +45,17 @@ struct CoverVisit<S: Ledger> {
 /// state never does. An observer is told how far the search has come.
 pub fn find_coverage<O: ObserveProgress>(
     alloc: Global,
-    program: &Resolved,
-    limits: Limits,
+    job: &Job<'_>,
     most: u32,
     observer: &mut O,
 ) -> Result<Coverage, AllocError>
-    ensures reached { IfOk result (λ c. AreReached (slots program.now limits.discipline) limits.steps c.choices c.marks.known.keys) }
-    ensures choices { IfOk result (λ c. c.choices ≤ limits.choices) }
+    ensures reached { IfOk result (λ c. AreReached (slots job.now.program.now job.now.limits.discipline) job.now.limits.steps c.choices c.marks.known.keys) }
+    ensures choices { IfOk result (λ c. c.choices ≤ job.now.limits.choices) }
 {
     let most = if most == 0 { 1 } else { most };
     let job = SearchJob {
         alloc,
-        program,
-        limits,
+        run: *job,
         most,
     };
     find_with::<O, Brand>(&job, observer, Blank::new(1))
@@ -73,16 +70,19 @@ fn find_with<O: ObserveProgress, S: Ledger>(
     requires parts { blank.parts ≡ S.parts }
     requires one { S.parts ≡ 1 }
     requires most { 1 ≤ job.now.most }
-    ensures reached { IfOk result (λ c. AreReached (slots job.now.program.now job.now.limits.discipline) job.now.limits.steps c.choices c.marks.known.keys) }
-    ensures choices { IfOk result (λ c. c.choices ≤ job.now.limits.choices) }
+    ensures reached { IfOk result (λ c. AreReached (slots job.now.run.program.now job.now.run.limits.discipline) job.now.run.limits.steps c.choices c.marks.known.keys) }
+    ensures choices { IfOk result (λ c. c.choices ≤ job.now.run.limits.choices) }
 {
     let mut visit: CoverVisit<S> = CoverVisit::new(job.alloc, blank);
-    let mut state = State::start(job.alloc, job.program, job.limits.discipline)?;
+    let mut state = State::start(job.alloc, job.run.program, job.run.limits.discipline)?;
     visit.open(job, &mut state)?;
     let mut next = state.copy(job.alloc)?;
-    for depth in 0..job.limits.choices {
+    for depth in 0..job.run.limits.choices {
         let layer_job = SearchJob {
-            limits: job.limits.with_choices(depth),
+            run: Job {
+                limits: job.run.limits.with_choices(depth),
+                ..job.run
+            },
             ..*job
         };
         let before = visit.marks.copy(job.alloc)?;
@@ -99,7 +99,7 @@ fn find_with<O: ObserveProgress, S: Ledger>(
     let is_whole = !visit.is_stopped && visit.next.len() == 0;
     Ok(Coverage {
         marks: visit.marks,
-        choices: job.limits.choices,
+        choices: job.run.limits.choices,
         is_whole,
     })
 }
@@ -124,32 +124,26 @@ impl<S: Ledger> CoverVisit<S> {
 
     // Finds the layer of no choice, from the opening state.
     fn open(&mut self, job: &SearchJob<'_>, state: &mut State) -> Result<(), AllocError>
-        requires own { IsStateOf job.now.program.now state.old }
-        requires start { machine_of state.old ≡ opening job.now.program.now job.now.limits.discipline }
+        requires own { IsStateOf job.now.run.program.now state.old }
+        requires start { machine_of state.old ≡ opening job.now.run.program.now job.now.run.limits.discipline }
         requires no_marks { self.old.marks.known.keys ≡ [] }
         requires no_next { self.old.next.known.keys ≡ [] }
         requires most { 1 ≤ job.now.most }
-        ensures own { IsStateOf job.now.program.now state.new }
-        ensures known { IfOk result (λ _. IsKnown job.now.program.now (slots job.now.program.now job.now.limits.discipline) job.now.limits.steps job.now.most 0 self.new.marks.known.keys self.new.next.known.keys) }
+        ensures own { IsStateOf job.now.run.program.now state.new }
+        ensures known { IfOk result (λ _. IsKnown job.now.run.program.now (slots job.now.run.program.now job.now.run.limits.discipline) job.now.run.limits.steps job.now.most 0 self.new.marks.known.keys self.new.next.known.keys) }
     {
-        let halt = note_opening(
-            job.program,
-            job.limits,
-            state,
-            &mut self.steps,
-            &mut self.marks,
-        )?;
+        let halt = note_opening(&job.run, state, &mut self.steps, &mut self.marks)?;
         self.is_stopped = is_cut(halt);
         self.next.arrive(job, state, halt)
     }
 
     // The layer that was found, of as many choices as the job says, is now the one to be gone on from.
     fn begin_layer(&mut self, job: &SearchJob<'_>)
-        requires { IsKnown job.now.program.now (slots job.now.program.now job.now.limits.discipline) job.now.limits.steps job.now.most job.now.limits.choices self.old.marks.known.keys self.old.next.known.keys }
-        ensures { IsBegun job.now.program.now (slots job.now.program.now job.now.limits.discipline) job.now.limits.steps job.now.most job.now.limits.choices self.new.layer.known.keys 0 self.new.marks.known.keys self.new.next.known.keys }
+        requires { IsKnown job.now.run.program.now (slots job.now.run.program.now job.now.run.limits.discipline) job.now.run.limits.steps job.now.most job.now.run.limits.choices self.old.marks.known.keys self.old.next.known.keys }
+        ensures { IsBegun job.now.run.program.now (slots job.now.run.program.now job.now.run.limits.discipline) job.now.run.limits.steps job.now.most job.now.run.limits.choices self.new.layer.known.keys 0 self.new.marks.known.keys self.new.next.known.keys }
     {
         self.layer = mem::replace(&mut self.next, Layer::new(job.alloc));
-        self.depth = job.limits.choices;
+        self.depth = job.run.limits.choices;
     }
 }
 
@@ -157,11 +151,11 @@ impl<S: Ledger> Visit for CoverVisit<S> {
     ghost use Rattle.cp_run.specs.Slots.{slots};
     ghost use Rattle.cp_cover.specs.Visited.{IsBegun, IsWhole, Within};
 
-    ghost before = { λ v job n. IsBegun job.program.now (slots job.program.now job.limits.discipline) job.limits.steps job.most job.limits.choices v.layer.known.keys n v.marks.known.keys v.next.known.keys };
+    ghost before = { λ v job n. IsBegun job.run.program.now (slots job.run.program.now job.run.limits.discipline) job.run.limits.steps job.most job.run.limits.choices v.layer.known.keys n v.marks.known.keys v.next.known.keys };
 
-    ghost within = { λ v job at m done. Within job.program.now (slots job.program.now job.limits.discipline) job.limits.steps job.most job.limits.choices v.layer.known.keys at m done v.marks.known.keys v.next.known.keys };
+    ghost within = { λ v job at m done. Within job.run.program.now (slots job.run.program.now job.run.limits.discipline) job.run.limits.steps job.most job.run.limits.choices v.layer.known.keys at m done v.marks.known.keys v.next.known.keys };
 
-    ghost over = { λ v job. IsWhole job.program.now (slots job.program.now job.limits.discipline) job.limits.steps job.most job.limits.choices v.layer.known.keys v.marks.known.keys v.next.known.keys };
+    ghost over = { λ v job. IsWhole job.run.program.now (slots job.run.program.now job.run.limits.discipline) job.run.limits.steps job.most job.run.limits.choices v.layer.known.keys v.marks.known.keys v.next.known.keys };
 
     ghost stops = { λ v job at. Unit {0} };
 
@@ -189,14 +183,7 @@ impl<S: Ledger> Visit for CoverVisit<S> {
         next: &mut State,
         process: u8,
     ) -> Result<bool, AllocError> {
-        let halt = note_choice(
-            job.program,
-            job.limits,
-            next,
-            process,
-            &mut self.steps,
-            &mut self.marks,
-        )?;
+        let halt = note_choice(&job.run, next, process, &mut self.steps, &mut self.marks)?;
         self.is_stopped = self.is_stopped || is_cut(halt);
         self.next.arrive(job, next, halt)?;
         next.take_from(state);

@@ -18,29 +18,27 @@ use crate::round::end_of_cut;
 use crate::sight::Sight;
 use crate::told::Told;
 use cp_machine::{Moved, State, Ticks};
-use cp_run::{Halt, Limits, Turn, observe_choice, observe_opening};
-use cp_slots::Resolved;
+use cp_run::{Halt, Job, Turn, observe_choice, observe_opening};
 use std::alloc::{AllocError, Global};
 use std::sync::ledger::Ledger;
 
 // Where a stretch came to that made as many steps as it may, by what comes next.
 fn arrive<S: Ledger, P: Sight>(
     alloc: Global,
-    program: &Resolved,
-    limits: Limits,
+    job: &Job<'_>,
     state: &mut State,
     turn: Turn,
     told: &mut Told<P>,
     steps: &mut Ticks<S>,
 ) -> Result<Halt<End>, AllocError>
-    requires own { IsStateOf program.now state.old }
+    requires own { IsStateOf job.now.program.now state.old }
     requires ready { IfGoes turn (λ q. is_ready (machine_of state.old) q ≡ true) }
     requires free { IfGoes turn (λ q. is_pending (machine_of state.old) ≡ false) }
     requires quiet { output_of (machine_of state.old) ≡ [] }
-    ensures own { IsStateOf program.now state.new }
+    ensures own { IsStateOf job.now.program.now state.new }
     ensures quiet { IfOk result (λ _. output_of (machine_of state.new) ≡ []) }
-    ensures comes { IfOk result (λ h. halt_arrival (slots program.now limits.discipline) (silent_slots program.now limits.discipline) same_key limits.steps told.old.values.items (machine_of state.old) turn ≡ record { goal = goal_at h (machine_of state.new); shown = told.new.values.items }) }
-    ensures leg { IfOk result (λ h. (s : Machine) (first : Turn) (due : List Machine) → walked (silent_slots program.now limits.discipline) limits.steps s first ≡ (machine_of state.old, turn) → P.sees told.old.seen program.now limits.discipline due ((turn_leg (silent_slots program.now limits.discipline) limits.steps s first).moments limits.steps) → ComesTo (silent_slots program.now limits.discipline) (λ w. P.sees w program.now limits.discipline) limits.steps (turn_leg (silent_slots program.now limits.discipline) limits.steps s first) due told.new.seen (with_round told.new.again h) (machine_of state.new)) }
+    ensures comes { IfOk result (λ h. halt_arrival (slots job.now.program.now job.now.limits.discipline) (silent_slots job.now.program.now job.now.limits.discipline) same_key job.now.limits.steps told.old.values.items (machine_of state.old) turn ≡ record { goal = goal_at h (machine_of state.new); shown = told.new.values.items }) }
+    ensures leg { IfOk result (λ h. (s : Machine) (first : Turn) (due : List Machine) → walked (silent_slots job.now.program.now job.now.limits.discipline) job.now.limits.steps s first ≡ (machine_of state.old, turn) → P.sees told.old.seen job.now.program.now job.now.limits.discipline due ((turn_leg (silent_slots job.now.program.now job.now.limits.discipline) job.now.limits.steps s first).moments job.now.limits.steps) → ComesTo (silent_slots job.now.program.now job.now.limits.discipline) (λ w. P.sees w job.now.program.now job.now.limits.discipline) job.now.limits.steps (turn_leg (silent_slots job.now.program.now job.now.limits.discipline) job.now.limits.steps s first) due told.new.seen (with_round told.new.again h) (machine_of state.new)) }
     ensures still { IfOk result (λ h. h ≡ halt.Choice → (told.new.moved ≡ told.old.moved) × (machine_of state.new ≡ machine_of state.old)) }
 {
     told.again = None;
@@ -48,7 +46,7 @@ fn arrive<S: Ledger, P: Sight>(
         Turn::Over(kind) => Ok(Halt::Ended(End::Over(kind))),
         Turn::Due => Ok(Halt::Choice),
         Turn::Goes(pid) => {
-            let end = end_of_cut(alloc, program, limits, state, pid, told, steps)?;
+            let end = end_of_cut(alloc, job, state, pid, told, steps)?;
             Ok(Halt::Ended(end))
         }
     }
@@ -58,48 +56,46 @@ fn arrive<S: Ledger, P: Sight>(
 /// who moves is noted.
 pub fn choose<S: Ledger, P: Sight>(
     alloc: Global,
-    program: &Resolved,
-    limits: Limits,
+    job: &Job<'_>,
     state: &mut State,
     process: u8,
     told: &mut Told<P>,
     steps: &mut Ticks<S>,
 ) -> Result<Halt<End>, AllocError>
-    requires own { IsStateOf program.now state.old }
-    requires may { may (slots program.now limits.discipline) (machine_of state.old) process ≡ true }
+    requires own { IsStateOf job.now.program.now state.old }
+    requires may { may (slots job.now.program.now job.now.limits.discipline) (machine_of state.old) process ≡ true }
     requires quiet { output_of (machine_of state.old) ≡ [] }
-    ensures own { IsStateOf program.now state.new }
+    ensures own { IsStateOf job.now.program.now state.new }
     ensures quiet { IfOk result (λ _. output_of (machine_of state.new) ≡ []) }
-    ensures goal { IfOk result (λ h. goal_at h (machine_of state.new) ≡ (next_arrival (slots program.now limits.discipline) without_output same_key limits.steps (machine_of state.old) process).goal) }
-    ensures shown { IfOk result (λ _. told.new.values.items ≡ told.old.values.items ++ (next_arrival (slots program.now limits.discipline) without_output same_key limits.steps (machine_of state.old) process).shown) }
-    ensures leg { IfOk result (λ h. ComesTo (silent_slots program.now limits.discipline) (λ w. P.sees w program.now limits.discipline) limits.steps (choice_leg (silent_slots program.now limits.discipline) limits.steps (machine_of state.old) process) (machine_of state.old ∷ []) told.new.seen (with_round told.new.again h) (machine_of state.new)) }
+    ensures goal { IfOk result (λ h. goal_at h (machine_of state.new) ≡ (next_arrival (slots job.now.program.now job.now.limits.discipline) without_output same_key job.now.limits.steps (machine_of state.old) process).goal) }
+    ensures shown { IfOk result (λ _. told.new.values.items ≡ told.old.values.items ++ (next_arrival (slots job.now.program.now job.now.limits.discipline) without_output same_key job.now.limits.steps (machine_of state.old) process).shown) }
+    ensures leg { IfOk result (λ h. ComesTo (silent_slots job.now.program.now job.now.limits.discipline) (λ w. P.sees w job.now.program.now job.now.limits.discipline) job.now.limits.steps (choice_leg (silent_slots job.now.program.now job.now.limits.discipline) job.now.limits.steps (machine_of state.old) process) (machine_of state.old ∷ []) told.new.seen (with_round told.new.again h) (machine_of state.new)) }
     ensures kept { IfOk result (λ h. h ≡ halt.Choice → KeepBodies (has_moved told.new.moved) (machine_of state.old) (machine_of state.new)) }
 {
     told.moved = Moved::nobody();
-    told.seen = P::begin(program);
+    told.seen = P::begin(job.program);
     told.seen.see_due(state);
-    let turn = observe_choice(program, limits, state, process, steps, told)?;
-    arrive(alloc, program, limits, state, turn, told, steps)
+    let turn = observe_choice(job, state, process, steps, told)?;
+    arrive(alloc, job, state, turn, told, steps)
 }
 
 /// Begins a run in the opening state. Each moment before the first choice is seen.
 pub fn open<S: Ledger, P: Sight>(
     alloc: Global,
-    program: &Resolved,
-    limits: Limits,
+    job: &Job<'_>,
     state: &mut State,
     told: &mut Told<P>,
     steps: &mut Ticks<S>,
 ) -> Result<Halt<End>, AllocError>
-    requires own { IsStateOf program.now state.old }
-    requires start { machine_of state.old ≡ opening program.now limits.discipline }
-    ensures own { IsStateOf program.now state.new }
+    requires own { IsStateOf job.now.program.now state.old }
+    requires start { machine_of state.old ≡ opening job.now.program.now job.now.limits.discipline }
+    ensures own { IsStateOf job.now.program.now state.new }
     ensures quiet { IfOk result (λ _. output_of (machine_of state.new) ≡ []) }
-    ensures goal { IfOk result (λ h. goal_at h (machine_of state.new) ≡ (first_arrival (slots program.now limits.discipline) without_output same_key limits.steps).goal) }
-    ensures shown { IfOk result (λ _. told.new.values.items ≡ told.old.values.items ++ (first_arrival (slots program.now limits.discipline) without_output same_key limits.steps).shown) }
-    ensures leg { IfOk result (λ h. ComesTo (silent_slots program.now limits.discipline) (λ w. P.sees w program.now limits.discipline) limits.steps (first_leg (silent_slots program.now limits.discipline) limits.steps) [] told.new.seen (with_round told.new.again h) (machine_of state.new)) }
+    ensures goal { IfOk result (λ h. goal_at h (machine_of state.new) ≡ (first_arrival (slots job.now.program.now job.now.limits.discipline) without_output same_key job.now.limits.steps).goal) }
+    ensures shown { IfOk result (λ _. told.new.values.items ≡ told.old.values.items ++ (first_arrival (slots job.now.program.now job.now.limits.discipline) without_output same_key job.now.limits.steps).shown) }
+    ensures leg { IfOk result (λ h. ComesTo (silent_slots job.now.program.now job.now.limits.discipline) (λ w. P.sees w job.now.program.now job.now.limits.discipline) job.now.limits.steps (first_leg (silent_slots job.now.program.now job.now.limits.discipline) job.now.limits.steps) [] told.new.seen (with_round told.new.again h) (machine_of state.new)) }
 {
-    told.seen = P::begin(program);
-    let turn = observe_opening(program, limits, state, steps, told)?;
-    arrive(alloc, program, limits, state, turn, told, steps)
+    told.seen = P::begin(job.program);
+    let turn = observe_opening(job, state, steps, told)?;
+    arrive(alloc, job, state, turn, told, steps)
 }

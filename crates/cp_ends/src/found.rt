@@ -125,10 +125,10 @@ impl Found {
         before: &State,
         moved: &Moved,
     ) -> Result<Arrived, AllocError>
-        requires own { IsStateOf job.now.program.now state.now }
+        requires own { IsStateOf job.now.run.program.now state.now }
         requires quiet { output_of (machine_of state.now) ≡ [] }
         requires moved { halt ≡ Choice → IsMovedFrom self.old.states origin (has_moved moved.now) (machine_of before.now) (machine_of state.now) }
-        ensures arrives { IfOk result (λ arrived. (f : SlotFindings) (word : List ℕ) (a : SlotArrival) → HoldsFew job.now.program.now job.now.most self.old f → IsWordOf f.states origin word → IsBefore (length f.states) origin → goal_at halt (machine_of state.now) ≡ a.goal → values.now ≡ a.shown → Arrives job.now.program.now job.now.most self.new f word a arrived) }
+        ensures arrives { IfOk result (λ arrived. (f : SlotFindings) (word : List ℕ) (a : SlotArrival) → HoldsFew job.now.run.program.now job.now.most self.old f → IsWordOf f.states origin word → IsBefore (length f.states) origin → goal_at halt (machine_of state.now) ≡ a.goal → values.now ≡ a.shown → Arrives job.now.run.program.now job.now.most self.new f word a arrived) }
         ensures halt { IfOk result (λ arrived. halt_of arrived ≡ halt) }
     {
         self.add_values(values, origin)?;
@@ -150,10 +150,10 @@ impl Found {
         before: &State,
         moved: &Moved,
     ) -> Result<Arrived, AllocError>
-        requires own { IsStateOf job.now.program.now state.now }
+        requires own { IsStateOf job.now.run.program.now state.now }
         requires quiet { output_of (machine_of state.now) ≡ [] }
         requires moved { IsMovedFrom self.old.states origin (has_moved moved.now) (machine_of before.now) (machine_of state.now) }
-        ensures comes { IfOk result (λ arrived. (f : SlotFindings) (word : List ℕ) → HoldsFew job.now.program.now job.now.most self.old f → IsWordOf f.states origin word → IsBefore (length f.states) origin → Comes job.now.program.now job.now.most self.new f word (graph.Place (machine_of state.now)) arrived) }
+        ensures comes { IfOk result (λ arrived. (f : SlotFindings) (word : List ℕ) → HoldsFew job.now.run.program.now job.now.most self.old f → IsWordOf f.states origin word → IsBefore (length f.states) origin → Comes job.now.run.program.now job.now.most self.new f word (graph.Place (machine_of state.now)) arrived) }
         ensures halt { IfOk result (λ arrived. halt_of arrived ≡ halt.Choice) }
     {
         let most = job.most;

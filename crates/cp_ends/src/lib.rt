@@ -10,7 +10,6 @@ pub mod report;
 pub mod round;
 pub mod search;
 pub mod sight;
-pub mod state_key;
 pub mod states;
 pub mod told;
 

@@ -23,9 +23,8 @@ use crate::sight::{Sight, Unseen};
 use crate::told::Told;
 use cp_machine::{State, Ticks};
 use cp_progress::{ObserveProgress, Progress, Unobserved};
-use cp_run::Limits;
+use cp_run::Job;
 use cp_search::{SearchJob, Visit, visit_all};
-use cp_slots::Resolved;
 use std::alloc::{AllocError, Global};
 use std::marker::Brand;
 use std::sync::ledger::{Blank, Ledger};
@@ -41,34 +40,27 @@ pub struct EndsVisit<S: Ledger, P> {
 /// Goes on from the opening state, and from each state that is found, with each number that may be chosen there, in the order in which
 /// states are found. So the first word that leads to a state, an end or a value is the shortest, and of the shortest the first in
 /// dictionary order. Stops where there are more than so many states; at least one is looked at.
-pub fn search_ends(
-    alloc: Global,
-    program: &Resolved,
-    limits: Limits,
-    most: u32,
-) -> Result<Found, AllocError>
-    ensures answer { 1 ≤ most → IfOk result (λ found. IsAnswer program.now limits.discipline limits.steps most found) }
-    ensures kept { IfOk result (λ found. HasFindings program.now found) }
+pub fn search_ends(alloc: Global, job: &Job<'_>, most: u32) -> Result<Found, AllocError>
+    ensures answer { 1 ≤ most → IfOk result (λ found. IsAnswer job.now.program.now job.now.limits.discipline job.now.limits.steps most found) }
+    ensures kept { IfOk result (λ found. HasFindings job.now.program.now found) }
 {
-    search_ends_with(alloc, program, limits, most, &mut Unobserved)
+    search_ends_with(alloc, job, most, &mut Unobserved)
 }
 
 /// The same, where an observer is told how far the search has come.
 pub fn search_ends_with<O: ObserveProgress>(
     alloc: Global,
-    program: &Resolved,
-    limits: Limits,
+    job: &Job<'_>,
     most: u32,
     observer: &mut O,
 ) -> Result<Found, AllocError>
-    ensures answer { 1 ≤ most → IfOk result (λ found. IsAnswer program.now limits.discipline limits.steps most found) }
-    ensures kept { IfOk result (λ found. HasFindings program.now found) }
+    ensures answer { 1 ≤ most → IfOk result (λ found. IsAnswer job.now.program.now job.now.limits.discipline job.now.limits.steps most found) }
+    ensures kept { IfOk result (λ found. HasFindings job.now.program.now found) }
 {
     let states = if most == 0 { 1 } else { most };
     let job = SearchJob {
         alloc,
-        program,
-        limits,
+        run: *job,
         most: states,
     };
     search_with::<O, Brand>(&job, observer, Blank::new(1))
@@ -83,10 +75,10 @@ fn search_with<O: ObserveProgress, S: Ledger>(
     requires parts { blank.parts ≡ S.parts }
     requires one { S.parts ≡ 1 }
     requires most { 1 ≤ job.now.most }
-    ensures { IfOk result (λ found. IsSearch job.now.program.now (slot_graph job.now.program.now job.now.limits.discipline job.now.limits.steps) job.now.most found found.stopped) }
+    ensures { IfOk result (λ found. IsSearch job.now.run.program.now (slot_graph job.now.run.program.now job.now.run.limits.discipline job.now.run.limits.steps) job.now.most found found.stopped) }
 {
     let mut visit: EndsVisit<S, Unseen> = EndsVisit::new(job.alloc, Unseen, blank);
-    let mut state = State::start(job.alloc, job.program, job.limits.discipline)?;
+    let mut state = State::start(job.alloc, job.run.program, job.run.limits.discipline)?;
     visit.open(job, &mut state)?;
     let mut next = state.copy(job.alloc)?;
     visit.found.stopped = visit_all(job, &mut visit, &mut state, &mut next, observer)?;
@@ -110,23 +102,16 @@ impl<S: Ledger, P: Sight> EndsVisit<S, P> {
 
     /// Follows the opening stretch, and notes where it arrives. Before it nothing is found.
     pub fn open(&mut self, job: &SearchJob<'_>, state: &mut State) -> Result<Arrived, AllocError>
-        requires own { IsStateOf job.now.program.now state.old }
-        requires start { machine_of state.old ≡ opening job.now.program.now job.now.limits.discipline }
+        requires own { IsStateOf job.now.run.program.now state.old }
+        requires start { machine_of state.old ≡ opening job.now.run.program.now job.now.run.limits.discipline }
         requires most { 1 ≤ job.now.most }
-        requires nothing { Holds job.now.program.now self.old.found nothing }
-        ensures own { IsStateOf job.now.program.now state.new }
-        ensures begun { IfOk result (λ _. HoldsFew job.now.program.now job.now.most self.new.found (searched (slot_graph job.now.program.now job.now.limits.discipline job.now.limits.steps) ends_tests 0)) }
-        ensures leg { IfOk result (λ arrived. ComesTo (silent_slots job.now.program.now job.now.limits.discipline) (λ w. P.sees w job.now.program.now job.now.limits.discipline) job.now.limits.steps (first_leg (silent_slots job.now.program.now job.now.limits.discipline) job.now.limits.steps) [] self.new.told.seen (with_round self.new.told.again (halt_of arrived)) (machine_of state.new)) }
+        requires nothing { Holds job.now.run.program.now self.old.found nothing }
+        ensures own { IsStateOf job.now.run.program.now state.new }
+        ensures begun { IfOk result (λ _. HoldsFew job.now.run.program.now job.now.most self.new.found (searched (slot_graph job.now.run.program.now job.now.run.limits.discipline job.now.run.limits.steps) ends_tests 0)) }
+        ensures leg { IfOk result (λ arrived. ComesTo (silent_slots job.now.run.program.now job.now.run.limits.discipline) (λ w. P.sees w job.now.run.program.now job.now.run.limits.discipline) job.now.run.limits.steps (first_leg (silent_slots job.now.run.program.now job.now.run.limits.discipline) job.now.run.limits.steps) [] self.new.told.seen (with_round self.new.told.again (halt_of arrived)) (machine_of state.new)) }
     {
         self.told.values.clear();
-        let halt = open(
-            job.alloc,
-            job.program,
-            job.limits,
-            state,
-            &mut self.told,
-            &mut self.steps,
-        )?;
+        let halt = open(job.alloc, &job.run, state, &mut self.told, &mut self.steps)?;
         let values = self.told.values.as_slice();
         let moved = &self.told.moved;
         self.found
@@ -142,24 +127,23 @@ impl<S: Ledger, P: Sight> EndsVisit<S, P> {
         next: &mut State,
         process: u8,
     ) -> Result<Arrived, AllocError>
-        requires own { IsStateOf job.now.program.now state.now }
-        requires next { IsStateOf job.now.program.now next.old }
+        requires own { IsStateOf job.now.run.program.now state.now }
+        requires next { IsStateOf job.now.run.program.now next.old }
         requires copied { machine_of next.old ≡ machine_of state.now }
-        requires below { process < processes_of job.now.program.now }
-        requires may { may (slots job.now.program.now job.now.limits.discipline) (machine_of state.now) process ≡ true }
-        requires within { IsWithin job.now.program.now (slot_graph job.now.program.now job.now.limits.discipline job.now.limits.steps) job.now.most self.old.found at (machine_of state.now) (those_below process (may (slots job.now.program.now job.now.limits.discipline) (machine_of state.now))) }
-        ensures next { IsStateOf job.now.program.now next.new }
+        requires below { process < processes_of job.now.run.program.now }
+        requires may { may (slots job.now.run.program.now job.now.run.limits.discipline) (machine_of state.now) process ≡ true }
+        requires within { IsWithin job.now.run.program.now (slot_graph job.now.run.program.now job.now.run.limits.discipline job.now.run.limits.steps) job.now.most self.old.found at (machine_of state.now) (those_below process (may (slots job.now.run.program.now job.now.run.limits.discipline) (machine_of state.now))) }
+        ensures next { IsStateOf job.now.run.program.now next.new }
         ensures kept { IfOk result (λ arrived. halt_of arrived ≡ halt.Choice → KeepBodies (has_moved self.new.told.moved) (machine_of state.now) (machine_of next.new)) }
-        ensures within { IfOk result (λ arrived. has_room arrived ≡ true → IsWithin job.now.program.now (slot_graph job.now.program.now job.now.limits.discipline job.now.limits.steps) job.now.most self.new.found at (machine_of state.now) (those_below process (may (slots job.now.program.now job.now.limits.discipline) (machine_of state.now)) ++ process ∷ [])) }
-        ensures stops { IfOk result (λ arrived. has_room arrived ≡ false → IsStopped job.now.program.now (slot_graph job.now.program.now job.now.limits.discipline job.now.limits.steps) job.now.most self.new.found at) }
-        ensures number { IfOk result (λ arrived. (number : ℕ) (from : Machine × List ℕ) → arrived ≡ At number → slice_get (searched (slot_graph job.now.program.now job.now.limits.discipline job.now.limits.steps) ends_tests at).states at ≡ Some from → HasNumber (gone_with (slot_graph job.now.program.now job.now.limits.discipline job.now.limits.steps) from (those_below process (may (slots job.now.program.now job.now.limits.discipline) (machine_of state.now)) ++ process ∷ []) (searched (slot_graph job.now.program.now job.now.limits.discipline job.now.limits.steps) ends_tests at)).states (machine_of next.new) number) }
-        ensures leg { IfOk result (λ arrived. ComesTo (silent_slots job.now.program.now job.now.limits.discipline) (λ w. P.sees w job.now.program.now job.now.limits.discipline) job.now.limits.steps (choice_leg (silent_slots job.now.program.now job.now.limits.discipline) job.now.limits.steps (machine_of state.now) process) (machine_of state.now ∷ []) self.new.told.seen (with_round self.new.told.again (halt_of arrived)) (machine_of next.new)) }
+        ensures within { IfOk result (λ arrived. has_room arrived ≡ true → IsWithin job.now.run.program.now (slot_graph job.now.run.program.now job.now.run.limits.discipline job.now.run.limits.steps) job.now.most self.new.found at (machine_of state.now) (those_below process (may (slots job.now.run.program.now job.now.run.limits.discipline) (machine_of state.now)) ++ process ∷ [])) }
+        ensures stops { IfOk result (λ arrived. has_room arrived ≡ false → IsStopped job.now.run.program.now (slot_graph job.now.run.program.now job.now.run.limits.discipline job.now.run.limits.steps) job.now.most self.new.found at) }
+        ensures number { IfOk result (λ arrived. (number : ℕ) (from : Machine × List ℕ) → arrived ≡ At number → slice_get (searched (slot_graph job.now.run.program.now job.now.run.limits.discipline job.now.run.limits.steps) ends_tests at).states at ≡ Some from → HasNumber (gone_with (slot_graph job.now.run.program.now job.now.run.limits.discipline job.now.run.limits.steps) from (those_below process (may (slots job.now.run.program.now job.now.run.limits.discipline) (machine_of state.now)) ++ process ∷ []) (searched (slot_graph job.now.run.program.now job.now.run.limits.discipline job.now.run.limits.steps) ends_tests at)).states (machine_of next.new) number) }
+        ensures leg { IfOk result (λ arrived. ComesTo (silent_slots job.now.run.program.now job.now.run.limits.discipline) (λ w. P.sees w job.now.run.program.now job.now.run.limits.discipline) job.now.run.limits.steps (choice_leg (silent_slots job.now.run.program.now job.now.run.limits.discipline) job.now.run.limits.steps (machine_of state.now) process) (machine_of state.now ∷ []) self.new.told.seen (with_round self.new.told.again (halt_of arrived)) (machine_of next.new)) }
     {
         self.told.values.clear();
         let halt = choose(
             job.alloc,
-            job.program,
-            job.limits,
+            &job.run,
             next,
             process,
             &mut self.told,
@@ -194,13 +178,13 @@ impl<S: Ledger, P: Sight> Visit for EndsVisit<S, P> {
     ghost use Rattle.cp_ends.specs.Searched.{searched};
     ghost use Rattle.cp_ends.specs.Visited.{IsWhole, IsWithin};
 
-    ghost before = { λ v job n. HoldsFew job.program.now job.most v.found (searched (slot_graph job.program.now job.limits.discipline job.limits.steps) ends_tests n) };
+    ghost before = { λ v job n. HoldsFew job.run.program.now job.most v.found (searched (slot_graph job.run.program.now job.run.limits.discipline job.run.limits.steps) ends_tests n) };
 
-    ghost within = { λ v job at m done. IsWithin job.program.now (slot_graph job.program.now job.limits.discipline job.limits.steps) job.most v.found at m done };
+    ghost within = { λ v job at m done. IsWithin job.run.program.now (slot_graph job.run.program.now job.run.limits.discipline job.run.limits.steps) job.most v.found at m done };
 
-    ghost over = { λ v job. IsWhole job.program.now (slot_graph job.program.now job.limits.discipline job.limits.steps) job.most v.found };
+    ghost over = { λ v job. IsWhole job.run.program.now (slot_graph job.run.program.now job.run.limits.discipline job.run.limits.steps) job.most v.found };
 
-    ghost stops = { λ v job at. IsStopped job.program.now (slot_graph job.program.now job.limits.discipline job.limits.steps) job.most v.found at };
+    ghost stops = { λ v job at. IsStopped job.run.program.now (slot_graph job.run.program.now job.run.limits.discipline job.run.limits.steps) job.most v.found at };
 
     fn len(&self) -> usize {
         self.found.states.len()

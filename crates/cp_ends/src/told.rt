@@ -4,8 +4,7 @@ ghost use Rattle.std.specs.Prelude.{◌≡◌, []};
 
 use crate::sight::Sight;
 use cp_machine::{Event, Moved, Shown, State, Watch};
-use cp_run::{Limits, Observe};
-use cp_slots::Resolved;
+use cp_run::{Job, Observe};
 use std::alloc::{AllocError, Global};
 
 /// The values that were displayed, whether the kernel was called, and what is seen besides.
@@ -82,8 +81,7 @@ impl<P: Sight> Observe for Told<P> {
     #[inline(always)]
     fn expect_step(
         &mut self,
-        _program: &Resolved,
-        _limits: Limits,
+        _job: &Job<'_>,
         state: &State,
         process: u8,
     ) -> Result<(), AllocError> {
@@ -94,8 +92,7 @@ impl<P: Sight> Observe for Told<P> {
 
     fn see_step(
         &mut self,
-        _program: &Resolved,
-        _limits: Limits,
+        _job: &Job<'_>,
         state: &State,
         _process: u8,
         event: Event,
@@ -109,15 +106,14 @@ impl<P: Sight> Observe for Told<P> {
 
     fn see_admission(
         &mut self,
-        _program: &Resolved,
-        _limits: Limits,
+        _job: &Job<'_>,
         _state: &State,
         _process: u8,
     ) -> Result<(), AllocError> {
         Ok(())
     }
 
-    fn see_choice(&mut self, _program: &Resolved, _limits: Limits, _state: &State, _number: u8) {}
+    fn see_choice(&mut self, _job: &Job<'_>, _state: &State, _number: u8) {}
 
     ghost passes = { λ unseen told r discipline before after process x step h. (h.0 ∙ sym (append-nil x.0.0) ∙ ap (λ l. x.0.0 ++ l) (sym (ap (λ (y : Stepped). y.machine.output) step ∙ local_output r before after process [] h.2 step)), h.1, refl, h.3, All-weaker (λ due. KeepBodies (has_moved told.moved) due before) (λ due. KeepBodies (has_moved told.moved) due (without_output after)) (λ due kept. (let k = moved_by (has_moved told.moved) r due before after process _ step refl kept h.5 in record { count = k.count; bodies = k.bodies })) x.1.0 h.4) };
 }

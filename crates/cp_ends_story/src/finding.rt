@@ -17,6 +17,7 @@ use cp_ends::found::{FoundEnd, FoundValue};
 use cp_ends::states::States;
 use cp_ends::{End, Found};
 use cp_progress::ObserveProgress;
+use cp_run::Job;
 use cp_waits::{FoundWaits, find_waits};
 use std::alloc::{AllocError, Global};
 
@@ -76,7 +77,13 @@ fn findings_by_states<O: ObserveProgress>(
         most,
         ..
     } = subject;
-    let search = find_waits(alloc, program, limits, most, subject.waits, observer)?;
+    let search = find_waits(
+        alloc,
+        &Job { program, limits },
+        most,
+        subject.waits,
+        observer,
+    )?;
     list_found(alloc, search)
 }
 
@@ -188,7 +195,7 @@ fn findings_at_once<O: ObserveProgress>(
         most,
         ..
     } = subject;
-    let found = search_at_once_with(alloc, program, limits, most, observer)?;
+    let found = search_at_once_with(alloc, &Job { program, limits }, most, observer)?;
     list_found_at_once(alloc, &found)
 }
 

@@ -4,7 +4,7 @@ ghost use Rattle.std.specs.Prelude.{◌≡◌, ◌≤◌, length};
 
 use crate::subject::Telling;
 use cp_machine::{Signals, Ticks};
-use cp_run::{OutcomeKind, RunEnd};
+use cp_run::{Job, OutcomeKind, RunEnd};
 use cp_story::{Happening, MOST_NUMBERS, OpenCall, Story, Wait, tell};
 use std::alloc::AllocError;
 use std::marker::Brand;
@@ -29,9 +29,11 @@ fn story_of<L: Ledger>(telling: Telling<'_>, word: &[u8], blank: Blank) -> Resul
     let Telling { alloc, subject, .. } = telling;
     tell(
         alloc,
-        subject.program,
+        &Job {
+            program: subject.program,
+            limits: subject.limits,
+        },
         subject.legend,
-        subject.limits,
         word,
         &mut ticks,
     )

@@ -45,8 +45,7 @@ pub fn explore_merged_with<O: ObserveProgress>(
 {
     let job = MergeJob {
         alloc,
-        program: job.program,
-        limits: job.limits,
+        run: job,
         most: states,
     };
     let ends = ends_of::<O, Brand, Brand>(&job, observer, Blank::new(1), Blank::new(1))?;
@@ -69,15 +68,15 @@ fn ends_of<O: ObserveProgress, S: Ledger, C: Ledger>(
     requires calls_name { calls.name ≡ C.name }
     requires calls_parts { calls.parts ≡ C.parts }
     requires calls_one { C.parts ≡ 1 }
-    ensures ends { IfOk result (λ ends. map end_of ends.entries ≡ by_layers (slots job.now.program.now job.now.limits.discipline) same_outcome same_key job.now.limits.choices job.now.limits.steps) }
+    ensures ends { IfOk result (λ ends. map end_of ends.entries ≡ by_layers (slots job.now.run.program.now job.now.run.limits.discipline) same_outcome same_key job.now.run.limits.choices job.now.run.limits.steps) }
     ensures small { IfOk result (λ ends. rows_in (map end_of ends.entries) < 10 ^ 126) }
-    ensures within { IfOk result (λ _. FitsBefore (slots job.now.program.now job.now.limits.discipline) job.now.limits.choices job.now.limits.steps job.now.most (job.now.limits.choices + 1)) }
-    ensures fault { IfErr result (λ e. IsDueFault (slots job.now.program.now job.now.limits.discipline) job.now.limits.choices job.now.limits.steps job.now.most e) }
+    ensures within { IfOk result (λ _. FitsBefore (slots job.now.run.program.now job.now.run.limits.discipline) job.now.run.limits.choices job.now.run.limits.steps job.now.most (job.now.run.limits.choices + 1)) }
+    ensures fault { IfErr result (λ e. IsDueFault (slots job.now.run.program.now job.now.run.limits.discipline) job.now.run.limits.choices job.now.run.limits.steps job.now.most e) }
 {
     let steps: Ticks<S> = Ticks::new(steps);
     let calls: Ticks<C> = Ticks::new(calls);
     let mut layering = Layering::start(job, observer, steps, calls)?;
-    for depth in 0..job.limits.choices {
+    for depth in 0..job.run.limits.choices {
         layering.one_layer(job, depth)?;
         let progress = progress_of(&layering.frontier, u32::from(depth) + 1);
         layering.observer.observe_progress(progress);

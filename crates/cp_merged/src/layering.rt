@@ -21,8 +21,7 @@ use crate::word::Word;
 use cp_machine::{Moved, State, Ticks};
 use cp_natural::Natural;
 use cp_progress::{ObserveProgress, Progress, STATES_BETWEEN};
-use cp_run::{Halt, Limits, OutcomeKind, candidates, choose, open};
-use cp_slots::Resolved;
+use cp_run::{Halt, Job, OutcomeKind, candidates, choose, open};
 use std::alloc::{AllocError, Global};
 use std::sync::ledger::Ledger;
 
@@ -30,8 +29,7 @@ use std::sync::ledger::Ledger;
 #[derive(Clone, Copy)]
 pub struct MergeJob<'a> {
     pub alloc: Global,
-    pub program: &'a Resolved,
-    pub limits: Limits,
+    pub run: Job<'a>,
     pub most: usize,
 }
 
@@ -70,18 +68,18 @@ impl<'a, S: Ledger, C: Ledger, O: ObserveProgress> Layering<'a, S, C, O> {
         steps: Ticks<S>,
         calls: Ticks<C>,
     ) -> Result<Layering<'a, S, C, O>, MergeFault>
-        ensures here { IfOk result (λ found. IsStored job.now.program.now found.frontier.store found.here) }
-        ensures next { IfOk result (λ found. IsStored job.now.program.now found.frontier.store found.next) }
-        ensures reached { IfOk result (λ found. Reached job.now.program.now job.now.limits.discipline job.now.limits.choices job.now.limits.steps job.now.most 0 found.frontier.store found.frontier.ended.entries found.frontier.layer.entries) }
-        ensures fault { IfErr result (λ e. IsDueFault (slots job.now.program.now job.now.limits.discipline) job.now.limits.choices job.now.limits.steps job.now.most e) }
+        ensures here { IfOk result (λ found. IsStored job.now.run.program.now found.frontier.store found.here) }
+        ensures next { IfOk result (λ found. IsStored job.now.run.program.now found.frontier.store found.next) }
+        ensures reached { IfOk result (λ found. Reached job.now.run.program.now job.now.run.limits.discipline job.now.run.limits.choices job.now.run.limits.steps job.now.most 0 found.frontier.store found.frontier.ended.entries found.frontier.layer.entries) }
+        ensures fault { IfErr result (λ e. IsDueFault (slots job.now.run.program.now job.now.run.limits.discipline) job.now.run.limits.choices job.now.run.limits.steps job.now.most e) }
     {
         let mut steps = steps;
         let mut calls = calls;
         let alloc = job.alloc;
-        let Ok(mut state) = State::start(alloc, job.program, job.limits.discipline) else {
+        let Ok(mut state) = State::start(alloc, job.run.program, job.run.limits.discipline) else {
             return Err(MergeFault::Memory);
         };
-        let halt = open(job.program, job.limits, &mut state, &mut steps, &mut calls);
+        let halt = open(&job.run, &mut state, &mut steps, &mut calls);
         let one = Prefixes {
             count: Natural::one(),
             first: Word::new(),
@@ -119,23 +117,22 @@ impl<'a, S: Ledger, C: Ledger, O: ObserveProgress> Layering<'a, S, C, O> {
         arriving: &mut Prefixes,
         process: u8,
     ) -> Result<(), AllocError>
-        requires own { IsStateOf job.now.program.now self.old.next.state }
-        requires may { may (slots job.now.program.now job.now.limits.discipline) (machine_of self.old.next.state) process ≡ true }
+        requires own { IsStateOf job.now.run.program.now self.old.next.state }
+        requires may { may (slots job.now.run.program.now job.now.run.limits.discipline) (machine_of self.old.next.state) process ≡ true }
         requires room { length arriving.old.first.items < 100 }
-        requires small { (f : layers.Front Machine) × Holds job.now.program.now self.old.frontier.store self.old.frontier.ended.entries self.old.frontier.layer.entries f × (total f + arriving.old.count < 10 ^ 126) }
-        requires before { IsStateOf job.now.program.now self.old.here.state }
+        requires small { (f : layers.Front Machine) × Holds job.now.run.program.now self.old.frontier.store self.old.frontier.ended.entries self.old.frontier.layer.entries f × (total f + arriving.old.count < 10 ^ 126) }
+        requires before { IsStateOf job.now.run.program.now self.old.here.state }
         requires copied { machine_of self.old.next.state ≡ machine_of self.old.here.state }
         requires known { IsRowOf self.old.frontier.store self.old.next.row.numbers (machine_of self.old.here.state) }
-        ensures next { IfOk result (λ _. IsStored job.now.program.now self.new.frontier.store self.new.next) }
+        ensures next { IfOk result (λ _. IsStored job.now.run.program.now self.new.frontier.store self.new.next) }
         ensures here { self.new.here ≡ self.old.here }
         ensures kept { IfOk result (λ _. KeepParts self.old.frontier.store self.new.frontier.store) }
         ensures same { arriving.new ≡ arriving.old }
-        ensures front { IfOk result (λ _. (f : layers.Front Machine) → Holds job.now.program.now self.old.frontier.store self.old.frontier.ended.entries self.old.frontier.layer.entries f → Holds job.now.program.now self.new.frontier.store self.new.frontier.ended.entries self.new.frontier.layer.entries (layers.after_choice (slots job.now.program.now job.now.limits.discipline) same_outcome same_key job.now.limits.steps (record { state = machine_of self.old.next.state; first = arriving.old.first.items; count = arriving.old.count }) process f)) }
+        ensures front { IfOk result (λ _. (f : layers.Front Machine) → Holds job.now.run.program.now self.old.frontier.store self.old.frontier.ended.entries self.old.frontier.layer.entries f → Holds job.now.run.program.now self.new.frontier.store self.new.frontier.ended.entries self.new.frontier.layer.entries (layers.after_choice (slots job.now.run.program.now job.now.run.limits.discipline) same_outcome same_key job.now.run.limits.steps (record { state = machine_of self.old.next.state; first = arriving.old.first.items; count = arriving.old.count }) process f)) }
     {
         let mut moved = Moved::nobody();
         let halt = choose(
-            job.program,
-            job.limits,
+            &job.run,
             &mut self.next.state,
             process,
             &mut moved,
@@ -169,16 +166,16 @@ impl<'a, S: Ledger, C: Ledger, O: ObserveProgress> Layering<'a, S, C, O> {
         prefixes: &Prefixes,
         arriving: &mut Prefixes,
     ) -> Result<(), AllocError>
-        requires here { IsStored job.now.program.now self.old.frontier.store self.old.here }
-        requires next { IsStored job.now.program.now self.old.frontier.store self.old.next }
+        requires here { IsStored job.now.run.program.now self.old.frontier.store self.old.here }
+        requires next { IsStored job.now.run.program.now self.old.frontier.store self.old.next }
         requires room { length prefixes.now.first.items < 100 }
-        requires small { (f : layers.Front Machine) × Holds job.now.program.now self.old.frontier.store self.old.frontier.ended.entries self.old.frontier.layer.entries f × (total f + 16 * prefixes.now.count < 10 ^ 126) }
+        requires small { (f : layers.Front Machine) × Holds job.now.run.program.now self.old.frontier.store self.old.frontier.ended.entries self.old.frontier.layer.entries f × (total f + 16 * prefixes.now.count < 10 ^ 126) }
         ensures here { self.new.here ≡ self.old.here }
-        ensures next { IfOk result (λ _. IsStored job.now.program.now self.new.frontier.store self.new.next) }
+        ensures next { IfOk result (λ _. IsStored job.now.run.program.now self.new.frontier.store self.new.next) }
         ensures kept { IfOk result (λ _. KeepParts self.old.frontier.store self.new.frontier.store) }
-        ensures front { IfOk result (λ _. (f : layers.Front Machine) → Holds job.now.program.now self.old.frontier.store self.old.frontier.ended.entries self.old.frontier.layer.entries f → Holds job.now.program.now self.new.frontier.store self.new.frontier.ended.entries self.new.frontier.layer.entries (layers.after_choices (slots job.now.program.now job.now.limits.discipline) same_outcome same_key job.now.limits.steps (record { state = machine_of self.old.here.state; first = prefixes.now.first.items; count = prefixes.now.count }) (processes_of job.now.program.now) f)) }
+        ensures front { IfOk result (λ _. (f : layers.Front Machine) → Holds job.now.run.program.now self.old.frontier.store self.old.frontier.ended.entries self.old.frontier.layer.entries f → Holds job.now.run.program.now self.new.frontier.store self.new.frontier.ended.entries self.new.frontier.layer.entries (layers.after_choices (slots job.now.run.program.now job.now.run.limits.discipline) same_outcome same_key job.now.run.limits.steps (record { state = machine_of self.old.here.state; first = prefixes.now.first.items; count = prefixes.now.count }) (processes_of job.now.run.program.now) f)) }
     {
-        let numbers = candidates(job.program, job.limits, &self.here.state);
+        let numbers = candidates(&job.run, &self.here.state);
         arriving.take_words(prefixes);
         for process in numbers.as_slice() {
             self.frontier
@@ -197,16 +194,16 @@ impl<'a, S: Ledger, C: Ledger, O: ObserveProgress> Layering<'a, S, C, O> {
         depth: u8,
         layer: &StateLayer,
     ) -> Result<(), MergeFault>
-        requires here { IsStored job.now.program.now self.old.frontier.store self.old.here }
-        requires next { IsStored job.now.program.now self.old.frontier.store self.old.next }
-        requires due { depth < job.now.limits.choices }
-        requires layer { AreLeads job.now.program.now self.old.frontier.store layer.now.entries (front_at (slots job.now.program.now job.now.limits.discipline) same_outcome same_key job.now.limits.steps depth).layer }
-        requires front { Holds job.now.program.now self.old.frontier.store self.old.frontier.ended.entries self.old.frontier.layer.entries (record { ended = (front_at (slots job.now.program.now job.now.limits.discipline) same_outcome same_key job.now.limits.steps depth).ended; layer = [] }) }
-        ensures here { IfOk result (λ _. IsStored job.now.program.now self.new.frontier.store self.new.here) }
-        ensures next { IfOk result (λ _. IsStored job.now.program.now self.new.frontier.store self.new.next) }
-        ensures front { IfOk result (λ _. Holds job.now.program.now self.new.frontier.store self.new.frontier.ended.entries self.new.frontier.layer.entries (front_at (slots job.now.program.now job.now.limits.discipline) same_outcome same_key job.now.limits.steps (depth + 1))) }
+        requires here { IsStored job.now.run.program.now self.old.frontier.store self.old.here }
+        requires next { IsStored job.now.run.program.now self.old.frontier.store self.old.next }
+        requires due { depth < job.now.run.limits.choices }
+        requires layer { AreLeads job.now.run.program.now self.old.frontier.store layer.now.entries (front_at (slots job.now.run.program.now job.now.run.limits.discipline) same_outcome same_key job.now.run.limits.steps depth).layer }
+        requires front { Holds job.now.run.program.now self.old.frontier.store self.old.frontier.ended.entries self.old.frontier.layer.entries (record { ended = (front_at (slots job.now.run.program.now job.now.run.limits.discipline) same_outcome same_key job.now.run.limits.steps depth).ended; layer = [] }) }
+        ensures here { IfOk result (λ _. IsStored job.now.run.program.now self.new.frontier.store self.new.here) }
+        ensures next { IfOk result (λ _. IsStored job.now.run.program.now self.new.frontier.store self.new.next) }
+        ensures front { IfOk result (λ _. Holds job.now.run.program.now self.new.frontier.store self.new.frontier.ended.entries self.new.frontier.layer.entries (front_at (slots job.now.run.program.now job.now.run.limits.discipline) same_outcome same_key job.now.run.limits.steps (depth + 1))) }
         ensures few { IfOk result (λ _. length self.new.frontier.layer.entries ≤ job.now.most) }
-        ensures many { IfErr result (λ e. IsStates e (HasTooManyStates (slots job.now.program.now job.now.limits.discipline) job.now.limits.steps job.now.most (depth + 1))) }
+        ensures many { IfErr result (λ e. IsStates e (HasTooManyStates (slots job.now.run.program.now job.now.run.limits.discipline) job.now.run.limits.steps job.now.most (depth + 1))) }
     {
         let mut gone_on: u32 = 0;
         let mut arriving = Prefixes {
@@ -232,14 +229,14 @@ impl<'a, S: Ledger, C: Ledger, O: ObserveProgress> Layering<'a, S, C, O> {
 
     /// The layer after that of `depth` choices.
     pub fn one_layer(&mut self, job: &MergeJob<'_>, depth: u8) -> Result<(), MergeFault>
-        requires here { IsStored job.now.program.now self.old.frontier.store self.old.here }
-        requires next { IsStored job.now.program.now self.old.frontier.store self.old.next }
-        requires due { depth < job.now.limits.choices }
-        requires reached { Reached job.now.program.now job.now.limits.discipline job.now.limits.choices job.now.limits.steps job.now.most depth self.old.frontier.store self.old.frontier.ended.entries self.old.frontier.layer.entries }
-        ensures here { IfOk result (λ _. IsStored job.now.program.now self.new.frontier.store self.new.here) }
-        ensures next { IfOk result (λ _. IsStored job.now.program.now self.new.frontier.store self.new.next) }
-        ensures reached { IfOk result (λ _. Reached job.now.program.now job.now.limits.discipline job.now.limits.choices job.now.limits.steps job.now.most (depth + 1) self.new.frontier.store self.new.frontier.ended.entries self.new.frontier.layer.entries) }
-        ensures fault { IfErr result (λ e. IsDueFault (slots job.now.program.now job.now.limits.discipline) job.now.limits.choices job.now.limits.steps job.now.most e) }
+        requires here { IsStored job.now.run.program.now self.old.frontier.store self.old.here }
+        requires next { IsStored job.now.run.program.now self.old.frontier.store self.old.next }
+        requires due { depth < job.now.run.limits.choices }
+        requires reached { Reached job.now.run.program.now job.now.run.limits.discipline job.now.run.limits.choices job.now.run.limits.steps job.now.most depth self.old.frontier.store self.old.frontier.ended.entries self.old.frontier.layer.entries }
+        ensures here { IfOk result (λ _. IsStored job.now.run.program.now self.new.frontier.store self.new.here) }
+        ensures next { IfOk result (λ _. IsStored job.now.run.program.now self.new.frontier.store self.new.next) }
+        ensures reached { IfOk result (λ _. Reached job.now.run.program.now job.now.run.limits.discipline job.now.run.limits.choices job.now.run.limits.steps job.now.most (depth + 1) self.new.frontier.store self.new.frontier.ended.entries self.new.frontier.layer.entries) }
+        ensures fault { IfErr result (λ e. IsDueFault (slots job.now.run.program.now job.now.run.limits.discipline) job.now.run.limits.choices job.now.run.limits.steps job.now.most e) }
     {
         if self.frontier.ended.len() > MOST_OUTCOMES {
             return Err(MergeFault::TooManyOutcomes);
@@ -250,12 +247,12 @@ impl<'a, S: Ledger, C: Ledger, O: ObserveProgress> Layering<'a, S, C, O> {
 
     /// Where no choice is left, each word ends.
     pub fn last_layer(&mut self, job: &MergeJob<'_>) -> Result<(), MergeFault>
-        requires own { IsStateOf job.now.program.now self.old.here.state }
-        requires reached { Reached job.now.program.now job.now.limits.discipline job.now.limits.choices job.now.limits.steps job.now.most job.now.limits.choices self.old.frontier.store self.old.frontier.ended.entries self.old.frontier.layer.entries }
-        ensures ended { IfOk result (λ _. AreEnds self.new.frontier.ended.entries (by_layers (slots job.now.program.now job.now.limits.discipline) same_outcome same_key job.now.limits.choices job.now.limits.steps)) }
+        requires own { IsStateOf job.now.run.program.now self.old.here.state }
+        requires reached { Reached job.now.run.program.now job.now.run.limits.discipline job.now.run.limits.choices job.now.run.limits.steps job.now.most job.now.run.limits.choices self.old.frontier.store self.old.frontier.ended.entries self.old.frontier.layer.entries }
+        ensures ended { IfOk result (λ _. AreEnds self.new.frontier.ended.entries (by_layers (slots job.now.run.program.now job.now.run.limits.discipline) same_outcome same_key job.now.run.limits.choices job.now.run.limits.steps)) }
         ensures few { IfOk result (λ _. length self.new.frontier.ended.entries ≤ 50000) }
-        ensures within { IfOk result (λ _. FitsBefore (slots job.now.program.now job.now.limits.discipline) job.now.limits.choices job.now.limits.steps job.now.most (job.now.limits.choices + 1)) }
-        ensures fault { IfErr result (λ e. IsDueFault (slots job.now.program.now job.now.limits.discipline) job.now.limits.choices job.now.limits.steps job.now.most e) }
+        ensures within { IfOk result (λ _. FitsBefore (slots job.now.run.program.now job.now.run.limits.discipline) job.now.run.limits.choices job.now.run.limits.steps job.now.most (job.now.run.limits.choices + 1)) }
+        ensures fault { IfErr result (λ e. IsDueFault (slots job.now.run.program.now job.now.run.limits.discipline) job.now.run.limits.choices job.now.run.limits.steps job.now.most e) }
     {
         let layer = self.frontier.take_layer(job.alloc);
         let Ok(()) = self.end_layer(job, &layer) else {
@@ -269,10 +266,10 @@ impl<'a, S: Ledger, C: Ledger, O: ObserveProgress> Layering<'a, S, C, O> {
 
     /// No choice is left: the words that lead to the states of the last layer end there.
     fn end_layer(&mut self, job: &MergeJob<'_>, layer: &StateLayer) -> Result<(), AllocError>
-        requires own { IsStateOf job.now.program.now self.old.here.state }
-        requires layer { AreLeads job.now.program.now self.old.frontier.store layer.now.entries (front_at (slots job.now.program.now job.now.limits.discipline) same_outcome same_key job.now.limits.steps job.now.limits.choices).layer }
-        requires ended { AreEnds self.old.frontier.ended.entries (front_at (slots job.now.program.now job.now.limits.discipline) same_outcome same_key job.now.limits.steps job.now.limits.choices).ended }
-        ensures { IfOk result (λ _. AreEnds self.new.frontier.ended.entries (by_layers (slots job.now.program.now job.now.limits.discipline) same_outcome same_key job.now.limits.choices job.now.limits.steps)) }
+        requires own { IsStateOf job.now.run.program.now self.old.here.state }
+        requires layer { AreLeads job.now.run.program.now self.old.frontier.store layer.now.entries (front_at (slots job.now.run.program.now job.now.run.limits.discipline) same_outcome same_key job.now.run.limits.steps job.now.run.limits.choices).layer }
+        requires ended { AreEnds self.old.frontier.ended.entries (front_at (slots job.now.run.program.now job.now.run.limits.discipline) same_outcome same_key job.now.run.limits.steps job.now.run.limits.choices).ended }
+        ensures { IfOk result (λ _. AreEnds self.new.frontier.ended.entries (by_layers (slots job.now.run.program.now job.now.run.limits.discipline) same_outcome same_key job.now.run.limits.choices job.now.run.limits.steps)) }
     {
         for (key, prefixes) in layer.iter() {
             self.frontier.store.take_output(key, &mut self.here.state);

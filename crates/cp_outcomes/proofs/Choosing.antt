@@ -6,7 +6,7 @@ use Rattle.std.proofs.lemmas.Bool.{true≢false}
 use Rattle.std.proofs.lemmas.List.{length-append, length-map}
 use Rattle.cp_run.specs.Slots.{slots}
 use Rattle.cp_walk.specs.Groups.{Tally}
-use Rattle.cp_walk.specs.declared.job.Job.{Job}
+use Rattle.cp_run.specs.declared.job.Job.{Job}
 use Rattle.cp_merged.specs.Code.{tally_of}
 use Rattle.cp_merged.specs.declared.tally.Tally as code
 use Rattle.cp_outcomes.specs.Chosen.{IsChosen, IsCount, IsFirst, IsSchedule, reach_of, told_in, with_number}

@@ -3,7 +3,7 @@ use Rattle.std.specs.Prelude.{◌≡◌, ℕ, zero, suc, List, [], map, length, 
 use Rattle.std.specs.List.{slice_get}
 use Rattle.cp_run.specs.Slots.{slots}
 use Rattle.cp_walk.specs.Groups.{Tally}
-use Rattle.cp_walk.specs.declared.job.Job.{Job}
+use Rattle.cp_run.specs.declared.job.Job.{Job}
 use Rattle.cp_merged.specs.Code.{tally_of}
 use Rattle.cp_simplest.specs.Simple.{IsScheduleOf}
 use Rattle.cp_outcomes.specs.Findings.{IsFoundOf}

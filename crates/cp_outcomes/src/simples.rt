@@ -85,5 +85,5 @@ fn is_row<L: Ledger>(
     ensures { IfOk result (λ is. is ≡ true → IsScheduleOf (slots job.entry.program.now job.entry.limits.discipline) job.entry.limits.choices job.entry.limits.steps word.now outcome.now) }
 {
     let mut ticks: Ticks<L> = Ticks::new(blank);
-    is_schedule_of(alloc, job.program, job.limits, word, outcome, &mut ticks)
+    is_schedule_of(alloc, &job, word, outcome, &mut ticks)
 }

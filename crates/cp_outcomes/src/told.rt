@@ -225,7 +225,7 @@ fn story_by<L: Ledger>(
         ..
     } = subject;
     let mut ticks: Ticks<L> = Ticks::new(blank);
-    tell(alloc, program, legend, limits, word, &mut ticks)
+    tell(alloc, &Job { program, limits }, legend, word, &mut ticks)
 }
 
 // The process that was in error, and the text of the line at which it was.

@@ -196,11 +196,13 @@ fn put_graph<K: Schedules, O: ObserveProgress, S: Ledger>(
 {
     let job = SearchJob {
         alloc,
-        program: subject.program,
-        limits: subject.limits,
+        run: Job {
+            program: subject.program,
+            limits: subject.limits,
+        },
         most: subject.states,
     };
-    let mut state = State::start(alloc, job.program, job.limits.discipline)?;
+    let mut state = State::start(alloc, job.run.program, job.run.limits.discipline)?;
     let mut graph: PageGraph<'_, K, S> = PageGraph::new(alloc, subject, &state, merging, blank)?;
     put_from(
         &job,
@@ -225,11 +227,11 @@ fn put_from<K: Schedules, O: ObserveProgress, S: Ledger>(
     edge: Edge,
     words: &[Vec<u8>],
 ) -> Result<(), AllocError>
-    requires own { IsStateOf job.now.program.now state.old }
-    requires start { machine_of state.old ≡ opening job.now.program.now job.now.limits.discipline }
+    requires own { IsStateOf job.now.run.program.now state.old }
+    requires start { machine_of state.old ≡ opening job.now.run.program.now job.now.run.limits.discipline }
     requires none { graph.old.states.items ≡ [] }
 {
-    let views = put_start(json, job.program, state, &mut graph.teller)?;
+    let views = put_start(json, job.run.program, state, &mut graph.teller)?;
     let start = lay_out(job, observer, graph, state, first, words)?;
     if let Edge::Counted = edge {
         tell_onward::<K, S, Brand, Brand>(job, graph, start, Blank::new(1), Blank::new(1))?;
@@ -307,10 +309,10 @@ fn lay_out<K: Schedules, O: ObserveProgress, S: Ledger>(
     first: &[u8],
     words: &[Vec<u8>],
 ) -> Result<usize, AllocError>
-    requires own { IsStateOf job.now.program.now state.old }
-    requires start { machine_of state.old ≡ opening job.now.program.now job.now.limits.discipline }
+    requires own { IsStateOf job.now.run.program.now state.old }
+    requires start { machine_of state.old ≡ opening job.now.run.program.now job.now.run.limits.discipline }
     requires none { graph.old.states.items ≡ [] }
-    ensures states { IfOk result (λ _. All (IsStateOf job.now.program.now) graph.new.states.items) }
+    ensures states { IfOk result (λ _. All (IsStateOf job.now.run.program.now) graph.new.states.items) }
 {
     let start = graph.begin(job, state)?;
     let mut next = state.copy(job.alloc)?;
@@ -330,10 +332,10 @@ fn lay_words<K: Schedules, O: ObserveProgress, S: Ledger>(
     state: &mut State,
     next: &mut State,
 ) -> Result<(), AllocError>
-    requires own { IsStateOf job.now.program.now state.old }
-    requires next { IsStateOf job.now.program.now next.old }
-    requires states { All (IsStateOf job.now.program.now) graph.old.states.items }
-    ensures states { IfOk result (λ _. All (IsStateOf job.now.program.now) graph.new.states.items) }
+    requires own { IsStateOf job.now.run.program.now state.old }
+    requires next { IsStateOf job.now.run.program.now next.old }
+    requires states { All (IsStateOf job.now.run.program.now) graph.old.states.items }
+    ensures states { IfOk result (λ _. All (IsStateOf job.now.run.program.now) graph.new.states.items) }
 {
     let mut left = job.most as usize;
     for word in words {

@@ -10,6 +10,7 @@ use crate::subject::{MOST_STATES, PageSubject};
 use cp_ends::Found;
 use cp_legend::Legend;
 use cp_progress::ObserveProgress;
+use cp_run::Job;
 use cp_waits::{FoundWaits, How, Waiting, Waits, find_waits};
 use std::alloc::{AllocError, Global};
 
@@ -37,8 +38,7 @@ pub fn endless_of<O: ObserveProgress>(
     } = subject;
     let FoundWaits { found, waits } = find_waits(
         alloc,
-        program,
-        limits,
+        &Job { program, limits },
         MOST_STATES,
         true,
         observer,

@@ -11,7 +11,7 @@ use crate::subject::{Length, PageSubject};
 use crate::teller::Teller;
 use arrayvec::ArrayVec;
 use cp_ends::End;
-use cp_ends::state_key::ReachedKey;
+use cp_key::StateKey;
 use cp_machine::{State, Ticks};
 use cp_progress::Progress;
 use cp_run::{Halt, candidates};
@@ -56,7 +56,7 @@ pub struct PageGraph<'a, K, S: Ledger> {
     /// Of each state.
     nodes: Vec<Node>,
     /// The keys of the states.
-    known: IndexSet<ReachedKey>,
+    known: IndexSet<StateKey>,
     /// The state that each edge leads to, where it leads to no end.
     targets: Vec<Option<usize>>,
     ticks: Ticks<S>,
@@ -90,16 +90,14 @@ impl<'a, K: Schedules, S: Ledger> PageGraph<'a, K, S> {
 
     /// The events before the first choice, as an edge.
     pub fn begin(&mut self, job: &SearchJob<'_>, state: &mut State) -> Result<usize, AllocError>
-        requires own { IsStateOf job.now.program.now state.old }
-        requires start { machine_of state.old ≡ opening job.now.program.now job.now.limits.discipline }
+        requires own { IsStateOf job.now.run.program.now state.old }
+        requires start { machine_of state.old ≡ opening job.now.run.program.now job.now.run.limits.discipline }
         requires none { self.old.states.items ≡ [] }
-        ensures own { IsStateOf job.now.program.now state.new }
-        ensures states { IfOk result (λ _. All (IsStateOf job.now.program.now) self.new.states.items) }
+        ensures own { IsStateOf job.now.run.program.now state.new }
+        ensures states { IfOk result (λ _. All (IsStateOf job.now.run.program.now) self.new.states.items) }
     {
         self.teller.begin_edge(state)?;
-        let halt = self
-            .teller
-            .tell_opening(job.program, job.limits, state, &mut self.ticks)?;
+        let halt = self.teller.tell_opening(&job.run, state, &mut self.ticks)?;
         self.arrive(job, state, halt, 0)
     }
 
@@ -134,9 +132,9 @@ impl<'a, K: Schedules, S: Ledger> PageGraph<'a, K, S> {
         halt: Halt<End>,
         depth: u8,
     ) -> Result<usize, AllocError>
-        requires own { IsStateOf job.now.program.now state.now }
-        requires states { All (IsStateOf job.now.program.now) self.old.states.items }
-        ensures states { IfOk result (λ _. All (IsStateOf job.now.program.now) self.new.states.items) }
+        requires own { IsStateOf job.now.run.program.now state.now }
+        requires states { All (IsStateOf job.now.run.program.now) self.old.states.items }
+        ensures states { IfOk result (λ _. All (IsStateOf job.now.run.program.now) self.new.states.items) }
     {
         match halt {
             Halt::Ended(end) => {
@@ -145,7 +143,7 @@ impl<'a, K: Schedules, S: Ledger> PageGraph<'a, K, S> {
                     going,
                     ..
                 } = &mut self.teller;
-                let row = end_row(register, job.program, state, end, *going)?;
+                let row = end_row(register, job.run.program, state, end, *going)?;
                 let place = register.ends.place(&row)?;
                 self.edge_to(None, place)
             }
@@ -163,9 +161,9 @@ impl<'a, K: Schedules, S: Ledger> PageGraph<'a, K, S> {
         state: &State,
         depth: u8,
     ) -> Result<usize, AllocError>
-        requires own { IsStateOf job.now.program.now state.now }
-        requires states { All (IsStateOf job.now.program.now) self.old.states.items }
-        ensures states { IfOk result (λ _. All (IsStateOf job.now.program.now) self.new.states.items) }
+        requires own { IsStateOf job.now.run.program.now state.now }
+        requires states { All (IsStateOf job.now.run.program.now) self.old.states.items }
+        ensures states { IfOk result (λ _. All (IsStateOf job.now.run.program.now) self.new.states.items) }
     {
         let key = key_of(job.alloc, state, self.merging)?;
         let (place, is_new) = self.known.insert_full(key)?;
@@ -173,7 +171,7 @@ impl<'a, K: Schedules, S: Ledger> PageGraph<'a, K, S> {
             self.states.push(state.copy(job.alloc)?)?;
             self.nodes.push(Node {
                 gate: state.pending(),
-                options: candidates(job.program, job.limits, state),
+                options: candidates(&job.run, state),
                 calls: mem::replace(&mut self.teller.observer.calls, Vec::new(job.alloc)),
                 depth,
                 edges: Vec::new(job.alloc),
@@ -197,7 +195,7 @@ impl<'a, K: Schedules, S: Ledger> PageGraph<'a, K, S> {
     // Whether K choices lead to a state, where there is such a limit.
     fn is_last(&self, job: &SearchJob<'_>, number: usize) -> bool {
         match self.nodes.get(number) {
-            Some(node) => self.length == Length::Limited && node.depth >= job.limits.choices,
+            Some(node) => self.length == Length::Limited && node.depth >= job.run.limits.choices,
             None => true,
         }
     }
@@ -211,12 +209,12 @@ impl<'a, K: Schedules, S: Ledger> PageGraph<'a, K, S> {
         state: &mut State,
         next: &mut State,
     ) -> Result<usize, AllocError>
-        requires own { IsStateOf job.now.program.now state.old }
-        requires next { IsStateOf job.now.program.now next.old }
-        requires states { All (IsStateOf job.now.program.now) self.old.states.items }
-        ensures own { IsStateOf job.now.program.now state.new }
-        ensures next { IsStateOf job.now.program.now next.new }
-        ensures states { IfOk result (λ _. All (IsStateOf job.now.program.now) self.new.states.items) }
+        requires own { IsStateOf job.now.run.program.now state.old }
+        requires next { IsStateOf job.now.run.program.now next.old }
+        requires states { All (IsStateOf job.now.run.program.now) self.old.states.items }
+        ensures own { IsStateOf job.now.run.program.now state.new }
+        ensures next { IsStateOf job.now.run.program.now next.new }
+        ensures states { IfOk result (λ _. All (IsStateOf job.now.run.program.now) self.new.states.items) }
     {
         let mut edge = Some(start);
         let mut count = 0usize;
@@ -238,12 +236,12 @@ impl<'a, K: Schedules, S: Ledger> PageGraph<'a, K, S> {
         state: &mut State,
         next: &mut State,
     ) -> Result<usize, AllocError>
-        requires own { IsStateOf job.now.program.now state.old }
-        requires next { IsStateOf job.now.program.now next.old }
-        requires states { All (IsStateOf job.now.program.now) self.old.states.items }
-        ensures own { IsStateOf job.now.program.now state.new }
-        ensures next { IsStateOf job.now.program.now next.new }
-        ensures states { IfOk result (λ _. All (IsStateOf job.now.program.now) self.new.states.items) }
+        requires own { IsStateOf job.now.run.program.now state.old }
+        requires next { IsStateOf job.now.run.program.now next.old }
+        requires states { All (IsStateOf job.now.run.program.now) self.old.states.items }
+        ensures own { IsStateOf job.now.run.program.now state.new }
+        ensures next { IsStateOf job.now.run.program.now next.new }
+        ensures states { IfOk result (λ _. All (IsStateOf job.now.run.program.now) self.new.states.items) }
     {
         let (Some(found), Ok(number)) = (self.states.get(at), u32::try_from(at)) else {
             return Ok(0);
@@ -314,13 +312,13 @@ impl<'a, K: Schedules, S: Ledger> Visit for PageGraph<'a, K, S> {
     ghost use Rattle.std.specs.Prelude.{All};
     ghost use Rattle.cp_machine.specs.System.{IsStateOf};
 
-    ghost before = { λ v job n. All (IsStateOf job.program.now) v.states.items };
+    ghost before = { λ v job n. All (IsStateOf job.run.program.now) v.states.items };
 
-    ghost within = { λ v job at m done. All (IsStateOf job.program.now) v.states.items };
+    ghost within = { λ v job at m done. All (IsStateOf job.run.program.now) v.states.items };
 
-    ghost over = { λ v job. All (IsStateOf job.program.now) v.states.items };
+    ghost over = { λ v job. All (IsStateOf job.run.program.now) v.states.items };
 
-    ghost stops = { λ v job at. All (IsStateOf job.program.now) v.states.items };
+    ghost stops = { λ v job at. All (IsStateOf job.run.program.now) v.states.items };
 
     fn len(&self) -> usize {
         self.states.len()
@@ -358,7 +356,7 @@ impl<'a, K: Schedules, S: Ledger> Visit for PageGraph<'a, K, S> {
         let depth = self.begin_choice(at as usize, next)?;
         let halt = self
             .teller
-            .tell_choice(job.program, job.limits, next, process, &mut self.ticks)?;
+            .tell_choice(&job.run, next, process, &mut self.ticks)?;
         let edge = self.arrive(job, next, halt, depth)?;
         self.add_edge(at as usize, edge)?;
         next.take_from(state);

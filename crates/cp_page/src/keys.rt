@@ -1,7 +1,6 @@
 //! Which states are one in a page.
 
-use cp_ends::state_key::ReachedKey;
-use cp_key::freeze_core;
+use cp_key::{StateKey, freeze_core};
 use cp_machine::State;
 use std::alloc::{AllocError, Global};
 
@@ -15,8 +14,8 @@ pub enum Merging {
 }
 
 /// The key of a state.
-pub fn key_of(alloc: Global, state: &State, merging: Merging) -> Result<ReachedKey, AllocError> {
-    let mut key = ReachedKey {
+pub fn key_of(alloc: Global, state: &State, merging: Merging) -> Result<StateKey, AllocError> {
+    let mut key = StateKey {
         bytes: Vec::new(alloc),
     };
     match merging {

@@ -16,7 +16,7 @@ use crate::schedules::Schedules;
 use cp_ends::End;
 use cp_run::Outcome;
 use cp_search::SearchJob;
-use cp_ways::{Counting, Ways, WaysJob};
+use cp_ways::{Counting, Ways};
 use indexmap::IndexSet;
 use std::alloc::AllocError;
 use std::sync::ledger::{Blank, Ledger};
@@ -36,38 +36,33 @@ pub fn tell_onward<K: Schedules, S: Ledger, X: Ledger, C: Ledger>(
     requires calls_name { calls.name ≡ C.name }
     requires calls_parts { calls.parts ≡ C.parts }
     requires calls_one { C.parts ≡ 1 }
-    requires states { All (IsStateOf job.now.program.now) graph.old.states.items }
+    requires states { All (IsStateOf job.now.run.program.now) graph.old.states.items }
 {
-    let of = WaysJob {
-        alloc: job.alloc,
-        program: job.program,
-        limits: job.limits,
-    };
     let mut counting: Counting<X, C> = Counting::new(job.alloc, steps, calls);
     let mut layer = IndexSet::new(job.alloc);
     if let Some(first) = graph.target_of(Some(start)) {
         layer.insert(first)?;
     }
-    for used in 0..job.limits.choices {
-        let left = job.limits.choices - used;
-        layer = next_layer(&of, graph, &mut counting, &layer, left)?;
+    for used in 0..job.run.limits.choices {
+        let left = job.run.limits.choices - used;
+        layer = next_layer(job, graph, &mut counting, &layer, left)?;
     }
     Ok(())
 }
 
 // The states to which one choice more leads from these. Those that the page does not go on from are told of, with so many choices left.
 fn next_layer<K: Schedules, S: Ledger, X: Ledger, C: Ledger>(
-    job: &WaysJob<'_>,
+    job: &SearchJob<'_>,
     graph: &mut PageGraph<'_, K, S>,
     counting: &mut Counting<X, C>,
     layer: &IndexSet<usize>,
     left: u8,
 ) -> Result<IndexSet<usize>, AllocError>
     requires few { left ≤ 100 }
-    requires states { All (IsStateOf job.now.program.now) graph.old.states.items }
-    requires known { AreKnown (slots job.now.program.now job.now.limits.discipline) job.now.limits.steps counting.old.known.entries }
+    requires states { All (IsStateOf job.now.run.program.now) graph.old.states.items }
+    requires known { AreKnown (slots job.now.run.program.now job.now.run.limits.discipline) job.now.run.limits.steps counting.old.known.entries }
     ensures states { graph.new.states ≡ graph.old.states }
-    ensures known { AreKnown (slots job.now.program.now job.now.limits.discipline) job.now.limits.steps counting.new.known.entries }
+    ensures known { AreKnown (slots job.now.run.program.now job.now.run.limits.discipline) job.now.run.limits.steps counting.new.known.entries }
 {
     let mut next = IndexSet::new(job.alloc);
     for at in layer.as_slice() {
@@ -93,17 +88,17 @@ fn add_targets<K: Schedules, S: Ledger>(
 
 // Tells what can still come from the state of this place on, where the page does not go on from it, and if it can be counted.
 fn tell_state<K: Schedules, S: Ledger, X: Ledger, C: Ledger>(
-    job: &WaysJob<'_>,
+    job: &SearchJob<'_>,
     graph: &mut PageGraph<'_, K, S>,
     counting: &mut Counting<X, C>,
     at: usize,
     left: u8,
 ) -> Result<(), AllocError>
     requires few { left ≤ 100 }
-    requires states { All (IsStateOf job.now.program.now) graph.old.states.items }
-    requires known { AreKnown (slots job.now.program.now job.now.limits.discipline) job.now.limits.steps counting.old.known.entries }
+    requires states { All (IsStateOf job.now.run.program.now) graph.old.states.items }
+    requires known { AreKnown (slots job.now.run.program.now job.now.run.limits.discipline) job.now.run.limits.steps counting.old.known.entries }
     ensures states { graph.new.states ≡ graph.old.states }
-    ensures known { AreKnown (slots job.now.program.now job.now.limits.discipline) job.now.limits.steps counting.new.known.entries }
+    ensures known { AreKnown (slots job.now.run.program.now job.now.run.limits.discipline) job.now.run.limits.steps counting.new.known.entries }
 {
     if !graph.is_open(at) {
         return Ok(());
@@ -118,22 +113,22 @@ fn tell_state<K: Schedules, S: Ledger, X: Ledger, C: Ledger>(
 
 /// The ways on from the state of this place, and from each one that differs from it in what was displayed before; none where they can't be counted.
 fn count_onward<K: Schedules, S: Ledger, X: Ledger, C: Ledger>(
-    job: &WaysJob<'_>,
+    job: &SearchJob<'_>,
     graph: &PageGraph<'_, K, S>,
     counting: &mut Counting<X, C>,
     at: usize,
     left: u8,
 ) -> Result<Option<Ways>, AllocError>
     requires few { left ≤ 100 }
-    requires states { All (IsStateOf job.now.program.now) graph.now.states.items }
-    requires known { AreKnown (slots job.now.program.now job.now.limits.discipline) job.now.limits.steps counting.old.known.entries }
-    ensures known { AreKnown (slots job.now.program.now job.now.limits.discipline) job.now.limits.steps counting.new.known.entries }
-    ensures ways { IfOk result (λ found. IfSome found (λ ways. IfSome (slice_get graph.now.states.items at) (λ s. (m : Machine) → core_key m ≡ core_key (machine_of s) → AreWaysOn (slots job.now.program.now job.now.limits.discipline) job.now.limits.steps left m ways.list.entries))) }
+    requires states { All (IsStateOf job.now.run.program.now) graph.now.states.items }
+    requires known { AreKnown (slots job.now.run.program.now job.now.run.limits.discipline) job.now.run.limits.steps counting.old.known.entries }
+    ensures known { AreKnown (slots job.now.run.program.now job.now.run.limits.discipline) job.now.run.limits.steps counting.new.known.entries }
+    ensures ways { IfOk result (λ found. IfSome found (λ ways. IfSome (slice_get graph.now.states.items at) (λ s. (m : Machine) → core_key m ≡ core_key (machine_of s) → AreWaysOn (slots job.now.run.program.now job.now.run.limits.discipline) job.now.run.limits.steps left m ways.list.entries))) }
 {
     let Some(state) = graph.states.get(at) else {
         return Ok(None);
     };
-    counting.ways_on(job, state, left)
+    counting.ways_on(job.alloc, &job.run, state, left)
 }
 
 // The row of ways on: `[outcome, count, outcome, count, ..]`, the counts as digits.

@@ -22,7 +22,7 @@ use cp_ends::told::Told;
 use cp_legend::Legend;
 use cp_machine::{Event as Step, Kernel, MOST_SHOWN, State, Ticks};
 use cp_run::{
-    Halt, Holders, Limits, Observe, OutcomeKind, TraceEvent, TraceLine, Turn, observe_choice,
+    Halt, Holders, Job, Observe, OutcomeKind, TraceEvent, TraceLine, Turn, observe_choice,
     observe_opening,
 };
 use cp_slots::Resolved;
@@ -142,57 +142,54 @@ impl<'a, K: Schedules> Teller<'a, K> {
     /// Tells a due choice and the stretch that follows it. Answers where it comes to.
     pub fn tell_choice<S: Ledger>(
         &mut self,
-        program: &Resolved,
-        limits: Limits,
+        job: &Job<'_>,
         state: &mut State,
         process: u8,
         ticks: &mut Ticks<S>,
     ) -> Result<Halt<End>, AllocError>
-        requires own { IsStateOf program.now state.old }
-        requires may { may (slots program.now limits.discipline) (machine_of state.old) process ≡ true }
-        ensures node { IfOk result (λ h. K.IS_SILENT ≡ false → IsHalt h (machine_of state.new) (chosen (slots program.now limits.discipline) limits.steps (machine_of state.old) process)) }
-        ensures goal { IfOk result (λ h. K.IS_SILENT ≡ true → goal_at h (machine_of state.new) ≡ (next_arrival (slots program.now limits.discipline) without_output same_key limits.steps (without_output (machine_of state.old)) process).goal) }
-        ensures own { IsStateOf program.now state.new }
+        requires own { IsStateOf job.now.program.now state.old }
+        requires may { may (slots job.now.program.now job.now.limits.discipline) (machine_of state.old) process ≡ true }
+        ensures node { IfOk result (λ h. K.IS_SILENT ≡ false → IsHalt h (machine_of state.new) (chosen (slots job.now.program.now job.now.limits.discipline) job.now.limits.steps (machine_of state.old) process)) }
+        ensures goal { IfOk result (λ h. K.IS_SILENT ≡ true → goal_at h (machine_of state.new) ≡ (next_arrival (slots job.now.program.now job.now.limits.discipline) without_output same_key job.now.limits.steps (without_output (machine_of state.old)) process).goal) }
+        ensures own { IsStateOf job.now.program.now state.new }
     {
-        Self::forget(program, state);
-        let turn = observe_choice(program, limits, state, process, ticks, self)?;
-        self.arrive(program, limits, state, turn, ticks)
+        Self::forget(job.program, state);
+        let turn = observe_choice(job, state, process, ticks, self)?;
+        self.arrive(job, state, turn, ticks)
     }
 
     /// Tells the beginning of a run in the opening state.
     pub fn tell_opening<S: Ledger>(
         &mut self,
-        program: &Resolved,
-        limits: Limits,
+        job: &Job<'_>,
         state: &mut State,
         ticks: &mut Ticks<S>,
     ) -> Result<Halt<End>, AllocError>
-        requires own { IsStateOf program.now state.old }
-        requires start { machine_of state.old ≡ opening program.now limits.discipline }
-        ensures node { IfOk result (λ h. K.IS_SILENT ≡ false → IsHalt h (machine_of state.new) (opened (slots program.now limits.discipline) limits.steps)) }
-        ensures goal { IfOk result (λ h. K.IS_SILENT ≡ true → goal_at h (machine_of state.new) ≡ (first_arrival (slots program.now limits.discipline) without_output same_key limits.steps).goal) }
-        ensures own { IsStateOf program.now state.new }
+        requires own { IsStateOf job.now.program.now state.old }
+        requires start { machine_of state.old ≡ opening job.now.program.now job.now.limits.discipline }
+        ensures node { IfOk result (λ h. K.IS_SILENT ≡ false → IsHalt h (machine_of state.new) (opened (slots job.now.program.now job.now.limits.discipline) job.now.limits.steps)) }
+        ensures goal { IfOk result (λ h. K.IS_SILENT ≡ true → goal_at h (machine_of state.new) ≡ (first_arrival (slots job.now.program.now job.now.limits.discipline) without_output same_key job.now.limits.steps).goal) }
+        ensures own { IsStateOf job.now.program.now state.new }
     {
-        let turn = observe_opening(program, limits, state, ticks, self)?;
-        self.arrive(program, limits, state, turn, ticks)
+        let turn = observe_opening(job, state, ticks, self)?;
+        self.arrive(job, state, turn, ticks)
     }
 
     // Where a stretch comes to of which this comes next. One that the limit of steps cuts goes on, in schedules of any length, if it repeats.
     fn arrive<S: Ledger>(
         &self,
-        program: &Resolved,
-        limits: Limits,
+        job: &Job<'_>,
         state: &mut State,
         turn: Turn,
         ticks: &mut Ticks<S>,
     ) -> Result<Halt<End>, AllocError>
-        requires own { IsStateOf program.now state.old }
+        requires own { IsStateOf job.now.program.now state.old }
         requires ready { IfGoes turn (λ q. is_ready (machine_of state.old) q ≡ true) }
         requires free { IfGoes turn (λ q. is_pending (machine_of state.old) ≡ false) }
         requires quiet { K.IS_SILENT ≡ true → output_of (machine_of state.old) ≡ [] }
         ensures node { IfOk result (λ h. K.IS_SILENT ≡ false → IsHalt h (machine_of state.new) (node_of (halt_at turn) (machine_of state.old))) }
-        ensures goal { IfOk result (λ h. K.IS_SILENT ≡ true → (shown : List said.Shown) → goal_at h (machine_of state.new) ≡ (halt_arrival (slots program.now limits.discipline) (silent_slots program.now limits.discipline) same_key limits.steps shown (machine_of state.old) turn).goal) }
-        ensures own { IsStateOf program.now state.new }
+        ensures goal { IfOk result (λ h. K.IS_SILENT ≡ true → (shown : List said.Shown) → goal_at h (machine_of state.new) ≡ (halt_arrival (slots job.now.program.now job.now.limits.discipline) (silent_slots job.now.program.now job.now.limits.discipline) same_key job.now.limits.steps shown (machine_of state.old) turn).goal) }
+        ensures own { IsStateOf job.now.program.now state.new }
     {
         match turn {
             Turn::Over(kind) => Ok(Halt::Ended(End::Over(kind))),
@@ -200,7 +197,7 @@ impl<'a, K: Schedules> Teller<'a, K> {
             Turn::Goes(pid) if K::IS_SILENT => {
                 let alloc = self.register.alloc;
                 let mut told = Told::new(alloc, Unseen);
-                let end = end_of_cut(alloc, program, limits, state, pid, &mut told, ticks)?;
+                let end = end_of_cut(alloc, job, state, pid, &mut told, ticks)?;
                 Ok(Halt::Ended(end))
             }
             Turn::Goes(_) => Ok(Halt::Ended(End::Over(OutcomeKind::StepLimit))),
@@ -243,26 +240,19 @@ impl<'a, K: Schedules> Observe for Teller<'a, K> {
 
     ghost expects = { λ t r gates before process x. Unit {0} };
 
-    fn expect_step(
-        &mut self,
-        program: &Resolved,
-        _limits: Limits,
-        state: &State,
-        process: u8,
-    ) -> Result<(), AllocError> {
+    fn expect_step(&mut self, job: &Job<'_>, state: &State, process: u8) -> Result<(), AllocError> {
         if self.is_full() {
             return Ok(());
         }
         self.going = process;
-        self.aim = aim_of(program, state, process);
+        self.aim = aim_of(job.program, state, process);
         self.observer
             .expect(self.register.alloc, state, process, self.aim)
     }
 
     fn see_step(
         &mut self,
-        program: &Resolved,
-        _limits: Limits,
+        job: &Job<'_>,
         state: &State,
         process: u8,
         event: Step,
@@ -272,20 +262,19 @@ impl<'a, K: Schedules> Observe for Teller<'a, K> {
             Step::Ended => TraceEvent::End,
             Step::Local | Step::Fault(_) | Step::OutputFull => return Ok(()),
         };
-        self.tell(program, state, process, event)
+        self.tell(job.program, state, process, event)
     }
 
     fn see_admission(
         &mut self,
-        program: &Resolved,
-        _limits: Limits,
+        job: &Job<'_>,
         state: &State,
         process: u8,
     ) -> Result<(), AllocError> {
-        self.tell(program, state, process, TraceEvent::Admit)
+        self.tell(job.program, state, process, TraceEvent::Admit)
     }
 
-    fn see_choice(&mut self, _program: &Resolved, _limits: Limits, _state: &State, _number: u8) {}
+    fn see_choice(&mut self, _job: &Job<'_>, _state: &State, _number: u8) {}
 
     ghost passes = { λ unseen t r gates before after process x step h. elim K.IS_SILENT as (λ b. b ≡ true → output_of (left_by b after) ≡ []) [ true ↦ λ is. refl | false ↦ λ is. absurd (Prim.cc) ] };
 }

@@ -7,19 +7,18 @@ ghost use Rattle.cp_run.specs.Run.{those_below, may, chosen, opened};
 ghost use Rattle.cp_run.specs.Slots.{slots, processes_of};
 ghost use Rattle.cp_run.specs.Code.{node_of};
 
-use crate::limits::Limits;
+use crate::job::Job;
 use crate::moves::Moves;
 use crate::observing::{halt_at, observe_choice, observe_opening};
 use crate::outcome::{Halt, OutcomeKind};
 use arrayvec::ArrayVec;
 use cp_machine::{State, Ticks, Unwatched, Watch};
-use cp_slots::Resolved;
 use std::sync::ledger::Ledger;
 
 /// The numbers that a due choice may take, in rising order: the line of the pending monitor, or the ready processes.
-pub fn candidates(program: &Resolved, limits: Limits, state: &State) -> ArrayVec<u8, 16>
-    requires own { IsStateOf program.now state.now }
-    ensures { result.items ≡ those_below (processes_of program.now) (may (slots program.now limits.discipline) (machine_of state.now)) }
+pub fn candidates(job: &Job<'_>, state: &State) -> ArrayVec<u8, 16>
+    requires own { IsStateOf job.now.program.now state.now }
+    ensures { result.items ≡ those_below (processes_of job.now.program.now) (may (slots job.now.program.now job.now.limits.discipline) (machine_of state.now)) }
 {
     match state.pending() {
         Some(monitor) => state.waiting(monitor),
@@ -28,34 +27,33 @@ pub fn candidates(program: &Resolved, limits: Limits, state: &State) -> ArrayVec
 }
 
 /// Whether a due choice may take this process.
-pub fn may(program: &Resolved, limits: Limits, state: &State, process: u8) -> bool
-    requires own { IsStateOf program.now state.now }
-    ensures { result ≡ may (slots program.now limits.discipline) (machine_of state.now) process }
+pub fn may(job: &Job<'_>, state: &State, process: u8) -> bool
+    requires own { IsStateOf job.now.program.now state.now }
+    ensures { result ≡ may (slots job.now.program.now job.now.limits.discipline) (machine_of state.now) process }
 {
-    candidates(program, limits, state).contains(&process)
+    candidates(job, state).contains(&process)
 }
 
 /// Takes a due choice: lets the process in at the pending monitor, or goes on with it. `watch` is told of the processes that move.
 pub fn choose<S: Ledger, C: Ledger, W: Watch + Copy>(
-    program: &Resolved,
-    limits: Limits,
+    job: &Job<'_>,
     state: &mut State,
     process: u8,
     watch: &mut W,
     steps: &mut Ticks<S>,
     calls: &mut Ticks<C>,
 ) -> Halt<OutcomeKind>
-    requires own { IsStateOf program.now state.old }
-    requires may { may (slots program.now limits.discipline) (machine_of state.old) process ≡ true }
-    ensures node { chosen (slots program.now limits.discipline) limits.steps (machine_of state.old) process ≡ node_of result (machine_of state.new) }
-    ensures own { IsStateOf program.now state.new }
-    ensures steps { steps.new ≤ steps.old + limits.steps }
+    requires own { IsStateOf job.now.program.now state.old }
+    requires may { may (slots job.now.program.now job.now.limits.discipline) (machine_of state.old) process ≡ true }
+    ensures node { chosen (slots job.now.program.now job.now.limits.discipline) job.now.limits.steps (machine_of state.old) process ≡ node_of result (machine_of state.new) }
+    ensures own { IsStateOf job.now.program.now state.new }
+    ensures steps { steps.new ≤ steps.old + job.now.limits.steps }
     ensures calls { calls.new ≤ calls.old + 1 }
     ensures kept { (before : Machine) → KeepBodies (W.moved watch.old) before (machine_of state.old) → KeepBodies (W.moved watch.new) before (machine_of state.new) }
 {
     calls.tick();
     let mut moves = Moves { watch: *watch };
-    match observe_choice(program, limits, state, process, steps, &mut moves) {
+    match observe_choice(job, state, process, steps, &mut moves) {
         Ok(turn) => {
             *watch = moves.watch;
             halt_at(turn)
@@ -66,22 +64,21 @@ pub fn choose<S: Ledger, C: Ledger, W: Watch + Copy>(
 
 /// Begins a run in the opening state.
 pub fn open<S: Ledger, C: Ledger>(
-    program: &Resolved,
-    limits: Limits,
+    job: &Job<'_>,
     state: &mut State,
     steps: &mut Ticks<S>,
     calls: &mut Ticks<C>,
 ) -> Halt<OutcomeKind>
-    requires own { IsStateOf program.now state.old }
-    requires start { machine_of state.old ≡ opening program.now limits.discipline }
-    ensures node { opened (slots program.now limits.discipline) limits.steps ≡ node_of result (machine_of state.new) }
-    ensures own { IsStateOf program.now state.new }
-    ensures steps { steps.new ≤ steps.old + limits.steps }
+    requires own { IsStateOf job.now.program.now state.old }
+    requires start { machine_of state.old ≡ opening job.now.program.now job.now.limits.discipline }
+    ensures node { opened (slots job.now.program.now job.now.limits.discipline) job.now.limits.steps ≡ node_of result (machine_of state.new) }
+    ensures own { IsStateOf job.now.program.now state.new }
+    ensures steps { steps.new ≤ steps.old + job.now.limits.steps }
     ensures calls { calls.new ≤ calls.old + 1 }
 {
     calls.tick();
     let mut moves = Moves { watch: Unwatched };
-    match observe_opening(program, limits, state, steps, &mut moves) {
+    match observe_opening(job, state, steps, &mut moves) {
         Ok(turn) => halt_at(turn),
         Err(never) => match never {},
     }

@@ -2,6 +2,7 @@
 #![tactic(auto)]
 
 pub mod choice;
+pub mod job;
 pub mod law;
 pub mod limits;
 pub mod line;
@@ -14,6 +15,7 @@ pub mod traces;
 pub mod turn;
 
 pub use choice::{candidates, choose, may, open};
+pub use job::Job;
 pub use law::law_prefix_free;
 pub use limits::{Limits, MOST_CHOICES, MOST_STEPS};
 pub use line::{Holders, TraceEvent, TraceLine};

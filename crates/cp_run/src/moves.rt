@@ -1,9 +1,8 @@
 //! Who moves in a stretch.
 
-use crate::limits::Limits;
+use crate::job::Job;
 use crate::observe::Observe;
 use cp_machine::{Event, State, Watch};
-use cp_slots::Resolved;
 use std::convert::Infallible;
 
 /// Tells whoever watches of the processes that move.
@@ -48,8 +47,7 @@ impl<W: Watch> Observe for Moves<W> {
     #[inline(always)]
     fn expect_step(
         &mut self,
-        _program: &Resolved,
-        _limits: Limits,
+        _job: &Job<'_>,
         _state: &State,
         process: u8,
     ) -> Result<(), Infallible> {
@@ -60,8 +58,7 @@ impl<W: Watch> Observe for Moves<W> {
     #[inline(always)]
     fn see_step(
         &mut self,
-        _program: &Resolved,
-        _limits: Limits,
+        _job: &Job<'_>,
         _state: &State,
         _process: u8,
         _event: Event,
@@ -71,15 +68,14 @@ impl<W: Watch> Observe for Moves<W> {
 
     fn see_admission(
         &mut self,
-        _program: &Resolved,
-        _limits: Limits,
+        _job: &Job<'_>,
         _state: &State,
         _process: u8,
     ) -> Result<(), Infallible> {
         Ok(())
     }
 
-    fn see_choice(&mut self, _program: &Resolved, _limits: Limits, _state: &State, _number: u8) {}
+    fn see_choice(&mut self, _job: &Job<'_>, _state: &State, _number: u8) {}
 
     ghost passes = { λ unseen m r discipline before after process x step h. subst (KeepBodies (W.moved m.watch) x) (ap (λ (s : Stepped). s.machine) step) (keep_step r (W.moved m.watch) x before process h.0 h.1) };
 }

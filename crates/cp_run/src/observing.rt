@@ -11,7 +11,7 @@ ghost use Rattle.cp_run.specs.Stop.{last_state};
 ghost use Rattle.cp_run.specs.declared.outcome.Turn.TheVariants.{Goes};
 
 use crate::choice::may;
-use crate::limits::Limits;
+use crate::job::Job;
 use crate::observe::Observe;
 use crate::outcome::{Halt, OutcomeKind, RunEnd, Turn};
 use crate::runs::{end_of_word, is_over};
@@ -47,30 +47,29 @@ fn leave(program: &Resolved, state: &mut State, is_silent: bool)
 /// An observer sees a step of a process come, and the step is taken if it is local and need not be seen. Tells whether it was taken.
 #[inline(always)]
 pub fn expect_step<S: Ledger, O: Observe>(
-    program: &Resolved,
-    limits: Limits,
+    job: &Job<'_>,
     state: &mut State,
     process: u8,
     steps: &mut Ticks<S>,
     observer: &mut O,
 ) -> Result<bool, O::Error>
-    requires own { IsStateOf program.now state.old }
+    requires own { IsStateOf job.now.program.now state.old }
     requires ready { is_ready (machine_of state.old) process ≡ true }
     requires free { is_pending (machine_of state.old) ≡ false }
-    ensures state { IfOk result (λ taken. taken ≡ true → machine_of state.new ≡ (slots_by O.IS_SILENT program.now limits.discipline).step (machine_of state.old) process) }
-    ensures turn { IfOk result (λ taken. taken ≡ true → Goes process ≡ turn_after (slots_by O.IS_SILENT program.now limits.discipline) (machine_of state.new) process ((slots_by O.IS_SILENT program.now limits.discipline).event (machine_of state.old) process)) }
-    ensures seen { IfOk result (λ taken. taken ≡ true → (x : O.Seen) → O.holds observer.old program.now limits.discipline (machine_of state.old) x → O.holds observer.new program.now limits.discipline (machine_of state.new) ((O.fold program.now limits.discipline).on_step (machine_of state.old) process ((slots_by O.IS_SILENT program.now limits.discipline).event (machine_of state.old) process) (machine_of state.new) x)) }
+    ensures state { IfOk result (λ taken. taken ≡ true → machine_of state.new ≡ (slots_by O.IS_SILENT job.now.program.now job.now.limits.discipline).step (machine_of state.old) process) }
+    ensures turn { IfOk result (λ taken. taken ≡ true → Goes process ≡ turn_after (slots_by O.IS_SILENT job.now.program.now job.now.limits.discipline) (machine_of state.new) process ((slots_by O.IS_SILENT job.now.program.now job.now.limits.discipline).event (machine_of state.old) process)) }
+    ensures seen { IfOk result (λ taken. taken ≡ true → (x : O.Seen) → O.holds observer.old job.now.program.now job.now.limits.discipline (machine_of state.old) x → O.holds observer.new job.now.program.now job.now.limits.discipline (machine_of state.new) ((O.fold job.now.program.now job.now.limits.discipline).on_step (machine_of state.old) process ((slots_by O.IS_SILENT job.now.program.now job.now.limits.discipline).event (machine_of state.old) process) (machine_of state.new) x)) }
     ensures same { IfOk result (λ taken. taken ≡ false → machine_of state.new ≡ machine_of state.old) }
-    ensures expects { IfOk result (λ taken. taken ≡ false → (x : O.Seen) → O.holds observer.old program.now limits.discipline (machine_of state.old) x → O.expects observer.new program.now limits.discipline (machine_of state.old) process x) }
-    ensures own { IsStateOf program.now state.new }
+    ensures expects { IfOk result (λ taken. taken ≡ false → (x : O.Seen) → O.holds observer.old job.now.program.now job.now.limits.discipline (machine_of state.old) x → O.expects observer.new job.now.program.now job.now.limits.discipline (machine_of state.old) process x) }
+    ensures own { IsStateOf job.now.program.now state.new }
     ensures ready { IfOk result (λ _. is_ready (machine_of state.new) process ≡ true) }
     ensures free { IfOk result (λ _. is_pending (machine_of state.new) ≡ false) }
     ensures steps { steps.new ≤ steps.old + 1 }
     ensures none { IfOk result (λ taken. taken ≡ false → steps.new ≡ steps.old) }
 {
-    observer.expect_step(program, limits, state, process)?;
-    if !O::sees_local() && local_step(program, state, process, steps) {
-        leave(program, state, O::is_silent());
+    observer.expect_step(job, state, process)?;
+    if !O::sees_local() && local_step(job.program, state, process, steps) {
+        leave(job.program, state, O::is_silent());
         return Ok(true);
     }
     Ok(false)
@@ -79,141 +78,135 @@ pub fn expect_step<S: Ledger, O: Observe>(
 /// Takes the step that an observer expects. Answers what comes next.
 #[inline(always)]
 pub fn see_step<S: Ledger, O: Observe>(
-    program: &Resolved,
-    limits: Limits,
+    job: &Job<'_>,
     state: &mut State,
     process: u8,
     steps: &mut Ticks<S>,
     observer: &mut O,
 ) -> Result<Turn, O::Error>
-    requires own { IsStateOf program.now state.old }
+    requires own { IsStateOf job.now.program.now state.old }
     requires ready { is_ready (machine_of state.old) process ≡ true }
     requires free { is_pending (machine_of state.old) ≡ false }
-    ensures state { IfOk result (λ _. machine_of state.new ≡ (slots_by O.IS_SILENT program.now limits.discipline).step (machine_of state.old) process) }
-    ensures turn { IfOk result (λ t. t ≡ turn_after (slots_by O.IS_SILENT program.now limits.discipline) (machine_of state.new) process ((slots_by O.IS_SILENT program.now limits.discipline).event (machine_of state.old) process)) }
-    ensures seen { IfOk result (λ _. (x : O.Seen) → O.expects observer.old program.now limits.discipline (machine_of state.old) process x → O.holds observer.new program.now limits.discipline (machine_of state.new) ((O.fold program.now limits.discipline).on_step (machine_of state.old) process ((slots_by O.IS_SILENT program.now limits.discipline).event (machine_of state.old) process) (machine_of state.new) x)) }
-    ensures own { IsStateOf program.now state.new }
+    ensures state { IfOk result (λ _. machine_of state.new ≡ (slots_by O.IS_SILENT job.now.program.now job.now.limits.discipline).step (machine_of state.old) process) }
+    ensures turn { IfOk result (λ t. t ≡ turn_after (slots_by O.IS_SILENT job.now.program.now job.now.limits.discipline) (machine_of state.new) process ((slots_by O.IS_SILENT job.now.program.now job.now.limits.discipline).event (machine_of state.old) process)) }
+    ensures seen { IfOk result (λ _. (x : O.Seen) → O.expects observer.old job.now.program.now job.now.limits.discipline (machine_of state.old) process x → O.holds observer.new job.now.program.now job.now.limits.discipline (machine_of state.new) ((O.fold job.now.program.now job.now.limits.discipline).on_step (machine_of state.old) process ((slots_by O.IS_SILENT job.now.program.now job.now.limits.discipline).event (machine_of state.old) process) (machine_of state.new) x)) }
+    ensures own { IsStateOf job.now.program.now state.new }
     ensures ready { IfOk result (λ t. IfGoes t (λ q. is_ready (machine_of state.new) q ≡ true)) }
     ensures free { IfOk result (λ t. IfGoes t (λ q. is_pending (machine_of state.new) ≡ false)) }
     ensures steps { steps.new ≤ steps.old + 1 }
 {
-    let event = step(program, state, process, steps);
-    observer.see_step(program, limits, state, process, event)?;
-    leave(program, state, O::is_silent());
-    Ok(turn_of(program, limits, state, process, event))
+    let event = step(job.program, state, process, steps);
+    observer.see_step(job, state, process, event)?;
+    leave(job.program, state, O::is_silent());
+    Ok(turn_of(job, state, process, event))
 }
 
 // A stretch, if one comes next: at most as many steps as the limit. Answers what comes after them.
 fn observe_stretch<S: Ledger, O: Observe>(
-    program: &Resolved,
-    limits: Limits,
+    job: &Job<'_>,
     state: &mut State,
     turn: Turn,
     steps: &mut Ticks<S>,
     observer: &mut O,
 ) -> Result<Turn, O::Error>
-    requires own { IsStateOf program.now state.old }
+    requires own { IsStateOf job.now.program.now state.old }
     requires ready { IfGoes turn (λ q. is_ready (machine_of state.old) q ≡ true) }
     requires free { IfGoes turn (λ q. is_pending (machine_of state.old) ≡ false) }
-    ensures walked { IfOk result (λ t. walked (slots_by O.IS_SILENT program.now limits.discipline) limits.steps (machine_of state.old) turn ≡ (machine_of state.new, t)) }
-    ensures seen { IfOk result (λ _. (x : O.Seen) → O.holds observer.old program.now limits.discipline (machine_of state.old) x → O.holds observer.new program.now limits.discipline (machine_of state.new) (fold_turn (fold_stretch (slots_by O.IS_SILENT program.now limits.discipline) (O.fold program.now limits.discipline) limits.steps (machine_of state.old)) turn x)) }
-    ensures own { IsStateOf program.now state.new }
+    ensures walked { IfOk result (λ t. walked (slots_by O.IS_SILENT job.now.program.now job.now.limits.discipline) job.now.limits.steps (machine_of state.old) turn ≡ (machine_of state.new, t)) }
+    ensures seen { IfOk result (λ _. (x : O.Seen) → O.holds observer.old job.now.program.now job.now.limits.discipline (machine_of state.old) x → O.holds observer.new job.now.program.now job.now.limits.discipline (machine_of state.new) (fold_turn (fold_stretch (slots_by O.IS_SILENT job.now.program.now job.now.limits.discipline) (O.fold job.now.program.now job.now.limits.discipline) job.now.limits.steps (machine_of state.old)) turn x)) }
+    ensures own { IsStateOf job.now.program.now state.new }
     ensures ready { IfOk result (λ t. IfGoes t (λ q. is_ready (machine_of state.new) q ≡ true)) }
     ensures free { IfOk result (λ t. IfGoes t (λ q. is_pending (machine_of state.new) ≡ false)) }
-    ensures steps { steps.new ≤ steps.old + limits.steps }
+    ensures steps { steps.new ≤ steps.old + job.now.limits.steps }
 {
     let mut next = turn;
-    for _ in 0..limits.steps {
+    for _ in 0..job.limits.steps {
         let Turn::Goes(process) = next else {
             break;
         };
-        if expect_step(program, limits, state, process, steps, observer)? {
+        if expect_step(job, state, process, steps, observer)? {
             continue;
         }
-        next = see_step(program, limits, state, process, steps, observer)?;
+        next = see_step(job, state, process, steps, observer)?;
     }
     Ok(next)
 }
 
 // What comes after a due choice was taken.
 fn take_choice<O: Observe>(
-    program: &Resolved,
-    limits: Limits,
+    job: &Job<'_>,
     state: &mut State,
     process: u8,
     observer: &mut O,
 ) -> Result<Turn, O::Error>
-    requires own { IsStateOf program.now state.old }
-    requires may { may (slots program.now limits.discipline) (machine_of state.old) process ≡ true }
-    ensures node { IfOk result (λ t. (silent : _) → chosen (slots_by silent program.now limits.discipline) limits.steps (machine_of state.old) process ≡ node_at (machine_of state.new) (stretch (slots_by silent program.now limits.discipline) limits.steps (machine_of state.new)) t) }
-    ensures walked { IfOk result (λ t. (silent : _) → walked_chosen (slots_by silent program.now limits.discipline) limits.steps (machine_of state.old) process ≡ walked (slots_by silent program.now limits.discipline) limits.steps (machine_of state.new) t) }
-    ensures seen { IfOk result (λ t. (silent : _) (x : O.Seen) → O.holds observer.old program.now limits.discipline (machine_of state.old) x → (y : O.Seen) × O.holds observer.new program.now limits.discipline (machine_of state.new) y × (fold_chosen (slots_by silent program.now limits.discipline) (O.fold program.now limits.discipline) limits.steps (machine_of state.old) process x ≡ fold_turn (fold_stretch (slots_by silent program.now limits.discipline) (O.fold program.now limits.discipline) limits.steps (machine_of state.new)) t y)) }
+    requires own { IsStateOf job.now.program.now state.old }
+    requires may { may (slots job.now.program.now job.now.limits.discipline) (machine_of state.old) process ≡ true }
+    ensures node { IfOk result (λ t. (silent : _) → chosen (slots_by silent job.now.program.now job.now.limits.discipline) job.now.limits.steps (machine_of state.old) process ≡ node_at (machine_of state.new) (stretch (slots_by silent job.now.program.now job.now.limits.discipline) job.now.limits.steps (machine_of state.new)) t) }
+    ensures walked { IfOk result (λ t. (silent : _) → walked_chosen (slots_by silent job.now.program.now job.now.limits.discipline) job.now.limits.steps (machine_of state.old) process ≡ walked (slots_by silent job.now.program.now job.now.limits.discipline) job.now.limits.steps (machine_of state.new) t) }
+    ensures seen { IfOk result (λ t. (silent : _) (x : O.Seen) → O.holds observer.old job.now.program.now job.now.limits.discipline (machine_of state.old) x → (y : O.Seen) × O.holds observer.new job.now.program.now job.now.limits.discipline (machine_of state.new) y × (fold_chosen (slots_by silent job.now.program.now job.now.limits.discipline) (O.fold job.now.program.now job.now.limits.discipline) job.now.limits.steps (machine_of state.old) process x ≡ fold_turn (fold_stretch (slots_by silent job.now.program.now job.now.limits.discipline) (O.fold job.now.program.now job.now.limits.discipline) job.now.limits.steps (machine_of state.new)) t y)) }
     ensures ready { IfOk result (λ t. IfGoes t (λ q. is_ready (machine_of state.new) q ≡ true)) }
     ensures free { IfOk result (λ t. IfGoes t (λ q. is_pending (machine_of state.new) ≡ false)) }
-    ensures own { IsStateOf program.now state.new }
+    ensures own { IsStateOf job.now.program.now state.new }
 {
     if state.pending().is_none() {
         return Ok(Turn::Goes(process));
     }
     state.admit(process);
-    observer.see_admission(program, limits, state, process)?;
-    Ok(settled_turn(program, limits, state, true, process))
+    observer.see_admission(job, state, process)?;
+    Ok(settled_turn(job, state, true, process))
 }
 
 /// Takes a due choice, and makes the stretch after it. An observer is told of it. Answers what comes next; where that is a step, the stretch
 /// made as many as the limits allow.
 pub fn observe_choice<S: Ledger, O: Observe>(
-    program: &Resolved,
-    limits: Limits,
+    job: &Job<'_>,
     state: &mut State,
     process: u8,
     steps: &mut Ticks<S>,
     observer: &mut O,
 ) -> Result<Turn, O::Error>
-    requires own { IsStateOf program.now state.old }
-    requires may { may (slots program.now limits.discipline) (machine_of state.old) process ≡ true }
-    ensures node { IfOk result (λ t. chosen (slots_by O.IS_SILENT program.now limits.discipline) limits.steps (machine_of state.old) process ≡ node_of (halt_at t) (machine_of state.new)) }
-    ensures walked { IfOk result (λ t. walked_chosen (slots_by O.IS_SILENT program.now limits.discipline) limits.steps (machine_of state.old) process ≡ (machine_of state.new, t)) }
-    ensures seen { IfOk result (λ _. (x : O.Seen) → O.holds observer.old program.now limits.discipline (machine_of state.old) x → O.holds observer.new program.now limits.discipline (machine_of state.new) (fold_chosen (slots_by O.IS_SILENT program.now limits.discipline) (O.fold program.now limits.discipline) limits.steps (machine_of state.old) process x)) }
-    ensures own { IsStateOf program.now state.new }
+    requires own { IsStateOf job.now.program.now state.old }
+    requires may { may (slots job.now.program.now job.now.limits.discipline) (machine_of state.old) process ≡ true }
+    ensures node { IfOk result (λ t. chosen (slots_by O.IS_SILENT job.now.program.now job.now.limits.discipline) job.now.limits.steps (machine_of state.old) process ≡ node_of (halt_at t) (machine_of state.new)) }
+    ensures walked { IfOk result (λ t. walked_chosen (slots_by O.IS_SILENT job.now.program.now job.now.limits.discipline) job.now.limits.steps (machine_of state.old) process ≡ (machine_of state.new, t)) }
+    ensures seen { IfOk result (λ _. (x : O.Seen) → O.holds observer.old job.now.program.now job.now.limits.discipline (machine_of state.old) x → O.holds observer.new job.now.program.now job.now.limits.discipline (machine_of state.new) (fold_chosen (slots_by O.IS_SILENT job.now.program.now job.now.limits.discipline) (O.fold job.now.program.now job.now.limits.discipline) job.now.limits.steps (machine_of state.old) process x)) }
+    ensures own { IsStateOf job.now.program.now state.new }
     ensures ready { IfOk result (λ t. IfGoes t (λ q. is_ready (machine_of state.new) q ≡ true)) }
     ensures free { IfOk result (λ t. IfGoes t (λ q. is_pending (machine_of state.new) ≡ false)) }
-    ensures steps { steps.new ≤ steps.old + limits.steps }
+    ensures steps { steps.new ≤ steps.old + job.now.limits.steps }
 {
-    let turn = take_choice(program, limits, state, process, observer)?;
-    observe_stretch(program, limits, state, turn, steps, observer)
+    let turn = take_choice(job, state, process, observer)?;
+    observe_stretch(job, state, turn, steps, observer)
 }
 
 /// The same of the beginning of a run, in the opening state.
 pub fn observe_opening<S: Ledger, O: Observe>(
-    program: &Resolved,
-    limits: Limits,
+    job: &Job<'_>,
     state: &mut State,
     steps: &mut Ticks<S>,
     observer: &mut O,
 ) -> Result<Turn, O::Error>
-    requires own { IsStateOf program.now state.old }
-    requires start { machine_of state.old ≡ opening program.now limits.discipline }
-    ensures node { IfOk result (λ t. opened (slots_by O.IS_SILENT program.now limits.discipline) limits.steps ≡ node_of (halt_at t) (machine_of state.new)) }
-    ensures walked { IfOk result (λ t. walked_opened (slots_by O.IS_SILENT program.now limits.discipline) limits.steps ≡ (machine_of state.new, t)) }
-    ensures seen { IfOk result (λ _. (x : O.Seen) → O.holds observer.old program.now limits.discipline (machine_of state.old) x → O.holds observer.new program.now limits.discipline (machine_of state.new) (fold_opened (slots_by O.IS_SILENT program.now limits.discipline) (O.fold program.now limits.discipline) limits.steps x)) }
-    ensures own { IsStateOf program.now state.new }
+    requires own { IsStateOf job.now.program.now state.old }
+    requires start { machine_of state.old ≡ opening job.now.program.now job.now.limits.discipline }
+    ensures node { IfOk result (λ t. opened (slots_by O.IS_SILENT job.now.program.now job.now.limits.discipline) job.now.limits.steps ≡ node_of (halt_at t) (machine_of state.new)) }
+    ensures walked { IfOk result (λ t. walked_opened (slots_by O.IS_SILENT job.now.program.now job.now.limits.discipline) job.now.limits.steps ≡ (machine_of state.new, t)) }
+    ensures seen { IfOk result (λ _. (x : O.Seen) → O.holds observer.old job.now.program.now job.now.limits.discipline (machine_of state.old) x → O.holds observer.new job.now.program.now job.now.limits.discipline (machine_of state.new) (fold_opened (slots_by O.IS_SILENT job.now.program.now job.now.limits.discipline) (O.fold job.now.program.now job.now.limits.discipline) job.now.limits.steps x)) }
+    ensures own { IsStateOf job.now.program.now state.new }
     ensures ready { IfOk result (λ t. IfGoes t (λ q. is_ready (machine_of state.new) q ≡ true)) }
     ensures free { IfOk result (λ t. IfGoes t (λ q. is_pending (machine_of state.new) ≡ false)) }
-    ensures steps { steps.new ≤ steps.old + limits.steps }
+    ensures steps { steps.new ≤ steps.old + job.now.limits.steps }
 {
     // A sound program has a process.
-    let _processes = program.processes();
-    let first = turn_at(program, limits, state, false, 0);
-    observe_stretch(program, limits, state, first, steps, observer)
+    let _processes = job.program.processes();
+    let first = turn_at(job, state, false, 0);
+    observe_stretch(job, state, first, steps, observer)
 }
 
 /// Runs a word from the opening state, in which `state` is. An observer is told of it; where it fails, so does the run.
 /// `ticks` counts the steps that succeed.
 pub fn observe_run<L: Ledger, O: Observe<Error = AllocError>>(
     alloc: Global,
-    program: &Resolved,
-    limits: Limits,
+    job: &Job<'_>,
     word: &[u8],
     ticks: &mut Ticks<L>,
     state: &mut State,
@@ -221,26 +214,26 @@ pub fn observe_run<L: Ledger, O: Observe<Error = AllocError>>(
 ) -> Result<RunEnd, AllocError>
     requires loud { O.IS_SILENT ≡ false }
     requires word { length word.now ≤ 100 }
-    requires own { IsStateOf program.now state.old }
-    requires start { machine_of state.old ≡ opening program.now limits.discipline }
-    ensures answer { IfOk result (λ end. answer_of end ≡ run (slots program.now limits.discipline) limits.choices limits.steps word.now) }
-    ensures seen { IfOk result (λ _. (x : O.Seen) → O.holds observer.old program.now limits.discipline (machine_of state.old) x → O.holds observer.new program.now limits.discipline (machine_of state.new) (fold_run (slots program.now limits.discipline) (O.fold program.now limits.discipline) limits.choices limits.steps word.now x)) }
-    ensures stop { IfOk result (λ _. machine_of state.new ≡ last_state (slots program.now limits.discipline) limits.choices limits.steps word.now) }
-    ensures own { IsStateOf program.now state.new }
-    ensures ticks { ticks.new ≤ ticks.old + (limits.choices + 1) * limits.steps }
+    requires own { IsStateOf job.now.program.now state.old }
+    requires start { machine_of state.old ≡ opening job.now.program.now job.now.limits.discipline }
+    ensures answer { IfOk result (λ end. answer_of end ≡ run (slots job.now.program.now job.now.limits.discipline) job.now.limits.choices job.now.limits.steps word.now) }
+    ensures seen { IfOk result (λ _. (x : O.Seen) → O.holds observer.old job.now.program.now job.now.limits.discipline (machine_of state.old) x → O.holds observer.new job.now.program.now job.now.limits.discipline (machine_of state.new) (fold_run (slots job.now.program.now job.now.limits.discipline) (O.fold job.now.program.now job.now.limits.discipline) job.now.limits.choices job.now.limits.steps word.now x)) }
+    ensures stop { IfOk result (λ _. machine_of state.new ≡ last_state (slots job.now.program.now job.now.limits.discipline) job.now.limits.choices job.now.limits.steps word.now) }
+    ensures own { IsStateOf job.now.program.now state.new }
+    ensures ticks { ticks.new ≤ ticks.old + (job.now.limits.choices + 1) * job.now.limits.steps }
 {
-    let first = observe_opening(program, limits, state, ticks, observer)?;
+    let first = observe_opening(job, state, ticks, observer)?;
     let mut halt = halt_at(first);
     for (place, process) in word.iter().enumerate() {
-        if is_over(limits, halt, place) {
-            return end_of_word(alloc, program, limits, halt, state, place);
+        if is_over(job.limits, halt, place) {
+            return end_of_word(alloc, job, halt, state, place);
         }
-        observer.see_choice(program, limits, state, *process);
-        if !may(program, limits, state, *process) {
+        observer.see_choice(job, state, *process);
+        if !may(job, state, *process) {
             return Ok(RunEnd::NotReady { place });
         }
-        let next = observe_choice(program, limits, state, *process, ticks, observer)?;
+        let next = observe_choice(job, state, *process, ticks, observer)?;
         halt = halt_at(next);
     }
-    end_of_word(alloc, program, limits, halt, state, word.len())
+    end_of_word(alloc, job, halt, state, word.len())
 }

@@ -7,10 +7,10 @@ ghost use Rattle.cp_run.specs.Slots.{slots};
 ghost use Rattle.cp_run.specs.Code.{answer_of, node_of, further, is_over};
 
 use crate::choice::{candidates, choose, may, open};
+use crate::job::Job;
 use crate::limits::Limits;
 use crate::outcome::{Halt, Outcome, OutcomeKind, Output, RunEnd};
 use cp_machine::{State, Ticks, Unwatched};
-use cp_slots::Resolved;
 use std::alloc::{AllocError, Global};
 use std::marker::Brand;
 use std::sync::ledger::{Blank, Ledger};
@@ -26,22 +26,20 @@ pub fn outcome_at(alloc: Global, kind: OutcomeKind, state: &State) -> Result<Out
 /// Runs a word from the opening state. `ticks` counts the steps that succeed.
 pub fn run<L: Ledger>(
     alloc: Global,
-    program: &Resolved,
-    limits: Limits,
+    job: &Job<'_>,
     word: &[u8],
     ticks: &mut Ticks<L>,
 ) -> Result<RunEnd, AllocError>
     requires { length word.now ≤ 100 }
-    ensures answer { IfOk result (λ end. answer_of end ≡ run (slots program.now limits.discipline) limits.choices limits.steps word.now) }
-    ensures ticks { ticks.new ≤ ticks.old + (limits.choices + 1) * limits.steps }
+    ensures answer { IfOk result (λ end. answer_of end ≡ run (slots job.now.program.now job.now.limits.discipline) job.now.limits.choices job.now.limits.steps word.now) }
+    ensures ticks { ticks.new ≤ ticks.old + (job.now.limits.choices + 1) * job.now.limits.steps }
 {
-    run_counted::<L, Brand>(alloc, program, limits, word, ticks, Blank::new(1))
+    run_counted::<L, Brand>(alloc, job, word, ticks, Blank::new(1))
 }
 
 fn run_counted<L: Ledger, C: Ledger>(
     alloc: Global,
-    program: &Resolved,
-    limits: Limits,
+    job: &Job<'_>,
     word: &[u8],
     ticks: &mut Ticks<L>,
     blank: Blank,
@@ -49,12 +47,12 @@ fn run_counted<L: Ledger, C: Ledger>(
     requires name { blank.name ≡ C.name }
     requires parts { blank.parts ≡ C.parts }
     requires one { C.parts ≡ 1 }
-    ensures answer { IfOk result (λ end. answer_of end ≡ run (slots program.now limits.discipline) limits.choices limits.steps word.now) }
-    ensures ticks { ticks.new ≤ ticks.old + (limits.choices + 1) * limits.steps }
+    ensures answer { IfOk result (λ end. answer_of end ≡ run (slots job.now.program.now job.now.limits.discipline) job.now.limits.choices job.now.limits.steps word.now) }
+    ensures ticks { ticks.new ≤ ticks.old + (job.now.limits.choices + 1) * job.now.limits.steps }
 {
     let mut calls: Ticks<C> = Ticks::new(blank);
-    let mut state = State::start(alloc, program, limits.discipline)?;
-    let mut halt = open(program, limits, &mut state, ticks, &mut calls);
+    let mut state = State::start(alloc, job.program, job.limits.discipline)?;
+    let mut halt = open(job, &mut state, ticks, &mut calls);
     for (place, process) in word.iter().enumerate() {
         match halt {
             Halt::Ended(kind) => {
@@ -65,43 +63,34 @@ fn run_counted<L: Ledger, C: Ledger>(
                 });
             }
             Halt::Choice => {
-                if place == limits.choices as usize {
+                if place == job.limits.choices as usize {
                     let outcome = outcome_at(alloc, OutcomeKind::ChoiceLimit, &state)?;
                     return Ok(RunEnd::Ended {
                         outcome,
                         used: place,
                     });
                 }
-                if !may(program, limits, &state, *process) {
+                if !may(job, &state, *process) {
                     return Ok(RunEnd::NotReady { place });
                 }
-                halt = choose(
-                    program,
-                    limits,
-                    &mut state,
-                    *process,
-                    &mut Unwatched,
-                    ticks,
-                    &mut calls,
-                );
+                halt = choose(job, &mut state, *process, &mut Unwatched, ticks, &mut calls);
             }
         }
     }
-    end_of_word(alloc, program, limits, halt, &state, word.len())
+    end_of_word(alloc, job, halt, &state, word.len())
 }
 
 /// The end of a run whose word is used up.
 pub fn end_of_word(
     alloc: Global,
-    program: &Resolved,
-    limits: Limits,
+    job: &Job<'_>,
     halt: Halt<OutcomeKind>,
     state: &State,
     used: usize,
 ) -> Result<RunEnd, AllocError>
-    requires own { IsStateOf program.now state.now }
-    requires within { used ≤ limits.choices }
-    ensures { IfOk result (λ end. answer_of end ≡ further used (run_from (slots program.now limits.discipline) limits.steps (limits.choices - used) [] (node_of halt (machine_of state.now)))) }
+    requires own { IsStateOf job.now.program.now state.now }
+    requires within { used ≤ job.now.limits.choices }
+    ensures { IfOk result (λ end. answer_of end ≡ further used (run_from (slots job.now.program.now job.now.limits.discipline) job.now.limits.steps (job.now.limits.choices - used) [] (node_of halt (machine_of state.now)))) }
 {
     match halt {
         Halt::Ended(kind) => Ok(RunEnd::Ended {
@@ -109,14 +98,14 @@ pub fn end_of_word(
             used,
         }),
         Halt::Choice => {
-            if used == limits.choices as usize {
+            if used == job.limits.choices as usize {
                 Ok(RunEnd::Ended {
                     outcome: outcome_at(alloc, OutcomeKind::ChoiceLimit, state)?,
                     used,
                 })
             } else {
                 Ok(RunEnd::Wants {
-                    ready: candidates(program, limits, state),
+                    ready: candidates(job, state),
                 })
             }
         }

@@ -7,29 +7,23 @@ ghost use Rattle.cp_run.specs.Run.{run};
 ghost use Rattle.cp_run.specs.Slots.{slots};
 ghost use Rattle.cp_run.specs.Trace.{holders_in, trace};
 
-use crate::limits::Limits;
+use crate::job::Job;
 use crate::line::{Holders, TraceEvent, TraceLine};
 use crate::observe::Observe;
 use crate::observing::observe_run;
 use crate::outcome::RunEnd;
 use cp_machine::{Event, State, Ticks};
-use cp_slots::Resolved;
 use std::alloc::{AllocError, Global};
 use std::sync::ledger::Ledger;
 
 /// For each monitor the process inside it.
-pub fn holders(
-    alloc: Global,
-    program: &Resolved,
-    limits: Limits,
-    state: &State,
-) -> Result<Holders, AllocError>
-    requires { IsStateOf program.now state.now }
-    ensures { IfOk result (λ h. h ≡ holders_in (slots program.now limits.discipline) (machine_of state.now)) }
+pub fn holders(alloc: Global, job: &Job<'_>, state: &State) -> Result<Holders, AllocError>
+    requires { IsStateOf job.now.program.now state.now }
+    ensures { IfOk result (λ h. h ≡ holders_in (slots job.now.program.now job.now.limits.discipline) (machine_of state.now)) }
 {
-    let _ = limits;
+    let _ = job.limits;
     let mut holders = Vec::new(alloc);
-    for monitor in 0..program.monitors() {
+    for monitor in 0..job.program.monitors() {
         holders.push(state.holder(monitor))?;
     }
     Ok(Holders::new(holders))
@@ -46,16 +40,15 @@ impl Lines {
     // Appends a line, with the holders of a state.
     fn push(
         &mut self,
-        program: &Resolved,
-        limits: Limits,
+        job: &Job<'_>,
         state: &State,
         process: u8,
         event: TraceEvent,
     ) -> Result<(), AllocError>
-        requires { IsStateOf program.now state.now }
-        ensures { IfOk result (λ _. self.new.lines.items ≡ self.old.lines.items ++ record { process = process; event = event; holders = holders_in (slots program.now limits.discipline) (machine_of state.now) } ∷ []) }
+        requires { IsStateOf job.now.program.now state.now }
+        ensures { IfOk result (λ _. self.new.lines.items ≡ self.old.lines.items ++ record { process = process; event = event; holders = holders_in (slots job.now.program.now job.now.limits.discipline) (machine_of state.now) } ∷ []) }
     {
-        let holders = holders(self.alloc, program, limits, state)?;
+        let holders = holders(self.alloc, job, state)?;
         self.lines.push(TraceLine {
             process,
             event,
@@ -97,8 +90,7 @@ impl Observe for Lines {
 
     fn expect_step(
         &mut self,
-        _program: &Resolved,
-        _limits: Limits,
+        _job: &Job<'_>,
         _state: &State,
         _process: u8,
     ) -> Result<(), AllocError> {
@@ -107,8 +99,7 @@ impl Observe for Lines {
 
     fn see_step(
         &mut self,
-        program: &Resolved,
-        limits: Limits,
+        job: &Job<'_>,
         state: &State,
         process: u8,
         event: Event,
@@ -118,20 +109,19 @@ impl Observe for Lines {
             Event::Ended => TraceEvent::End,
             Event::Local | Event::Fault(_) | Event::OutputFull => return Ok(()),
         };
-        self.push(program, limits, state, process, event)
+        self.push(job, state, process, event)
     }
 
     fn see_admission(
         &mut self,
-        program: &Resolved,
-        limits: Limits,
+        job: &Job<'_>,
         state: &State,
         process: u8,
     ) -> Result<(), AllocError> {
-        self.push(program, limits, state, process, TraceEvent::Admit)
+        self.push(job, state, process, TraceEvent::Admit)
     }
 
-    fn see_choice(&mut self, _program: &Resolved, _limits: Limits, _state: &State, _number: u8) {}
+    fn see_choice(&mut self, _job: &Job<'_>, _state: &State, _number: u8) {}
 
     ghost passes = { λ unseen self r discipline before after process x step h. absurd (Prim.cc) };
 }
@@ -140,22 +130,21 @@ impl Observe for Lines {
 /// `ticks` counts the steps that succeed.
 pub fn trace<L: Ledger>(
     alloc: Global,
-    program: &Resolved,
-    limits: Limits,
+    job: &Job<'_>,
     word: &[u8],
     ticks: &mut Ticks<L>,
 ) -> Result<(Vec<TraceLine>, RunEnd), AllocError>
     requires { length word.now ≤ 100 }
-    ensures lines { IfOk result (λ t. t.0.items ≡ trace (slots program.now limits.discipline) limits.choices limits.steps word.now) }
-    ensures answer { IfOk result (λ t. answer_of t.1 ≡ run (slots program.now limits.discipline) limits.choices limits.steps word.now) }
-    ensures few { IfOk result (λ t. length t.0.items ≤ (limits.choices + 1) * limits.steps + limits.choices) }
-    ensures ticks { ticks.new ≤ ticks.old + (limits.choices + 1) * limits.steps }
+    ensures lines { IfOk result (λ t. t.0.items ≡ trace (slots job.now.program.now job.now.limits.discipline) job.now.limits.choices job.now.limits.steps word.now) }
+    ensures answer { IfOk result (λ t. answer_of t.1 ≡ run (slots job.now.program.now job.now.limits.discipline) job.now.limits.choices job.now.limits.steps word.now) }
+    ensures few { IfOk result (λ t. length t.0.items ≤ (job.now.limits.choices + 1) * job.now.limits.steps + job.now.limits.choices) }
+    ensures ticks { ticks.new ≤ ticks.old + (job.now.limits.choices + 1) * job.now.limits.steps }
 {
     let mut lines = Lines {
         alloc,
         lines: Vec::new(alloc),
     };
-    let mut state = State::start(alloc, program, limits.discipline)?;
-    let end = observe_run(alloc, program, limits, word, ticks, &mut state, &mut lines)?;
+    let mut state = State::start(alloc, job.program, job.limits.discipline)?;
+    let end = observe_run(alloc, job, word, ticks, &mut state, &mut lines)?;
     Ok((lines.lines, end))
 }

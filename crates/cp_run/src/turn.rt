@@ -6,23 +6,16 @@ ghost use Rattle.cp_run.specs.Run.{settled_turn, turn_at, turn_after};
 ghost use Rattle.cp_run.specs.Slots.{slots};
 ghost use Rattle.cp_run.specs.Code.{IfGoes};
 
-use crate::limits::Limits;
+use crate::job::Job;
 use crate::outcome::{OutcomeKind, Turn};
 use cp_machine::{Event, Readiness, State};
-use cp_slots::Resolved;
 
 /// Nobody ready, choice of process, going on: what comes before the next step, where no gate choice is due. The last step was one of
 /// `process`, and `kernel` says that it was a kernel call or a process end.
-pub fn settled_turn(
-    program: &Resolved,
-    limits: Limits,
-    state: &State,
-    kernel: bool,
-    process: u8,
-) -> Turn
-    requires own { IsStateOf program.now state.now }
+pub fn settled_turn(job: &Job<'_>, state: &State, kernel: bool, process: u8) -> Turn
+    requires own { IsStateOf job.now.program.now state.now }
     requires goes_on { kernel ≡ false → is_ready (machine_of state.now) process ≡ true }
-    ensures turn { result ≡ settled_turn (slots program.now limits.discipline) (machine_of state.now) kernel process }
+    ensures turn { result ≡ settled_turn (slots job.now.program.now job.now.limits.discipline) (machine_of state.now) kernel process }
     ensures ready { IfGoes result (λ q. is_ready (machine_of state.now) q ≡ true) }
 {
     // A process that made a local step is still ready, and goes on whoever else is.
@@ -43,32 +36,32 @@ pub fn settled_turn(
 }
 
 /// Gate choice, and then these.
-pub fn turn_at(program: &Resolved, limits: Limits, state: &State, kernel: bool, process: u8) -> Turn
-    requires own { IsStateOf program.now state.now }
+pub fn turn_at(job: &Job<'_>, state: &State, kernel: bool, process: u8) -> Turn
+    requires own { IsStateOf job.now.program.now state.now }
     requires goes_on { kernel ≡ false → is_ready (machine_of state.now) process ≡ true }
-    ensures turn { result ≡ turn_at (slots program.now limits.discipline) (machine_of state.now) kernel process }
+    ensures turn { result ≡ turn_at (slots job.now.program.now job.now.limits.discipline) (machine_of state.now) kernel process }
     ensures ready { IfGoes result (λ q. is_ready (machine_of state.now) q ≡ true) }
     ensures free { IfGoes result (λ q. is_pending (machine_of state.now) ≡ false) }
 {
     if state.pending().is_some() {
         Turn::Due
     } else {
-        settled_turn(program, limits, state, kernel, process)
+        settled_turn(job, state, kernel, process)
     }
 }
 
 /// Error end, and then the rules that follow, after a step of `pid` that came to this state.
-pub fn turn_of(program: &Resolved, limits: Limits, state: &State, pid: u8, event: Event) -> Turn
-    requires own { IsStateOf program.now state.now }
+pub fn turn_of(job: &Job<'_>, state: &State, pid: u8, event: Event) -> Turn
+    requires own { IsStateOf job.now.program.now state.now }
     requires goes_on { is_local event ≡ true → is_ready (machine_of state.now) pid ≡ true }
-    ensures turn { result ≡ turn_after (slots program.now limits.discipline) (machine_of state.now) pid event }
+    ensures turn { result ≡ turn_after (slots job.now.program.now job.now.limits.discipline) (machine_of state.now) pid event }
     ensures ready { IfGoes result (λ q. is_ready (machine_of state.now) q ≡ true) }
     ensures free { IfGoes result (λ q. is_pending (machine_of state.now) ≡ false) }
 {
     match event {
-        Event::Local => turn_at(program, limits, state, false, pid),
-        Event::Kernel(_) => turn_at(program, limits, state, true, pid),
-        Event::Ended => turn_at(program, limits, state, true, pid),
+        Event::Local => turn_at(job, state, false, pid),
+        Event::Kernel(_) => turn_at(job, state, true, pid),
+        Event::Ended => turn_at(job, state, true, pid),
         Event::Fault(error) => Turn::Over(OutcomeKind::RunError {
             name: error.name,
             process: error.process,

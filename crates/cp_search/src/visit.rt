@@ -6,16 +6,14 @@ ghost use Rattle.cp_search.specs.Searched.{IsSearched, IsTaken};
 
 use cp_machine::State;
 use cp_progress::{ObserveProgress, Progress, STATES_BETWEEN};
-use cp_run::{Limits, candidates};
-use cp_slots::Resolved;
+use cp_run::{Job, candidates};
 use std::alloc::{AllocError, Global};
 
 /// What is searched: a program under limits, through so many states at most.
 #[derive(Clone, Copy)]
 pub struct SearchJob<'a> {
     pub alloc: Global,
-    pub program: &'a Resolved,
-    pub limits: Limits,
+    pub run: Job<'a>,
     pub most: u32,
 }
 
@@ -47,9 +45,9 @@ pub trait Visit {
 
     /// A state becomes the one of this number; `false` where there is none.
     fn thaw_at(&mut self, job: &SearchJob<'_>, number: u32, state: &mut State) -> bool
-        requires own { IsStateOf job.now.program.now state.old }
+        requires own { IsStateOf job.now.run.program.now state.old }
         requires before { before self.old job.now number }
-        ensures own { IsStateOf job.now.program.now state.new }
+        ensures own { IsStateOf job.now.run.program.now state.new }
         ensures within { result ≡ true → within self.new job.now number (machine_of state.new) [] }
         ensures over { result ≡ false → over self.new job.now };
 
@@ -63,20 +61,20 @@ pub trait Visit {
         next: &mut State,
         process: u8,
     ) -> Result<bool, AllocError>
-        requires own { IsStateOf job.now.program.now state.now }
-        requires next { IsStateOf job.now.program.now next.old }
+        requires own { IsStateOf job.now.run.program.now state.now }
+        requires next { IsStateOf job.now.run.program.now next.old }
         requires copied { machine_of next.old ≡ machine_of state.now }
-        requires below { process < processes_of job.now.program.now }
-        requires may { may (slots job.now.program.now job.now.limits.discipline) (machine_of state.now) process ≡ true }
-        requires within { within self.old job.now at (machine_of state.now) (those_below process (may (slots job.now.program.now job.now.limits.discipline) (machine_of state.now))) }
-        ensures next { IsStateOf job.now.program.now next.new }
+        requires below { process < processes_of job.now.run.program.now }
+        requires may { may (slots job.now.run.program.now job.now.run.limits.discipline) (machine_of state.now) process ≡ true }
+        requires within { within self.old job.now at (machine_of state.now) (those_below process (may (slots job.now.run.program.now job.now.run.limits.discipline) (machine_of state.now))) }
+        ensures next { IsStateOf job.now.run.program.now next.new }
         ensures copied { IfOk result (λ is_room. is_room ≡ true → machine_of next.new ≡ machine_of state.now) }
-        ensures within { IfOk result (λ is_room. is_room ≡ true → within self.new job.now at (machine_of state.now) (those_below process (may (slots job.now.program.now job.now.limits.discipline) (machine_of state.now)) ++ process ∷ [])) }
+        ensures within { IfOk result (λ is_room. is_room ≡ true → within self.new job.now at (machine_of state.now) (those_below process (may (slots job.now.run.program.now job.now.run.limits.discipline) (machine_of state.now)) ++ process ∷ [])) }
         ensures stops { IfOk result (λ is_room. is_room ≡ false → stops self.new job.now at) };
 
     /// The state of this number was gone on from with each number that may be chosen there.
     fn end_state(&mut self, job: &SearchJob<'_>, at: u32) -> Result<(), AllocError>
-        requires { (m : Machine) × within self.old job.now at m (those_below (processes_of job.now.program.now) (may (slots job.now.program.now job.now.limits.discipline) m)) }
+        requires { (m : Machine) × within self.old job.now at m (those_below (processes_of job.now.run.program.now) (may (slots job.now.run.program.now job.now.run.limits.discipline) m)) }
         ensures { IfOk result (λ _. before self.new job.now (at + 1)) };
 
     /// As many states as there may be are all.
@@ -92,11 +90,11 @@ pub fn visit_all<V: Visit, O: ObserveProgress>(
     next: &mut State,
     observer: &mut O,
 ) -> Result<Option<u32>, AllocError>
-    requires own { IsStateOf job.now.program.now state.old }
-    requires next { IsStateOf job.now.program.now next.old }
+    requires own { IsStateOf job.now.run.program.now state.old }
+    requires next { IsStateOf job.now.run.program.now next.old }
     requires begun { V.before visit.old job.now 0 }
-    ensures own { IsStateOf job.now.program.now state.new }
-    ensures next { IsStateOf job.now.program.now next.new }
+    ensures own { IsStateOf job.now.run.program.now state.new }
+    ensures next { IsStateOf job.now.run.program.now next.new }
     ensures searched { IfOk result (λ stopped. IsSearched (V.over visit.new job.now) (V.stops visit.new job.now) stopped) }
 {
     let mut choices: u32 = 0;
@@ -127,13 +125,13 @@ pub fn take_choices<V: Visit>(
     state: &State,
     next: &mut State,
 ) -> Result<bool, AllocError>
-    requires own { IsStateOf job.now.program.now state.now }
-    requires next { IsStateOf job.now.program.now next.old }
+    requires own { IsStateOf job.now.run.program.now state.now }
+    requires next { IsStateOf job.now.run.program.now next.old }
     requires within { V.within visit.old job.now at (machine_of state.now) [] }
-    ensures next { IsStateOf job.now.program.now next.new }
+    ensures next { IsStateOf job.now.run.program.now next.new }
     ensures taken { IfOk result (λ is_room. IsTaken (V.before visit.new job.now) (V.stops visit.new job.now) at is_room) }
 {
-    let numbers = candidates(job.program, job.limits, state);
+    let numbers = candidates(&job.run, state);
     next.take_from(state);
     for process in numbers.as_slice() {
         if !visit.take(job, at, state, next, *process)? {

@@ -10,6 +10,7 @@ ghost use Rattle.cp_show_mark.specs.Stories.{IsStoryOf};
 use crate::examinee::Examinee;
 use cp_legend::Legend;
 use cp_machine::Ticks;
+use cp_run::Job;
 use cp_slots::Resolved;
 use cp_story::{Story, Wait, tell};
 use cp_tool::Options;
@@ -48,7 +49,16 @@ fn story_by<L: Ledger>(
     ensures so { IfOk result (λ story. IsStoryOf (legend_seen legend.now) program.now options.now.discipline options.now.choices options.now.steps word.now story) }
 {
     let mut ticks: Ticks<L> = Ticks::new(blank);
-    tell(alloc, program, legend, options.limits(), word, &mut ticks)
+    tell(
+        alloc,
+        &Job {
+            program,
+            limits: options.limits(),
+        },
+        legend,
+        word,
+        &mut ticks,
+    )
 }
 
 /// Who waits where at the end of a word.

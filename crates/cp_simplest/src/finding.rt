@@ -8,9 +8,8 @@ use crate::search::SimplestVisit;
 use cp_machine::{State, Ticks};
 use cp_merged::Word;
 use cp_progress::ObserveProgress;
-use cp_run::{Limits, Outcome, RunEnd, run};
+use cp_run::{Outcome, RunEnd, run};
 use cp_search::{SearchJob, visit_all};
-use cp_slots::Resolved;
 use cp_walk::Job;
 use cp_walk::numbers::is_same;
 use std::alloc::{AllocError, Global};
@@ -48,8 +47,7 @@ pub fn simplest<O: ObserveProgress>(
     // A state is gone on from by several words, so the visitor counts its states itself.
     let job = SearchJob {
         alloc,
-        program,
-        limits,
+        run: Job { program, limits },
         most: u32::MAX,
     };
     let steps = Blank::new(1);
@@ -72,7 +70,7 @@ fn search_for<O: ObserveProgress, S: Ledger, C: Ledger>(
     requires calls_one { C.parts ≡ 1 }
 {
     let mut visit: SimplestVisit<S, C> = SimplestVisit::new(job, most, outcomes, steps, calls)?;
-    let mut state = State::start(job.alloc, job.program, job.limits.discipline)?;
+    let mut state = State::start(job.alloc, job.run.program, job.run.limits.discipline)?;
     let mut next = state.copy(job.alloc)?;
     if !visit.open(job, &mut state)? {
         return Ok(Searched::TooMany);
@@ -86,16 +84,15 @@ fn search_for<O: ObserveProgress, S: Ledger, C: Ledger>(
 /// Whether the run of a word uses all of it and ends with an outcome.
 pub fn is_schedule_of<L: Ledger>(
     alloc: Global,
-    program: &Resolved,
-    limits: Limits,
+    job: &Job<'_>,
     word: &[u8],
     outcome: &Outcome,
     ticks: &mut Ticks<L>,
 ) -> Result<bool, AllocError>
     requires { length word.now ≤ 100 }
-    ensures { IfOk result (λ is. is ≡ true → spec.IsScheduleOf (slots program.now limits.discipline) limits.choices limits.steps word.now outcome.now) }
+    ensures { IfOk result (λ is. is ≡ true → spec.IsScheduleOf (slots job.now.program.now job.now.limits.discipline) job.now.limits.choices job.now.limits.steps word.now outcome.now) }
 {
-    match run(alloc, program, limits, word, ticks)? {
+    match run(alloc, job, word, ticks)? {
         RunEnd::Ended {
             outcome: found,
             used,

@@ -93,19 +93,13 @@ impl<S: Ledger, C: Ledger> SimplestVisit<S, C> {
 
     /// Begins with the empty word. `false` where there are too many states.
     pub fn open(&mut self, job: &SearchJob<'_>, state: &mut State) -> Result<bool, AllocError>
-        requires own { IsStateOf job.now.program.now state.old }
-        requires start { machine_of state.old ≡ opening job.now.program.now job.now.limits.discipline }
-        requires states { AreOwn job.now.program.now self.old.states }
-        ensures own { IsStateOf job.now.program.now state.new }
-        ensures states { IfOk result (λ _. AreOwn job.now.program.now self.new.states) }
+        requires own { IsStateOf job.now.run.program.now state.old }
+        requires start { machine_of state.old ≡ opening job.now.run.program.now job.now.run.limits.discipline }
+        requires states { AreOwn job.now.run.program.now self.old.states }
+        ensures own { IsStateOf job.now.run.program.now state.new }
+        ensures states { IfOk result (λ _. AreOwn job.now.run.program.now self.new.states) }
     {
-        let halt = open(
-            job.program,
-            job.limits,
-            state,
-            &mut self.steps,
-            &mut self.calls,
-        );
+        let halt = open(&job.run, state, &mut self.steps, &mut self.calls);
         self.arrive(job, halt, state, Label::empty(), 0)
     }
 
@@ -118,13 +112,13 @@ impl<S: Ledger, C: Ledger> SimplestVisit<S, C> {
         label: Label,
         last: u8,
     ) -> Result<bool, AllocError>
-        requires own { IsStateOf job.now.program.now state.now }
-        requires states { AreOwn job.now.program.now self.old.states }
-        ensures { IfOk result (λ _. AreOwn job.now.program.now self.new.states) }
+        requires own { IsStateOf job.now.run.program.now state.now }
+        requires states { AreOwn job.now.run.program.now self.old.states }
+        ensures { IfOk result (λ _. AreOwn job.now.run.program.now self.new.states) }
     {
         let target = match halt {
             Halt::Ended(kind) => self.end_at(job, kind, state)?,
-            Halt::Choice if label.length >= job.limits.choices as usize => {
+            Halt::Choice if label.length >= job.run.limits.choices as usize => {
                 self.end_at(job, OutcomeKind::ChoiceLimit, state)?
             }
             Halt::Choice => Some(Target::State(self.add_state(job, state)?, last)),
@@ -151,9 +145,9 @@ impl<S: Ledger, C: Ledger> SimplestVisit<S, C> {
 
     // The number of a state, which is added where it is new.
     fn add_state(&mut self, job: &SearchJob<'_>, state: &State) -> Result<usize, AllocError>
-        requires own { IsStateOf job.now.program.now state.now }
-        requires states { AreOwn job.now.program.now self.old.states }
-        ensures { IfOk result (λ _. AreOwn job.now.program.now self.new.states) }
+        requires own { IsStateOf job.now.run.program.now state.now }
+        requires states { AreOwn job.now.run.program.now self.old.states }
+        ensures { IfOk result (λ _. AreOwn job.now.run.program.now self.new.states) }
     {
         let number = self.states.number_of(job.alloc, state)?;
         if number == self.lengths.len() {
@@ -227,9 +221,9 @@ impl<S: Ledger, C: Ledger> SimplestVisit<S, C> {
 impl<S: Ledger, C: Ledger> Visit for SimplestVisit<S, C> {
     ghost use Rattle.cp_simplest.specs.Own.{AreOwn};
 
-    ghost before = { λ v job n. AreOwn job.program.now v.states };
+    ghost before = { λ v job n. AreOwn job.run.program.now v.states };
 
-    ghost within = { λ v job at m done. AreOwn job.program.now v.states };
+    ghost within = { λ v job at m done. AreOwn job.run.program.now v.states };
 
     ghost over = { λ v job. Unit {0} };
 
@@ -252,7 +246,7 @@ impl<S: Ledger, C: Ledger> Visit for SimplestVisit<S, C> {
             return false;
         };
         let is_there = self.states.thaw_at(number, state);
-        let numbers = candidates(job.program, job.limits, state);
+        let numbers = candidates(&job.run, state);
         self.may_stay = state.pending().is_none() && numbers.contains(&self.last);
         is_there
     }
@@ -268,8 +262,7 @@ impl<S: Ledger, C: Ledger> Visit for SimplestVisit<S, C> {
         let is_switch = self.may_stay && process != self.last;
         let mut watch = LastMoved { process: self.last };
         let halt = choose(
-            job.program,
-            job.limits,
+            &job.run,
             next,
             process,
             &mut watch,

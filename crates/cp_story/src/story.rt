@@ -28,7 +28,7 @@ use crate::statuses::status_of;
 use crate::stopping::{AbruptEnd, abrupt_end};
 use cp_legend::Legend;
 use cp_machine::{Event as Step, Signals, State, Status, Ticks};
-use cp_run::{Limits, Observe, RunEnd, TraceEvent, TraceLine, candidates, holders, observe_run};
+use cp_run::{Job, Observe, RunEnd, TraceEvent, TraceLine, candidates, holders, observe_run};
 use cp_slots::Resolved;
 use std::alloc::{AllocError, Global};
 use std::sync::ledger::Ledger;
@@ -83,18 +83,17 @@ impl<'a> Storyteller<'a> {
     // Appends the event of a line of the trace.
     fn push_event(
         &mut self,
-        program: &Resolved,
-        limits: Limits,
+        job: &Job<'_>,
         state: &State,
         process: u8,
         event: TraceEvent,
         aim: Aim,
     ) -> Result<(), AllocError>
-        requires { IsStateOf program.now state.now }
-        ensures lines { IfOk result (λ _. lines_of self.new.events.items ≡ lines_of self.old.events.items ++ record { process = process; event = event; holders = holders_in (slots program.now limits.discipline) (machine_of state.now) } ∷ []) }
-        ensures told { IfOk result (λ _. telling_of self.new.observer self.new.events.items ≡ told_more program.now limits.discipline event process aim (machine_of state.now) (telling_of self.old.observer self.old.events.items)) }
+        requires { IsStateOf job.now.program.now state.now }
+        ensures lines { IfOk result (λ _. lines_of self.new.events.items ≡ lines_of self.old.events.items ++ record { process = process; event = event; holders = holders_in (slots job.now.program.now job.now.limits.discipline) (machine_of state.now) } ∷ []) }
+        ensures told { IfOk result (λ _. telling_of self.new.observer self.new.events.items ≡ told_more job.now.program.now job.now.limits.discipline event process aim (machine_of state.now) (telling_of self.old.observer self.old.events.items)) }
     {
-        let holders = holders(self.alloc, program, limits, state)?;
+        let holders = holders(self.alloc, job, state)?;
         let plain = TraceLine {
             process,
             event,
@@ -108,23 +107,22 @@ impl<'a> Storyteller<'a> {
     // Appends the event of a step, if it is one.
     fn push_step(
         &mut self,
-        program: &Resolved,
-        limits: Limits,
+        job: &Job<'_>,
         state: &State,
         process: u8,
         event: Step,
         aim: Aim,
     ) -> Result<(), AllocError>
-        requires { IsStateOf program.now state.now }
-        ensures lines { IfOk result (λ _. lines_of self.new.events.items ≡ lines_of self.old.events.items ++ step_lines (slots program.now limits.discipline) (machine_of state.now) process event) }
-        ensures told { IfOk result (λ _. telling_of self.new.observer self.new.events.items ≡ told_step program.now limits.discipline process aim event (machine_of state.now) (telling_of self.old.observer self.old.events.items)) }
+        requires { IsStateOf job.now.program.now state.now }
+        ensures lines { IfOk result (λ _. lines_of self.new.events.items ≡ lines_of self.old.events.items ++ step_lines (slots job.now.program.now job.now.limits.discipline) (machine_of state.now) process event) }
+        ensures told { IfOk result (λ _. telling_of self.new.observer self.new.events.items ≡ told_step job.now.program.now job.now.limits.discipline process aim event (machine_of state.now) (telling_of self.old.observer self.old.events.items)) }
     {
         let event = match event {
             Step::Kernel(call) => TraceEvent::Kernel(call),
             Step::Ended => TraceEvent::End,
             Step::Local | Step::Fault(_) | Step::OutputFull => return Ok(()),
         };
-        self.push_event(program, limits, state, process, event, aim)
+        self.push_event(job, state, process, event, aim)
     }
 }
 
@@ -167,14 +165,8 @@ impl<'a> Observe for Storyteller<'a> {
 
     ghost expects = { λ t r discipline before process x. (t.aim ≡ aim_in r before process) × (telling_of t.observer t.events.items ≡ expecting t.aim before process x.0) × (lines_of t.events.items ≡ x.1) };
 
-    fn expect_step(
-        &mut self,
-        program: &Resolved,
-        _limits: Limits,
-        state: &State,
-        process: u8,
-    ) -> Result<(), AllocError> {
-        let aim = aim_of(program, state, process);
+    fn expect_step(&mut self, job: &Job<'_>, state: &State, process: u8) -> Result<(), AllocError> {
+        let aim = aim_of(job.program, state, process);
         self.observer.expect(self.alloc, state, process, aim)?;
         self.aim = aim;
         Ok(())
@@ -182,41 +174,39 @@ impl<'a> Observe for Storyteller<'a> {
 
     fn see_step(
         &mut self,
-        program: &Resolved,
-        limits: Limits,
+        job: &Job<'_>,
         state: &State,
         process: u8,
         event: Step,
     ) -> Result<(), AllocError> {
         let aim = self.aim;
-        self.push_step(program, limits, state, process, event, aim)
+        self.push_step(job, state, process, event, aim)
     }
 
     fn see_admission(
         &mut self,
-        program: &Resolved,
-        limits: Limits,
+        job: &Job<'_>,
         state: &State,
         process: u8,
     ) -> Result<(), AllocError> {
         let event = TraceEvent::Admit;
-        self.push_event(program, limits, state, process, event, NONE)
+        self.push_event(job, state, process, event, NONE)
     }
 
-    fn see_choice(&mut self, program: &Resolved, limits: Limits, state: &State, number: u8) {
-        self.observer.choice = Some(choice_of(program, limits, state, number));
+    fn see_choice(&mut self, job: &Job<'_>, state: &State, number: u8) {
+        self.observer.choice = Some(choice_of(job, state, number));
     }
 
     ghost passes = { λ unseen self r discipline before after process x step h. absurd (Prim.cc) };
 }
 
 // The choice that is due, and the number that is taken.
-fn choice_of(program: &Resolved, limits: Limits, state: &State, number: u8) -> Choice
-    requires { IsStateOf program.now state.now }
-    ensures { decision_of result ≡ decision_in program.now limits.discipline (machine_of state.now) number }
+fn choice_of(job: &Job<'_>, state: &State, number: u8) -> Choice
+    requires { IsStateOf job.now.program.now state.now }
+    ensures { decision_of result ≡ decision_in job.now.program.now job.now.limits.discipline (machine_of state.now) number }
 {
     Choice {
-        options: candidates(program, limits, state),
+        options: candidates(job, state),
         number,
         at_gate: state.pending().is_some(),
     }
@@ -294,27 +284,26 @@ fn is_inside(state: &State, monitor: u8, process: u8) -> bool
 /// `ticks` counts the steps that succeed.
 pub fn tell<L: Ledger>(
     alloc: Global,
-    program: &Resolved,
+    job: &Job<'_>,
     legend: &Legend,
-    limits: Limits,
     word: &[u8],
     ticks: &mut Ticks<L>,
 ) -> Result<Story, AllocError>
     requires { length word.now ≤ 100 }
-    ensures lines { IfOk result (λ s. lines_of s.events.items ≡ trace (slots program.now limits.discipline) limits.choices limits.steps word.now) }
-    ensures told { IfOk result (λ s. map told_of s.events.items ≡ story_of (legend_seen legend.now) program.now limits.discipline limits.choices limits.steps word.now) }
-    ensures choice { IfOk result (λ s. option_map decision_of s.last_choice ≡ (telling (legend_seen legend.now) program.now limits.discipline limits.choices limits.steps word.now).past.choice) }
-    ensures waits { IfOk result (λ s. map wait_of s.waits.items ≡ who_waits (legend_seen legend.now) program.now limits.discipline limits.choices limits.steps word.now) }
-    ensures answer { IfOk result (λ s. answer_of s.end ≡ run (slots program.now limits.discipline) limits.choices limits.steps word.now) }
-    ensures stop { IfOk result (λ s. option_map halted_seen s.stop ≡ how_halted (legend_seen legend.now) program.now limits.discipline limits.choices limits.steps word.now) }
-    ensures cause { IfOk result (λ s. s.cause ≡ cause_of_run program.now limits.discipline limits.choices limits.steps word.now) }
-    ensures violation { IfOk result (λ s. option_map violation_seen s.violation ≡ violation_of_run (legend_seen legend.now) program.now limits.discipline limits.choices limits.steps word.now) }
-    ensures reasons { IfOk result (λ s. map reason_seen s.reasons.items ≡ reasons_of_run (legend_seen legend.now) program.now limits.discipline limits.choices limits.steps word.now) }
-    ensures left { IfOk result (λ s. s.left ≡ numbers_left word.now (run (slots program.now limits.discipline) limits.choices limits.steps word.now)) }
-    ensures signals { IfOk result (λ s. s.signals ≡ limits.discipline.signals) }
-    ensures ticks { ticks.new ≤ ticks.old + (limits.choices + 1) * limits.steps }
+    ensures lines { IfOk result (λ s. lines_of s.events.items ≡ trace (slots job.now.program.now job.now.limits.discipline) job.now.limits.choices job.now.limits.steps word.now) }
+    ensures told { IfOk result (λ s. map told_of s.events.items ≡ story_of (legend_seen legend.now) job.now.program.now job.now.limits.discipline job.now.limits.choices job.now.limits.steps word.now) }
+    ensures choice { IfOk result (λ s. option_map decision_of s.last_choice ≡ (telling (legend_seen legend.now) job.now.program.now job.now.limits.discipline job.now.limits.choices job.now.limits.steps word.now).past.choice) }
+    ensures waits { IfOk result (λ s. map wait_of s.waits.items ≡ who_waits (legend_seen legend.now) job.now.program.now job.now.limits.discipline job.now.limits.choices job.now.limits.steps word.now) }
+    ensures answer { IfOk result (λ s. answer_of s.end ≡ run (slots job.now.program.now job.now.limits.discipline) job.now.limits.choices job.now.limits.steps word.now) }
+    ensures stop { IfOk result (λ s. option_map halted_seen s.stop ≡ how_halted (legend_seen legend.now) job.now.program.now job.now.limits.discipline job.now.limits.choices job.now.limits.steps word.now) }
+    ensures cause { IfOk result (λ s. s.cause ≡ cause_of_run job.now.program.now job.now.limits.discipline job.now.limits.choices job.now.limits.steps word.now) }
+    ensures violation { IfOk result (λ s. option_map violation_seen s.violation ≡ violation_of_run (legend_seen legend.now) job.now.program.now job.now.limits.discipline job.now.limits.choices job.now.limits.steps word.now) }
+    ensures reasons { IfOk result (λ s. map reason_seen s.reasons.items ≡ reasons_of_run (legend_seen legend.now) job.now.program.now job.now.limits.discipline job.now.limits.choices job.now.limits.steps word.now) }
+    ensures left { IfOk result (λ s. s.left ≡ numbers_left word.now (run (slots job.now.program.now job.now.limits.discipline) job.now.limits.choices job.now.limits.steps word.now)) }
+    ensures signals { IfOk result (λ s. s.signals ≡ job.now.limits.discipline.signals) }
+    ensures ticks { ticks.new ≤ ticks.old + (job.now.limits.choices + 1) * job.now.limits.steps }
 {
-    let mut state = State::start(alloc, program, limits.discipline)?;
+    let mut state = State::start(alloc, job.program, job.limits.discipline)?;
     let observer = Observer::new(alloc, legend, &state)?;
     let events = Vec::new(alloc);
     let mut teller = Storyteller {
@@ -323,18 +312,18 @@ pub fn tell<L: Ledger>(
         events,
         aim: NONE,
     };
-    let end = observe_run(alloc, program, limits, word, ticks, &mut state, &mut teller)?;
+    let end = observe_run(alloc, job, word, ticks, &mut state, &mut teller)?;
     let left = count_left(word, &end);
     let Storyteller {
         observer,
         events,
         ..
     } = teller;
-    let waits = waits_of(alloc, program, &state, &observer)?;
+    let waits = waits_of(alloc, job.program, &state, &observer)?;
     let stop = abrupt_end(alloc, legend, &end, observer.last, &waits)?;
-    let cause = cause_of_end(program, &state, &end);
-    let violation = violation_of_end(alloc, legend, program, &state, &end)?;
-    let reasons = reasons_at(alloc, program, legend, &state, &end, &events, &waits)?;
+    let cause = cause_of_end(job.program, &state, &end);
+    let violation = violation_of_end(alloc, legend, job.program, &state, &end)?;
+    let reasons = reasons_at(alloc, job.program, legend, &state, &end, &events, &waits)?;
     Ok(Story {
         events,
         last_choice: observer.choice,
@@ -345,7 +334,7 @@ pub fn tell<L: Ledger>(
         violation,
         reasons,
         left,
-        signals: limits.discipline.signals,
+        signals: job.limits.discipline.signals,
     })
 }
 

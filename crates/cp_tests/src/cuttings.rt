@@ -12,34 +12,29 @@ use cp_explore::{
     Cutting, GatherFault, Job, Piece, Row, Rows, SplitFault, Table, beginnings, explore_one, gather,
 };
 use cp_machine::{Gates, Ticks};
-use cp_run::{Limits, Outcome, OutcomeKind, Output};
+use cp_run::{Outcome, OutcomeKind, Output};
 use cp_slots::Resolved;
 use std::alloc::{AllocError, Global};
 use std::marker::Brand;
 use std::sync::ledger::{Blank, Ledger};
 
 /// A job's table; none where there is none.
-fn table_of(alloc: Global, program: &Resolved, limits: Limits) -> Option<Table>
-    requires { limits.choices ≤ 20 }
-    ensures { IfSome result (λ t. map line_of t.rows ≡ table (slots program.now limits.discipline) limits.choices limits.steps) }
+fn table_of(alloc: Global, job: &Job<'_>) -> Option<Table>
+    requires { job.now.limits.choices ≤ 20 }
+    ensures { IfSome result (λ t. map line_of t.rows ≡ table (slots job.now.program.now job.now.limits.discipline) job.now.limits.choices job.now.limits.steps) }
 {
-    table_counted::<Brand>(alloc, program, limits, Blank::new(1))
+    table_counted::<Brand>(alloc, job, Blank::new(1))
 }
 
-fn table_counted<L: Ledger>(
-    alloc: Global,
-    program: &Resolved,
-    limits: Limits,
-    blank: Blank,
-) -> Option<Table>
+fn table_counted<L: Ledger>(alloc: Global, job: &Job<'_>, blank: Blank) -> Option<Table>
     requires name { blank.name ≡ L.name }
     requires parts { blank.parts ≡ L.parts }
     requires one { L.parts ≡ 1 }
-    requires few { limits.choices ≤ 20 }
-    ensures { IfSome result (λ t. map line_of t.rows ≡ table (slots program.now limits.discipline) limits.choices limits.steps) }
+    requires few { job.now.limits.choices ≤ 20 }
+    ensures { IfSome result (λ t. map line_of t.rows ≡ table (slots job.now.program.now job.now.limits.discipline) job.now.limits.choices job.now.limits.steps) }
 {
     let mut calls: Ticks<L> = Ticks::new(blank);
-    match explore_one(alloc, Job { program, limits }, &mut calls) {
+    match explore_one(alloc, *job, &mut calls) {
         Ok(table) => Some(table),
         Err(_) => None,
     }
@@ -49,7 +44,13 @@ fn table_counted<L: Ledger>(
 fn table_at(alloc: Global, source: &str, choices: u8) -> Option<Table> {
     match program_of(alloc, source) {
         Some(program) => {
-            let table = table_of(alloc, &program, limits_of(choices, Gates::First));
+            let table = table_of(
+                alloc,
+                &Job {
+                    program: &program,
+                    limits: limits_of(choices, Gates::First),
+                },
+            );
             drop_program(program);
             table
         }
@@ -442,10 +443,10 @@ fn table_of_two_displays(rt: HostRuntime) {
 }
 
 /// How many words begin those of a job's table; none where there is no table.
-fn beginnings_of(alloc: Global, program: &Resolved, limits: Limits) -> Option<u64>
-    requires { limits.choices ≤ 20 }
+fn beginnings_of(alloc: Global, job: &Job<'_>) -> Option<u64>
+    requires { job.now.limits.choices ≤ 20 }
 {
-    match table_of(alloc, program, limits) {
+    match table_of(alloc, job) {
         Some(table) => Some(beginnings(&table)),
         None => None,
     }
@@ -454,7 +455,13 @@ fn beginnings_of(alloc: Global, program: &Resolved, limits: Limits) -> Option<u6
 fn beginnings_at(alloc: Global, source: &str, choices: u8) -> Option<u64> {
     match program_of(alloc, source) {
         Some(program) => {
-            let count = beginnings_of(alloc, &program, limits_of(choices, Gates::First));
+            let count = beginnings_of(
+                alloc,
+                &Job {
+                    program: &program,
+                    limits: limits_of(choices, Gates::First),
+                },
+            );
             drop_program(program);
             count
         }

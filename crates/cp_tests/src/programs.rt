@@ -7,7 +7,7 @@ use cp_check::{CheckFault, Checked, check};
 use cp_drops::{drop_checked, drop_program, drop_tree};
 use cp_machine::{Discipline, Gates, Shown, Signals, Ticks};
 use cp_resolved::resolve;
-use cp_run::{Limits, OutcomeKind, RunEnd, run};
+use cp_run::{Job, Limits, OutcomeKind, RunEnd, run};
 use cp_slots::Resolved;
 use cp_text::scan;
 use cp_tree::{Tree, parse};
@@ -119,17 +119,11 @@ pub fn limits_of(choices: u8, gates: Gates) -> Limits
 }
 
 /// How the run of a word ends; none where the word is too long, or memory was refused.
-fn end_of(alloc: Global, program: &Resolved, limits: Limits, word: &[u8]) -> Option<RunEnd> {
-    end_counted::<Brand>(alloc, program, limits, word, Blank::new(1))
+fn end_of(alloc: Global, job: &Job<'_>, word: &[u8]) -> Option<RunEnd> {
+    end_counted::<Brand>(alloc, job, word, Blank::new(1))
 }
 
-fn end_counted<L: Ledger>(
-    alloc: Global,
-    program: &Resolved,
-    limits: Limits,
-    word: &[u8],
-    blank: Blank,
-) -> Option<RunEnd>
+fn end_counted<L: Ledger>(alloc: Global, job: &Job<'_>, word: &[u8], blank: Blank) -> Option<RunEnd>
     requires name { blank.name ≡ L.name }
     requires parts { blank.parts ≡ L.parts }
     requires one { L.parts ≡ 1 }
@@ -138,14 +132,21 @@ fn end_counted<L: Ledger>(
     if word.len() > 20 {
         return None;
     }
-    run(alloc, program, limits, word, &mut ticks).ok()
+    run(alloc, job, word, &mut ticks).ok()
 }
 
 /// How the run of a word of a source's program ends; none where there is no program, or memory was refused.
 pub fn end_at(alloc: Global, source: &str, limits: Limits, word: &[u8]) -> Option<RunEnd> {
     match program_of(alloc, source) {
         Some(program) => {
-            let end = end_of(alloc, &program, limits, word);
+            let end = end_of(
+                alloc,
+                &Job {
+                    program: &program,
+                    limits,
+                },
+                word,
+            );
             drop_program(program);
             end
         }

@@ -7,7 +7,7 @@ use crate::programs::{THREE_CALLERS, limits_of, program_of};
 use cp_drops::drop_program;
 use cp_key::{freeze_core, most_bytes};
 use cp_machine::{Gates, State, Ticks, Unwatched};
-use cp_run::{Halt, Limits, choose, may, open};
+use cp_run::{Halt, Job, choose, may, open};
 use cp_slots::Resolved;
 use std::alloc::Global;
 use std::marker::Brand;
@@ -35,7 +35,13 @@ fn state_after<S: Ledger, C: Ledger>(
     let mut calls: Ticks<C> = Ticks::new(other);
     match State::start(alloc, program, limits.discipline) {
         Ok(mut state) => {
-            if choose_all(program, limits, &mut state, word, &mut steps, &mut calls) {
+            if choose_all(
+                &Job { program, limits },
+                &mut state,
+                word,
+                &mut steps,
+                &mut calls,
+            ) {
                 Some(state)
             } else {
                 None
@@ -47,33 +53,24 @@ fn state_after<S: Ledger, C: Ledger>(
 
 /// Whether the choices of a word can be made, from the opening state on.
 fn choose_all<S: Ledger, C: Ledger>(
-    program: &Resolved,
-    limits: Limits,
+    job: &Job<'_>,
     state: &mut State,
     word: &[u8],
     steps: &mut Ticks<S>,
     calls: &mut Ticks<C>,
 ) -> bool
-    requires own { IsStateOf program.now state.old }
-    requires start { machine_of state.old ≡ opening program.now limits.discipline }
+    requires own { IsStateOf job.now.program.now state.old }
+    requires start { machine_of state.old ≡ opening job.now.program.now job.now.limits.discipline }
 {
-    let mut halt = open(program, limits, state, steps, calls);
+    let mut halt = open(job, state, steps, calls);
     for process in word {
         if !matches!(halt, Halt::Choice) {
             return false;
         }
-        if !may(program, limits, state, *process) {
+        if !may(job, state, *process) {
             return false;
         }
-        halt = choose(
-            program,
-            limits,
-            state,
-            *process,
-            &mut Unwatched,
-            steps,
-            calls,
-        );
+        halt = choose(job, state, *process, &mut Unwatched, steps, calls);
     }
     true
 }

@@ -19,7 +19,7 @@ use cp_explore::{
     gather, report,
 };
 use cp_machine::{Gates, Shown, Ticks};
-use cp_run::{Limits, OutcomeKind, RunEnd, run, trace};
+use cp_run::{OutcomeKind, RunEnd, run, trace};
 use cp_scope::CheckFault;
 use cp_slots::Resolved;
 use cp_tree::Tree;
@@ -114,15 +114,14 @@ fn is_end(end: &RunEnd) -> bool {
 /// The end of a run of the buffer.
 fn run_answer<L: Ledger>(
     alloc: Global,
-    program: &Resolved,
-    limits: Limits,
+    job: &Job<'_>,
     word: &[u8],
     ticks: &mut Ticks<L>,
 ) -> CallAnswer {
     if word.len() > 20 {
         return CallAnswer::Other;
     }
-    match run(alloc, program, limits, word, ticks) {
+    match run(alloc, job, word, ticks) {
         Ok(end) => ample_answer(is_end(&end)),
         Err(_) => CallAnswer::Memory,
     }
@@ -131,15 +130,14 @@ fn run_answer<L: Ledger>(
 /// The trace of that run.
 fn trace_answer<L: Ledger>(
     alloc: Global,
-    program: &Resolved,
-    limits: Limits,
+    job: &Job<'_>,
     word: &[u8],
     ticks: &mut Ticks<L>,
 ) -> CallAnswer {
     if word.len() > 20 {
         return CallAnswer::Other;
     }
-    match trace(alloc, program, limits, word, ticks) {
+    match trace(alloc, job, word, ticks) {
         Ok((lines, end)) => ample_answer(is_first_trace(&lines) && is_end(&end)),
         Err(_) => CallAnswer::Memory,
     }
@@ -147,8 +145,7 @@ fn trace_answer<L: Ledger>(
 
 fn answers_to_runs_and_traces<L: Ledger>(
     alloc: Global,
-    program: &Resolved,
-    limits: Limits,
+    job: &Job<'_>,
     blank: Blank,
 ) -> [CallAnswer; 4]
     requires name { blank.name ≡ L.name }
@@ -157,10 +154,10 @@ fn answers_to_runs_and_traces<L: Ledger>(
 {
     let mut ticks: Ticks<L> = Ticks::new(blank);
     [
-        run_answer(alloc, program, limits, &WORD, &mut ticks),
-        trace_answer(alloc, program, limits, &WORD, &mut ticks),
-        run_answer(alloc, program, limits, &WORD, &mut ticks),
-        trace_answer(alloc, program, limits, &WORD, &mut ticks),
+        run_answer(alloc, &Job { program, limits }, &WORD, &mut ticks),
+        trace_answer(alloc, &Job { program, limits }, &WORD, &mut ticks),
+        run_answer(alloc, &Job { program, limits }, &WORD, &mut ticks),
+        trace_answer(alloc, &Job { program, limits }, &WORD, &mut ticks),
     ]
 }
 
@@ -171,8 +168,10 @@ fn runs_and_traces_well(alloc: Global) -> bool {
             let limits = limits_of(8, Gates::First);
             let answers = answers_to_runs_and_traces::<Brand>(
                 alloc,
-                &program,
-                limits,
+                &Job {
+                    program: &program,
+                    limits,
+                },
                 Blank::new(1),
             );
             drop_program(program);
@@ -378,8 +377,8 @@ fn refused_growth_of_a_check(rt: HostRuntime) {
 }
 
 /// A process goes its steps, though the copy of its state before one of them is refused.
-fn answer_beside_copies(alloc: Global, program: &Resolved, limits: Limits) -> CallAnswer {
-    match step_alone::<Brand>(alloc, program, limits, Blank::new(1)) {
+fn answer_beside_copies(alloc: Global, job: &Job<'_>) -> CallAnswer {
+    match step_alone::<Brand>(alloc, job, Blank::new(1)) {
         Ok(alone) => {
             let is_told = LAST_STEPS.tells_of(&alone);
             match alone.refused_copies() {
@@ -398,8 +397,20 @@ fn copies_well(alloc: Global) -> bool {
         Some(program) => {
             let limits = limits_of(8, Gates::First);
             let answers = [
-                answer_beside_copies(alloc, &program, limits),
-                answer_beside_copies(alloc, &program, limits),
+                answer_beside_copies(
+                    alloc,
+                    &Job {
+                        program: &program,
+                        limits,
+                    },
+                ),
+                answer_beside_copies(
+                    alloc,
+                    &Job {
+                        program: &program,
+                        limits,
+                    },
+                ),
             ];
             drop_program(program);
             are_right(&answers)

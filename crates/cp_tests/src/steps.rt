@@ -6,8 +6,7 @@ ghost use Rattle.cp_machine.specs.System.{IsStateOf};
 use crate::programs::{limits_of, program_of};
 use cp_drops::drop_program;
 use cp_machine::{ErrorName, Event, Gates, RunError, Shown, State, Ticks, step};
-use cp_run::{Limits, may};
-use cp_slots::Resolved;
+use cp_run::{Job, may};
 use std::alloc::{AllocError, Global};
 use std::marker::Brand;
 use std::sync::ledger::{Blank, Ledger};
@@ -35,22 +34,17 @@ impl Alone {
 }
 
 /// One step of process 0, where it is ready and nothing is pending.
-fn step_of_first<L: Ledger>(
-    program: &Resolved,
-    limits: Limits,
-    state: &mut State,
-    ticks: &mut Ticks<L>,
-) -> Option<Event>
-    requires { IsStateOf program.now state.old }
-    ensures { IsStateOf program.now state.new }
+fn step_of_first<L: Ledger>(job: &Job<'_>, state: &mut State, ticks: &mut Ticks<L>) -> Option<Event>
+    requires { IsStateOf job.now.program.now state.old }
+    ensures { IsStateOf job.now.program.now state.new }
 {
     if state.pending().is_some() {
         return None;
     }
-    if !may(program, limits, state, 0) {
+    if !may(job, state, 0) {
         return None;
     }
-    Some(step(program, state, 0, ticks))
+    Some(step(job.program, state, 0, ticks))
 }
 
 fn is_over(event: Event) -> bool {
@@ -60,8 +54,7 @@ fn is_over(event: Event) -> bool {
 /// What process 0 of a program does alone.
 pub fn step_alone<L: Ledger>(
     alloc: Global,
-    program: &Resolved,
-    limits: Limits,
+    job: &Job<'_>,
     blank: Blank,
 ) -> Result<Alone, AllocError>
     requires name { blank.name ≡ L.name }
@@ -69,21 +62,20 @@ pub fn step_alone<L: Ledger>(
     requires one { L.parts ≡ 1 }
 {
     let mut ticks: Ticks<L> = Ticks::new(blank);
-    let mut state = State::start(alloc, program, limits.discipline)?;
-    let done = step_to_the_end(alloc, program, limits, &mut state, &mut ticks);
+    let mut state = State::start(alloc, job.program, job.limits.discipline)?;
+    let done = step_to_the_end(alloc, job, &mut state, &mut ticks);
     Ok(Alone { done, state })
 }
 
 /// The steps of process 0 from a state on.
 fn step_to_the_end<L: Ledger>(
     alloc: Global,
-    program: &Resolved,
-    limits: Limits,
+    job: &Job<'_>,
     state: &mut State,
     ticks: &mut Ticks<L>,
 ) -> Done
-    requires { IsStateOf program.now state.old }
-    ensures { IsStateOf program.now state.new }
+    requires { IsStateOf job.now.program.now state.old }
+    ensures { IsStateOf job.now.program.now state.new }
 {
     let mut done = Done {
         steps: 0,
@@ -94,7 +86,7 @@ fn step_to_the_end<L: Ledger>(
         if state.copy(alloc).is_err() {
             done.refused_copies = done.refused_copies.saturating_add(1);
         }
-        let Some(event) = step_of_first(program, limits, state, ticks) else {
+        let Some(event) = step_of_first(job, state, ticks) else {
             return done;
         };
         done.last = event;
@@ -113,7 +105,14 @@ fn what_is_done_alone(alloc: Global, source: &str) -> Option<Alone> {
     match program_of(alloc, source) {
         Some(program) => {
             let limits = limits_of(8, Gates::First);
-            let alone = step_alone::<Brand>(alloc, &program, limits, Blank::new(1));
+            let alone = step_alone::<Brand>(
+                alloc,
+                &Job {
+                    program: &program,
+                    limits,
+                },
+                Blank::new(1),
+            );
             drop_program(program);
             alone.ok()
         }

@@ -8,8 +8,7 @@ use crate::programs::{
 };
 use cp_drops::drop_program;
 use cp_machine::{Discipline, Gates, Kernel, Shown, Ticks};
-use cp_run::{Limits, OutcomeKind, RunEnd, TraceEvent, TraceLine, trace};
-use cp_slots::Resolved;
+use cp_run::{Job, Limits, OutcomeKind, RunEnd, TraceEvent, TraceLine, trace};
 use std::alloc::Global;
 use std::marker::Brand;
 use std::sync::ledger::{Blank, Ledger};
@@ -18,14 +17,13 @@ use std::sync::ledger::{Blank, Ledger};
 type Trace = (Vec<TraceLine>, RunEnd);
 
 /// The trace of a word; none where the word is too long, or memory was refused.
-fn trace_of(alloc: Global, program: &Resolved, limits: Limits, word: &[u8]) -> Option<Trace> {
-    trace_counted::<Brand>(alloc, program, limits, word, Blank::new(1))
+fn trace_of(alloc: Global, job: &Job<'_>, word: &[u8]) -> Option<Trace> {
+    trace_counted::<Brand>(alloc, job, word, Blank::new(1))
 }
 
 fn trace_counted<L: Ledger>(
     alloc: Global,
-    program: &Resolved,
-    limits: Limits,
+    job: &Job<'_>,
     word: &[u8],
     blank: Blank,
 ) -> Option<Trace>
@@ -37,14 +35,21 @@ fn trace_counted<L: Ledger>(
     if word.len() > 20 {
         return None;
     }
-    trace(alloc, program, limits, word, &mut ticks).ok()
+    trace(alloc, job, word, &mut ticks).ok()
 }
 
 /// The trace of a word of a source's program; none where there is no program, or memory was refused.
 fn trace_at(alloc: Global, source: &str, limits: Limits, word: &[u8]) -> Option<Trace> {
     match program_of(alloc, source) {
         Some(program) => {
-            let traced = trace_of(alloc, &program, limits, word);
+            let traced = trace_of(
+                alloc,
+                &Job {
+                    program: &program,
+                    limits,
+                },
+                word,
+            );
             drop_program(program);
             traced
         }

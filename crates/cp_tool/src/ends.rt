@@ -15,7 +15,7 @@ use crate::options::Options;
 use cp_at_once::{FoundAtOnce, at_once_report, search_at_once_with};
 use cp_ends::ends_report;
 use cp_progress::ObserveProgress;
-use cp_run::Limits;
+use cp_run::Job;
 use cp_slots::Resolved;
 use cp_waits::{FoundWaits, Waits, find_waits, waits_report};
 use std::alloc::{AllocError, Global};
@@ -31,9 +31,9 @@ pub fn find_ends<O: ObserveProgress>(
 {
     let limits = options.limits();
     if options.at_once {
-        at_once_answer(alloc, options, observer, program, limits)
+        at_once_answer(alloc, options, observer, &Job { program, limits })
     } else {
-        ends_answer(alloc, options, observer, program, limits)
+        ends_answer(alloc, options, observer, &Job { program, limits })
     }
 }
 
@@ -42,22 +42,14 @@ fn ends_answer<O: ObserveProgress>(
     alloc: Global,
     options: &Options,
     observer: &mut O,
-    program: &Resolved,
-    limits: Limits,
+    job: &Job<'_>,
 ) -> Result<Answer, AllocError>
-    requires steps { limits.steps ≡ options.now.steps }
-    requires discipline { limits.discipline ≡ options.now.discipline }
-    ensures { IfOk result (λ a. OfPrograms program.now (λ t. spec.AreTold options.now t program.now a.verdict a.text)) }
+    requires steps { job.now.limits.steps ≡ options.now.steps }
+    requires discipline { job.now.limits.discipline ≡ options.now.discipline }
+    ensures { IfOk result (λ a. OfPrograms job.now.program.now (λ t. spec.AreTold options.now t job.now.program.now a.verdict a.text)) }
 {
-    let found = find_waits(
-        alloc,
-        program,
-        limits,
-        options.states,
-        options.waits,
-        observer,
-    )?;
-    report_of(alloc, program, &found)
+    let found = find_waits(alloc, job, options.states, options.waits, observer)?;
+    report_of(alloc, job.program, &found)
 }
 
 // The report of what was found, and of who may wait for ever where that is known.
@@ -98,15 +90,14 @@ fn at_once_answer<O: ObserveProgress>(
     alloc: Global,
     options: &Options,
     observer: &mut O,
-    program: &Resolved,
-    limits: Limits,
+    job: &Job<'_>,
 ) -> Result<Answer, AllocError>
-    ensures { IfOk result (λ a. OfPrograms program.now (λ t. IsAtOnceReport options.now t program.now a.verdict a.text)) }
+    ensures { IfOk result (λ a. OfPrograms job.now.program.now (λ t. IsAtOnceReport options.now t job.now.program.now a.verdict a.text)) }
 {
-    let found = search_at_once_with(alloc, program, limits, options.states, observer)?;
+    let found = search_at_once_with(alloc, job, options.states, observer)?;
     Ok(Answer {
         verdict: verdict_at_once(&found),
-        text: at_once_report(alloc, program, &found)?.text,
+        text: at_once_report(alloc, job.program, &found)?.text,
     })
 }
 

@@ -17,7 +17,7 @@ use cp_explore::{
 };
 use cp_machine::Ticks;
 use cp_progress::ObserveProgress;
-use cp_run::{Limits, trace};
+use cp_run::trace;
 use cp_slots::Resolved;
 use std::alloc::{AllocError, Global};
 use std::marker::Brand;
@@ -67,7 +67,7 @@ fn trace_schedule<L: Ledger>(
 {
     let limits = options.limits();
     let mut ticks: Ticks<L> = Ticks::new(blank);
-    let (lines, end) = trace(alloc, program, limits, word, &mut ticks)?;
+    let (lines, end) = trace(alloc, &Job { program, limits }, word, &mut ticks)?;
     let report = trace_report(alloc, program, &lines, &end, word)?;
     Ok(Answer {
         verdict: Verdict::Reported,
@@ -115,7 +115,7 @@ fn report_table<X: Threads + Sync, O: ObserveProgress>(
     ensures { IfOk result (λ a. spec.IsReported options.now program.now.names (on_slots.machine_rows options.now program.now) a.verdict a.text) }
 {
     let limits = options.limits();
-    match tabulate(rt, alloc, options, observer, program, limits) {
+    match tabulate(rt, alloc, options, observer, &Job { program, limits }) {
         Ok(table) => Ok(Answer {
             verdict: Verdict::Reported,
             text: report(alloc, program, &table, options.rows)?.text,
@@ -134,15 +134,20 @@ fn tabulate<X: Threads + Sync, O: ObserveProgress>(
     alloc: Global,
     options: &Options,
     observer: &mut O,
-    program: &Resolved,
-    limits: Limits,
+    job: &Job<'_>,
 ) -> Result<Table, ExploreFault>
-    requires { limits.choices ≤ 20 }
-    ensures table { IfOk result (λ t. map line_of t.rows ≡ table (slots program.now limits.discipline) limits.choices limits.steps) }
+    requires { job.now.limits.choices ≤ 20 }
+    ensures table { IfOk result (λ t. map line_of t.rows ≡ table (slots job.now.program.now job.now.limits.discipline) job.now.limits.choices job.now.limits.steps) }
     ensures few { IfOk result (λ t. length t.rows ≤ 50000) }
-    ensures many { IfErr result (λ e. IsTooMany e → 50000 < length (table (slots program.now limits.discipline) limits.choices limits.steps)) }
+    ensures many { IfErr result (λ e. IsTooMany e → 50000 < length (table (slots job.now.program.now job.now.limits.discipline) job.now.limits.choices job.now.limits.steps)) }
 {
-    let Ok(mut cutting) = Cutting::whole(alloc, Job { program, limits }) else {
+    let Ok(mut cutting) = Cutting::whole(
+        alloc,
+        Job {
+            program: job.program,
+            limits: job.limits,
+        },
+    ) else {
         return Err(ExploreFault::Memory);
     };
     let Ok(()) = deal(alloc, &mut cutting, options, observer) else {

@@ -20,9 +20,8 @@ use cp_ends::search::EndsVisit;
 use cp_ends::sight::Sight;
 use cp_machine::State;
 use cp_progress::{ObserveProgress, Progress};
-use cp_run::{Halt, Limits};
+use cp_run::{Halt, Job};
 use cp_search::{SearchJob, Visit, visit_all};
-use cp_slots::Resolved;
 use std::alloc::{AllocError, Global};
 use std::marker::Brand;
 use std::sync::ledger::{Blank, Ledger};
@@ -44,20 +43,18 @@ struct GraphVisit<S: Ledger> {
 /// Searches as for ends, and notes each choice. An observer is told how far this has come.
 pub fn search_graph<O: ObserveProgress>(
     alloc: Global,
-    program: &Resolved,
-    limits: Limits,
+    job: &Job<'_>,
     most: u32,
     observer: &mut O,
 ) -> Result<FoundGraph, AllocError>
-    ensures answer { 1 ≤ most → IfOk result (λ x. IsAnswer program.now limits.discipline limits.steps most x.found) }
-    ensures kept { IfOk result (λ x. HasFindings program.now x.found) }
-    ensures graph { IfOk result (λ x. x.found.stopped ≡ None → HasGraph program.now limits.discipline limits.steps x.found x.graph) }
+    ensures answer { 1 ≤ most → IfOk result (λ x. IsAnswer job.now.program.now job.now.limits.discipline job.now.limits.steps most x.found) }
+    ensures kept { IfOk result (λ x. HasFindings job.now.program.now x.found) }
+    ensures graph { IfOk result (λ x. x.found.stopped ≡ None → HasGraph job.now.program.now job.now.limits.discipline job.now.limits.steps x.found x.graph) }
 {
     let states = if most == 0 { 1 } else { most };
     let job = SearchJob {
         alloc,
-        program,
-        limits,
+        run: *job,
         most: states,
     };
     build_graph::<O, Brand>(&job, observer, Blank::new(1))
@@ -72,13 +69,13 @@ fn build_graph<O: ObserveProgress, S: Ledger>(
     requires parts { blank.parts ≡ S.parts }
     requires one { S.parts ≡ 1 }
     requires most { 1 ≤ job.now.most }
-    ensures { IfOk result (λ x. IsSearchedGraph job.now.program.now job.now.limits.discipline job.now.limits.steps job.now.most x.found x.graph x.found.stopped) }
+    ensures { IfOk result (λ x. IsSearchedGraph job.now.run.program.now job.now.run.limits.discipline job.now.run.limits.steps job.now.most x.found x.graph x.found.stopped) }
 {
     let mut visit: GraphVisit<S> = GraphVisit {
-        ends: EndsVisit::new(job.alloc, PassingSets::begin(job.program), blank),
-        graph: Graph::new(job.alloc, job.program.processes()),
+        ends: EndsVisit::new(job.alloc, PassingSets::begin(job.run.program), blank),
+        graph: Graph::new(job.alloc, job.run.program.processes()),
     };
-    let mut state = State::start(job.alloc, job.program, job.limits.discipline)?;
+    let mut state = State::start(job.alloc, job.run.program, job.run.limits.discipline)?;
     let arrived = visit.ends.open(job, &mut state)?;
     let halt = arrived.halt(visit.ends.told.again);
     visit.graph.note_standstill(halt, Origin::Start)?;
@@ -94,13 +91,13 @@ impl<S: Ledger> Visit for GraphVisit<S> {
     ghost use Rattle.cp_ends.specs.Answer.{IsStopped, slot_graph};
     ghost use Rattle.cp_waits.specs.Building.{IsBuilt, IsBuiltTo, IsWithin};
 
-    ghost before = { λ v job n. IsBuiltTo job.program.now job.limits.discipline job.limits.steps job.most v.ends.found n v.graph };
+    ghost before = { λ v job n. IsBuiltTo job.run.program.now job.run.limits.discipline job.run.limits.steps job.most v.ends.found n v.graph };
 
-    ghost within = { λ v job at m done. IsWithin job.program.now job.limits.discipline job.limits.steps job.most v.ends.found at m done v.graph };
+    ghost within = { λ v job at m done. IsWithin job.run.program.now job.run.limits.discipline job.run.limits.steps job.most v.ends.found at m done v.graph };
 
-    ghost over = { λ v job. IsBuilt job.program.now job.limits.discipline job.limits.steps job.most v.ends.found v.graph };
+    ghost over = { λ v job. IsBuilt job.run.program.now job.run.limits.discipline job.run.limits.steps job.most v.ends.found v.graph };
 
-    ghost stops = { λ v job at. IsStopped job.program.now (slot_graph job.program.now job.limits.discipline job.limits.steps) job.most v.ends.found at };
+    ghost stops = { λ v job at. IsStopped job.run.program.now (slot_graph job.run.program.now job.run.limits.discipline job.run.limits.steps) job.most v.ends.found at };
 
     fn len(&self) -> usize {
         self.ends.len()

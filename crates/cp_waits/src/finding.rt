@@ -9,8 +9,7 @@ use crate::building::{FoundGraph, search_graph};
 use crate::waiting::{Waits, who_waits};
 use cp_ends::{Found, search_ends_with};
 use cp_progress::ObserveProgress;
-use cp_run::Limits;
-use cp_slots::Resolved;
+use cp_run::Job;
 use std::alloc::{AllocError, Global};
 
 /// What a search finds, and who may wait for ever, where that is asked and there are not too many states.
@@ -25,21 +24,20 @@ pub struct FoundWaits {
 /// search has come.
 pub fn find_waits<O: ObserveProgress>(
     alloc: Global,
-    program: &Resolved,
-    limits: Limits,
+    job: &Job<'_>,
     most: u32,
     asks_waits: bool,
     observer: &mut O,
 ) -> Result<FoundWaits, AllocError>
-    ensures answer { 1 ≤ most → IfOk result (λ x. IsAnswer program.now limits.discipline limits.steps most x.found) }
-    ensures kept { IfOk result (λ x. HasFindings program.now x.found) }
-    ensures waits { IfOk result (λ x. TellAsked program.now limits.discipline limits.steps asks_waits x.found x.waits) }
+    ensures answer { 1 ≤ most → IfOk result (λ x. IsAnswer job.now.program.now job.now.limits.discipline job.now.limits.steps most x.found) }
+    ensures kept { IfOk result (λ x. HasFindings job.now.program.now x.found) }
+    ensures waits { IfOk result (λ x. TellAsked job.now.program.now job.now.limits.discipline job.now.limits.steps asks_waits x.found x.waits) }
 {
     if !asks_waits {
-        let found = search_ends_with(alloc, program, limits, most, observer)?;
+        let found = search_ends_with(alloc, job, most, observer)?;
         return Ok(FoundWaits { found, waits: None });
     }
-    let FoundGraph { found, graph } = search_graph(alloc, program, limits, most, observer)?;
+    let FoundGraph { found, graph } = search_graph(alloc, job, most, observer)?;
     if found.stopped.is_some() {
         return Ok(FoundWaits { found, waits: None });
     }

@@ -9,10 +9,10 @@ ghost use Rattle.cp_walk.specs.Members.{CutsTable, words_of};
 
 use crate::children::with_children;
 use crate::fault::SplitFault;
-use crate::job::Job;
 use crate::wanting::numbers_wanted_after;
 use arrayvec::ArrayVec;
 use cp_progress::{ObserveProgress, Unobserved, WalkProgress};
+use cp_run::Job;
 use std::alloc::{AllocError, Global};
 
 /// The most members of a cutting.

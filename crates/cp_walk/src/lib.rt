@@ -8,7 +8,6 @@ pub mod cutting;
 pub mod fault;
 mod found;
 mod groups;
-pub mod job;
 mod key;
 mod member;
 mod memo;
@@ -32,9 +31,9 @@ pub mod worker;
 mod workers;
 
 pub use beginning::beginnings;
+pub use cp_run::Job;
 pub use cutting::{Cutting, MOST_MEMBERS};
 pub use fault::{ExploreFault, GatherFault, SplitFault};
-pub use job::Job;
 pub use one_thread::walk_on_one_thread;
 pub use pieces::gather;
 pub use printed::{Report, Text};

@@ -6,12 +6,11 @@ ghost use Rattle.cp_walk.specs.Cutting.{rows_behind};
 ghost use Rattle.cp_walk.specs.Rows.{line_of, IsTooMany};
 
 use crate::fault::ExploreFault;
-use crate::job::Job;
 use crate::observer::ObserveWalk;
 use crate::one_thread::walk_on;
 use crate::row::Row;
 use cp_machine::{State, Ticks, Unwatched};
-use cp_run::{choose, is_over, may, open};
+use cp_run::{Job, choose, is_over, may, open};
 use std::alloc::Global;
 use std::sync::ledger::{Blank, Ledger};
 
@@ -41,17 +40,16 @@ pub fn member_rows<S: Ledger, C: Ledger, N: ObserveWalk>(
     let Ok(mut state) = State::start(alloc, job.program, job.limits.discipline) else {
         return Err(ExploreFault::Memory);
     };
-    let mut halt = open(job.program, job.limits, &mut state, &mut steps, &mut calls);
+    let mut halt = open(job, &mut state, &mut steps, &mut calls);
     for (place, process) in word.iter().enumerate() {
         if is_over(job.limits, halt, place) {
             return Ok(Vec::new(alloc));
         }
-        if !may(job.program, job.limits, &state, *process) {
+        if !may(job, &state, *process) {
             return Ok(Vec::new(alloc));
         }
         halt = choose(
-            job.program,
-            job.limits,
+            job,
             &mut state,
             *process,
             &mut Unwatched,

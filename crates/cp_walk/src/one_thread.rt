@@ -12,7 +12,6 @@ ghost use Rattle.cp_walk.specs.Walking.{node_rows};
 
 use crate::fault::ExploreFault;
 use crate::found::Found;
-use crate::job::Job;
 use crate::memo::Walked;
 use crate::observer::ObserveWalk;
 use crate::row::{Row, Rows, Table};
@@ -20,7 +19,7 @@ use crate::walk::Walk;
 use crate::word::word_of;
 use cp_machine::{State, Ticks};
 use cp_progress::Unobserved;
-use cp_run::{Halt, OutcomeKind, open};
+use cp_run::{Halt, Job, OutcomeKind, open};
 use cp_slots::Resolved;
 use std::alloc::{AllocError, Global};
 use std::marker::Brand;
@@ -60,7 +59,7 @@ fn explore_counted<S: Ledger, C: Ledger>(
     let Ok(mut first) = State::start(alloc, job.program, job.limits.discipline) else {
         return Err(ExploreFault::Memory);
     };
-    let halt = open(job.program, job.limits, &mut first, &mut steps, calls);
+    let halt = open(job, &mut first, &mut steps, calls);
     let rows = walk_on(
         alloc,
         job,

@@ -12,7 +12,6 @@ ghost use Rattle.cp_walk.specs.Rows.{line_of, IsTooMany};
 
 use crate::fault::ExploreFault;
 use crate::found::Found;
-use crate::job::Job;
 use crate::memo::Span;
 use crate::observer::ObserveWalk;
 use crate::replay::add_replayed;
@@ -20,7 +19,7 @@ use crate::row::Row;
 use crate::word::word_of;
 use arrayvec::ArrayVec;
 use cp_machine::{State, Ticks, Unwatched};
-use cp_run::{Halt, OutcomeKind, candidates, choose, outcome_at};
+use cp_run::{Halt, Job, OutcomeKind, candidates, choose, outcome_at};
 use std::alloc::Global;
 use std::sync::ledger::Ledger;
 
@@ -90,7 +89,7 @@ impl<'a, S: Ledger, N: ObserveWalk> Walk<'a, S, N> {
         let Some((next, deeper)) = kept.split_first_mut() else {
             return self.add_row(state, OutcomeKind::ChoiceLimit);
         };
-        let numbers = candidates(job.program, job.limits, state);
+        let numbers = candidates(job, state);
         let Some((last, others)) = numbers.as_slice().split_last() else {
             unreachable!()
         };
@@ -167,15 +166,7 @@ impl<'a, S: Ledger, N: ObserveWalk> Walk<'a, S, N> {
         ensures many { IfErr result (λ e. IsTooMany e → 50000 < length self.old.found.rows.items + length (node_rows job.now.program.now job.now.limits (length deeper.old) (chosen (slots job.now.program.now job.now.limits.discipline) job.now.limits.steps (machine_of state.old) process))) }
         ensures calls { IfOk result (λ _. calls.new ≤ calls.old + beginnings (words_in (node_rows job.now.program.now job.now.limits (length deeper.old) (chosen (slots job.now.program.now job.now.limits.discipline) job.now.limits.steps (machine_of state.old) process)))) }
     {
-        let halt = choose(
-            job.program,
-            job.limits,
-            state,
-            process,
-            &mut Unwatched,
-            &mut self.steps,
-            calls,
-        );
+        let halt = choose(job, state, process, &mut Unwatched, &mut self.steps, calls);
         self.word.push(process);
         self.walk_once(job, state, halt, deeper, calls)?;
         let _ = self.word.pop();

@@ -5,11 +5,9 @@ ghost use Rattle.cp_run.specs.Run.{run};
 ghost use Rattle.cp_run.specs.Slots.{slots};
 ghost use Rattle.cp_walk.specs.Cutting.{wanted_in};
 
-use crate::job::Job;
 use arrayvec::ArrayVec;
 use cp_machine::Ticks;
-use cp_run::{Limits, RunEnd, run};
-use cp_slots::Resolved;
+use cp_run::{Job, RunEnd, run};
 use std::alloc::{AllocError, Global};
 use std::marker::Brand;
 use std::sync::ledger::{Blank, Ledger};
@@ -23,13 +21,12 @@ pub fn numbers_wanted_after(
     requires { length word.now ≤ 20 }
     ensures { IfOk result (λ o. option_map (λ r. r.items) o ≡ wanted_in (run (slots job.entry.program.now job.entry.limits.discipline) job.entry.limits.choices job.entry.limits.steps word.now)) }
 {
-    numbers_wanted_by::<Brand>(alloc, job.program, job.limits, word, Blank::new(1))
+    numbers_wanted_by::<Brand>(alloc, &job, word, Blank::new(1))
 }
 
 fn numbers_wanted_by<S: Ledger>(
     alloc: Global,
-    program: &Resolved,
-    limits: Limits,
+    job: &Job<'_>,
     word: &[u8],
     blank: Blank,
 ) -> Result<Option<ArrayVec<u8, 16>>, AllocError>
@@ -37,10 +34,10 @@ fn numbers_wanted_by<S: Ledger>(
     requires parts { blank.parts ≡ S.parts }
     requires one { S.parts ≡ 1 }
     requires short { length word.now ≤ 20 }
-    ensures { IfOk result (λ o. option_map (λ r. r.items) o ≡ wanted_in (run (slots program.now limits.discipline) limits.choices limits.steps word.now)) }
+    ensures { IfOk result (λ o. option_map (λ r. r.items) o ≡ wanted_in (run (slots job.now.program.now job.now.limits.discipline) job.now.limits.choices job.now.limits.steps word.now)) }
 {
     let mut steps: Ticks<S> = Ticks::new(blank);
-    match run(alloc, program, limits, word, &mut steps)? {
+    match run(alloc, job, word, &mut steps)? {
         RunEnd::Wants { ready } => Ok(Some(ready)),
         RunEnd::Ended { .. } | RunEnd::NotReady { .. } => Ok(None),
     }

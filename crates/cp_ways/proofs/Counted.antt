@@ -11,7 +11,7 @@ use Rattle.cp_run.specs.Run.{those_below, Node, Halted, Choosing, may, chosen}
 use Rattle.cp_ways.proofs.Given.{Outcome, Line, Machine, System, Tables, Discipline, Shown, EndKey, slots, core_key, walk, shown_grows}
 use Rattle.cp_ways.specs.Ways.{since}
 use Rattle.cp_ways.specs.Weights.{after, total, weight, weight_of, AreKnown, IsKnown, WeighAs}
-use Rattle.cp_ways.specs.declared.key.WaysKey.{WaysKey}
+use Rattle.cp_key.specs.declared.state_key.StateKey.{StateKey}
 use Rattle.cp_ways.specs.declared.ways.Ways.{Ways}
 use Rattle.cp_ways.proofs.Sums.{sum_ones, total_weight}
 use Rattle.cp_ways.proofs.Steps.{choices_weight, later_weight, limit_weight, over_weight}
@@ -85,7 +85,7 @@ module _ (sys : System Machine) (steps : ℕ) where
 
   -- ---- what is remembered
 
-  pub remembered : (es new : List (WaysKey × Ways)) (k : WaysKey) (ways : Ways) → AreKnown sys steps es → IsKnown sys steps (k, ways) → (new ≡ es) ⊎ (new ≡ insert_entry (λ i j. pointwise nat_eq i.bytes.items j.bytes.items) es k ways) → AreKnown sys steps new
+  pub remembered : (es new : List (StateKey × Ways)) (k : StateKey) (ways : Ways) → AreKnown sys steps es → IsKnown sys steps (k, ways) → (new ≡ es) ⊎ (new ≡ insert_entry (λ i j. pointwise nat_eq i.bytes.items j.bytes.items) es k ways) → AreKnown sys steps new
   remembered es new k ways h x (inl e) = subst (AreKnown sys steps) (sym e) h
   remembered es new k ways h x (inr e) = subst (AreKnown sys steps) (sym e) (known_added sys steps es k ways h x)
 

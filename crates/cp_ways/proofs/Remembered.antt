@@ -9,12 +9,12 @@ use Rattle.cp_run.specs.Run.{Choosing}
 use Rattle.cp_ways.proofs.Given.{Machine, System, Tables, Discipline, slots, core_key, walk}
 use Rattle.cp_ways.specs.Ways.{since}
 use Rattle.cp_ways.specs.Weights.{AreKnown, IsKnown, WeighAs}
-use Rattle.cp_ways.specs.declared.key.WaysKey.{WaysKey}
+use Rattle.cp_key.specs.declared.state_key.StateKey.{StateKey}
 use Rattle.cp_ways.specs.declared.ways.Ways.{Ways}
 use Rattle.cp_ways.proofs.Steps.{same_weight}
 
 module _ (sys : System Machine) (steps : ℕ) where
-  rekeyed : (k j : WaysKey) (ways : Ways) → k.bytes.items ≡ j.bytes.items → IsKnown sys steps (k, ways) → IsKnown sys steps (j, ways)
+  rekeyed : (k j : StateKey) (ways : Ways) → k.bytes.items ≡ j.bytes.items → IsKnown sys steps (k, ways) → IsKnown sys steps (j, ways)
   rekeyed k j ways same h = record { state = h.state; left = h.left; key = sym same ∙ h.key; ways = h.ways }
 
   all_cons : {A : Type 0} (P : A → Type 0) (x : A) (xs : List A) → P x → All P xs → All P (x ∷ xs)
@@ -25,7 +25,7 @@ module _ (sys : System Machine) (steps : ℕ) where
   all_rest P x xs h k d lt = h (suc k) d (omega (arith, lt))
 
   -- one more is known
-  pub known_added : (es : List (WaysKey × Ways)) (k : WaysKey) (ways : Ways) → AreKnown sys steps es → IsKnown sys steps (k, ways) → AreKnown sys steps (insert_entry (λ i j. pointwise nat_eq i.bytes.items j.bytes.items) es k ways)
+  pub known_added : (es : List (StateKey × Ways)) (k : StateKey) (ways : Ways) → AreKnown sys steps es → IsKnown sys steps (k, ways) → AreKnown sys steps (insert_entry (λ i j. pointwise nat_eq i.bytes.items j.bytes.items) es k ways)
   known_added [] k ways h x = all_cons (IsKnown sys steps) (k, ways) [] x h
   known_added (e ∷ es) k ways h x = by (pointwise nat_eq k.bytes.items e.0.bytes.items) refl (known_added es k ways (all_rest (IsKnown sys steps) e es h) x)
     where
@@ -38,18 +38,18 @@ module _ (sys : System Machine) (steps : ℕ) where
 
   -- what is found
   pub record Found (key : List ℕ) (ways : Ways) : Type 0 where
-    pub ways_key : WaysKey
-    pub same : ways_key.bytes.items ≡ key
-    pub is : IsKnown sys steps (ways_key, ways)
+    pub state_key : StateKey
+    pub same : state_key.bytes.items ≡ key
+    pub is : IsKnown sys steps (state_key, ways)
 
-  pub known_found : (es : List (WaysKey × Ways)) (key : List ℕ) (ways : Ways) → AreKnown sys steps es → lookup (λ k. pointwise nat_eq key k.bytes.items) es ≡ Some ways → Found key ways
+  pub known_found : (es : List (StateKey × Ways)) (key : List ℕ) (ways : Ways) → AreKnown sys steps es → lookup (λ k. pointwise nat_eq key k.bytes.items) es ≡ Some ways → Found key ways
   known_found [] key ways h e = absurd (cc)
   known_found (x ∷ xs) key ways h e = by (pointwise nat_eq key x.0.bytes.items) refl e (λ i. known_found xs key ways (all_rest (IsKnown sys steps) x xs h) i)
     where
       by : (b : Bool) → pointwise nat_eq key x.0.bytes.items ≡ b → cond b (Some x.1) (lookup (λ k. pointwise nat_eq key k.bytes.items) xs) ≡ Some ways → (lookup (λ k. pointwise nat_eq key k.bytes.items) xs ≡ Some ways → Found key ways) → Found key ways
       by true q i on =
           let same : x.1 ≡ ways = ap (λ o. unwrap_or o x.1) i in
-          record { ways_key = x.0; same = sym ((bytes_decides key x.0.bytes.items).0 q); is = subst (λ s. IsKnown sys steps (x.0, s)) same (h 0 x (omega arith)) }
+          record { state_key = x.0; same = sym ((bytes_decides key x.0.bytes.items).0 q); is = subst (λ s. IsKnown sys steps (x.0, s)) same (h 0 x (omega arith)) }
       by false q i on = on i
 
 head_of : (a b : ℕ) (x y : List ℕ) → a ∷ x ≡ b ∷ y → a ≡ b
@@ -63,7 +63,7 @@ tail_of : (a b : ℕ) (x y : List ℕ) → a ∷ x ≡ b ∷ y → x ≡ y
 tail_of a b x y e = ap (drop 1) e
 
 -- what is known of a state's key are its ways on
-pub known_ways : (r : Tables) (discipline : Discipline) (steps left : ℕ) (n : Machine) (es : List (WaysKey × Ways)) (key : List ℕ) (ways : Ways) → AreKnown (slots r discipline) steps es → key ≡ left ∷ core_key n → lookup (λ k. pointwise nat_eq key k.bytes.items) es ≡ Some ways → WeighAs (since (length n.output)) (walk (slots r discipline) steps left (Choosing n)) ways.list.entries
+pub known_ways : (r : Tables) (discipline : Discipline) (steps left : ℕ) (n : Machine) (es : List (StateKey × Ways)) (key : List ℕ) (ways : Ways) → AreKnown (slots r discipline) steps es → key ≡ left ∷ core_key n → lookup (λ k. pointwise nat_eq key k.bytes.items) es ≡ Some ways → WeighAs (since (length n.output)) (walk (slots r discipline) steps left (Choosing n)) ways.list.entries
 known_ways r discipline steps left n es key ways known keyed is =
     let found = known_found (slots r discipline) steps es key ways known is in
     let keys : found.is.left ∷ core_key found.is.state ≡ left ∷ core_key n = sym found.is.key ∙ found.same ∙ keyed in

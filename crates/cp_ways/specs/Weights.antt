@@ -10,7 +10,7 @@ use Rattle.cp_run.specs.declared.outcome.Outcome.{Outcome}
 use Rattle.cp_merged.specs.declared.end_key.EndKey.{EndKey}
 use Rattle.cp_walk.specs.Walk.{walk}
 use Rattle.cp_ways.specs.Ways.{since}
-use Rattle.cp_ways.specs.declared.key.WaysKey.{WaysKey}
+use Rattle.cp_key.specs.declared.state_key.StateKey.{StateKey}
 use Rattle.cp_ways.specs.declared.ways.Ways.{Ways}
 
 -- an outcome behind values that are displayed before
@@ -38,11 +38,11 @@ abbrev pub Adds : (Outcome → Outcome) → List Line → List (EndKey × ℕ) �
 Adds told rows old new = (f : Outcome → ℕ) → weight f new ≡ weight f old + weight_of (λ o. f (told o)) rows
 
 -- what is known: the ways on from some state with so many choices left
-pub record IsKnown (sys : System Machine) (steps : ℕ) (e : WaysKey × Ways) : Type 0 where
+pub record IsKnown (sys : System Machine) (steps : ℕ) (e : StateKey × Ways) : Type 0 where
   pub state : Machine
   pub left : ℕ
   pub key : e.0.bytes.items ≡ left ∷ core_key state
   pub ways : WeighAs (since (length (sys.output state))) (walk sys steps left (Choosing state)) e.1.list.entries
 
-abbrev pub AreKnown : System Machine → ℕ → List (WaysKey × Ways) → Type 0
+abbrev pub AreKnown : System Machine → ℕ → List (StateKey × Ways) → Type 0
 AreKnown sys steps entries = All (IsKnown sys steps) entries

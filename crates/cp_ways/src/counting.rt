@@ -11,11 +11,11 @@ ghost use Rattle.cp_walk.specs.Walk.{walk};
 ghost use Rattle.cp_ways.specs.Ways.{since, AreWaysOn};
 ghost use Rattle.cp_ways.specs.Weights.{after, total, Adds, AreKnown, WeighAs};
 
-use crate::key::WaysKey;
+use crate::key::key_of_ways;
 use crate::ways::Ways;
+use cp_key::StateKey;
 use cp_machine::{Shown, State, Ticks, Unwatched};
-use cp_run::{Halt, Limits, OutcomeKind, candidates, choose};
-use cp_slots::Resolved;
+use cp_run::{Halt, Job, OutcomeKind, candidates, choose};
 use indexmap::IndexMap;
 use std::alloc::{AllocError, Global};
 use std::sync::ledger::{Blank, Ledger};
@@ -25,14 +25,6 @@ const MOST_KNOWN: usize = 50_000;
 
 /// How many outcomes are remembered of all of them.
 const MOST_OUTCOMES: usize = 200_000;
-
-/// A program, under limits.
-#[derive(Clone, Copy)]
-pub struct WaysJob<'a> {
-    pub alloc: Global,
-    pub program: &'a Resolved,
-    pub limits: Limits,
-}
 
 /// Why ways on are not counted.
 #[derive(Clone, Copy)]
@@ -51,7 +43,7 @@ impl From<AllocError> for WaysFault {
 /// The ways on that are known.
 #[derive(Drop)]
 pub struct Counting<S: Ledger, C: Ledger> {
-    pub known: IndexMap<WaysKey, Ways>,
+    pub known: IndexMap<StateKey, Ways>,
     /// How many outcomes these have.
     outcomes: usize,
     steps: Ticks<S>,
@@ -80,7 +72,8 @@ impl<S: Ledger, C: Ledger> Counting<S, C> {
     /// The ways on from a state where a choice is due, with so many choices left; none where there are too many to be counted.
     pub fn ways_on(
         &mut self,
-        job: &WaysJob<'_>,
+        alloc: Global,
+        job: &Job<'_>,
         state: &State,
         left: u8,
     ) -> Result<Option<Ways>, AllocError>
@@ -90,8 +83,8 @@ impl<S: Ledger, C: Ledger> Counting<S, C> {
         ensures known { AreKnown (slots job.now.program.now job.now.limits.discipline) job.now.limits.steps self.new.known.entries }
         ensures ways { IfOk result (λ found. IfSome found (λ ways. (m : Machine) → core_key m ≡ core_key (machine_of state.now) → AreWaysOn (slots job.now.program.now job.now.limits.discipline) job.now.limits.steps left m ways.list.entries)) }
     {
-        let mut ways = Ways::new(job.alloc);
-        match self.add_ways(job, state, left, &[], &mut ways) {
+        let mut ways = Ways::new(alloc);
+        match self.add_ways(alloc, job, state, left, &[], &mut ways) {
             Ok(()) => Ok(Some(ways)),
             Err(WaysFault::TooMany) => Ok(None),
             Err(WaysFault::Memory) => Err(AllocError),
@@ -102,7 +95,8 @@ impl<S: Ledger, C: Ledger> Counting<S, C> {
     #[cycle(add_ways)]
     fn add_ways(
         &mut self,
-        job: &WaysJob<'_>,
+        alloc: Global,
+        job: &Job<'_>,
         state: &State,
         left: u8,
         shown: &[Shown],
@@ -115,23 +109,29 @@ impl<S: Ledger, C: Ledger> Counting<S, C> {
         ensures added { IfOk result (λ _. Adds (λ o. after shown.now (since (length (output_of (machine_of state.now))) o)) (walk (slots job.now.program.now job.now.limits.discipline) job.now.limits.steps left (Choosing (machine_of state.now))) sum.old.list.entries sum.new.list.entries) }
     {
         if left == 0 {
-            sum.add_end(job.alloc, OutcomeKind::ChoiceLimit, shown)?;
+            sum.add_end(alloc, OutcomeKind::ChoiceLimit, shown)?;
             return Ok(());
         }
-        let key = WaysKey::of(job.alloc, state, left)?;
+        let key = key_of_ways(alloc, state, left)?;
         if let Some(ways) = self.known.get(&key) {
-            sum.add_behind(job.alloc, shown, ways)?;
+            sum.add_behind(alloc, shown, ways)?;
             return Ok(());
         }
-        let ways = self.count(job, state, left - 1)?;
-        sum.add_behind(job.alloc, shown, &ways)?;
+        let ways = self.count(alloc, job, state, left - 1)?;
+        sum.add_behind(alloc, shown, &ways)?;
         self.remember(key, ways)?;
         Ok(())
     }
 
     // Counts the ways on from a state that is not known, which has one choice more left.
     #[cycle(add_ways)]
-    fn count(&mut self, job: &WaysJob<'_>, state: &State, left: u8) -> Result<Ways, WaysFault>
+    fn count(
+        &mut self,
+        alloc: Global,
+        job: &Job<'_>,
+        state: &State,
+        left: u8,
+    ) -> Result<Ways, WaysFault>
         requires own { IsStateOf job.now.program.now state.now }
         requires known { AreKnown (slots job.now.program.now job.now.limits.discipline) job.now.limits.steps self.old.known.entries }
         requires small { length (walk (slots job.now.program.now job.now.limits.discipline) job.now.limits.steps (left + 1) (Choosing (machine_of state.now))) < 10 ^ 126 }
@@ -141,10 +141,10 @@ impl<S: Ledger, C: Ledger> Counting<S, C> {
         if self.is_full() {
             return Err(WaysFault::TooMany);
         }
-        let mut ways = Ways::new(job.alloc);
-        let numbers = candidates(job.program, job.limits, state);
+        let mut ways = Ways::new(alloc);
+        let numbers = candidates(job, state);
         for process in numbers.as_slice() {
-            self.add_choice(job, state, left, *process, &mut ways)?;
+            self.add_choice(alloc, job, state, left, *process, &mut ways)?;
         }
         Ok(ways)
     }
@@ -153,7 +153,8 @@ impl<S: Ledger, C: Ledger> Counting<S, C> {
     #[cycle(add_ways)]
     fn add_choice(
         &mut self,
-        job: &WaysJob<'_>,
+        alloc: Global,
+        job: &Job<'_>,
         state: &State,
         left: u8,
         process: u8,
@@ -166,10 +167,9 @@ impl<S: Ledger, C: Ledger> Counting<S, C> {
         ensures known { AreKnown (slots job.now.program.now job.now.limits.discipline) job.now.limits.steps self.new.known.entries }
         ensures added { IfOk result (λ _. Adds (since (length (output_of (machine_of state.now)))) (walk (slots job.now.program.now job.now.limits.discipline) job.now.limits.steps left (chosen (slots job.now.program.now job.now.limits.discipline) job.now.limits.steps (machine_of state.now) process)) ways.old.list.entries ways.new.list.entries) }
     {
-        let mut next = state.copy(job.alloc)?;
+        let mut next = state.copy(alloc)?;
         let halt = choose(
-            job.program,
-            job.limits,
+            job,
             &mut next,
             process,
             &mut Unwatched,
@@ -179,10 +179,10 @@ impl<S: Ledger, C: Ledger> Counting<S, C> {
         let shown = shown_since(state, &next);
         match halt {
             Halt::Ended(kind) => {
-                ways.add_end(job.alloc, kind, shown)?;
+                ways.add_end(alloc, kind, shown)?;
                 Ok(())
             }
-            Halt::Choice => self.add_ways(job, &next, left, shown, ways),
+            Halt::Choice => self.add_ways(alloc, job, &next, left, shown, ways),
         }
     }
 
@@ -191,7 +191,7 @@ impl<S: Ledger, C: Ledger> Counting<S, C> {
     }
 
     // The ways on of a key are known from now on.
-    fn remember(&mut self, key: WaysKey, ways: Ways) -> Result<(), AllocError>
+    fn remember(&mut self, key: StateKey, ways: Ways) -> Result<(), AllocError>
         ensures known { (self.new.known.entries ≡ self.old.known.entries) ⊎ (self.new.known.entries ≡ insert_entry (λ j k. pointwise nat_eq j.bytes.items k.bytes.items) self.old.known.entries key ways) }
     {
         self.outcomes = self.outcomes.saturating_add(ways.list.len());

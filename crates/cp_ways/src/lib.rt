@@ -6,6 +6,6 @@ pub mod key;
 pub mod laws;
 pub mod ways;
 
-pub use counting::{Counting, WaysJob};
+pub use counting::Counting;
 pub use laws::law_alike;
 pub use ways::Ways;

@@ -1,7 +1,7 @@
 -- Which schedule is shown, from the slot machine on.
 use Rattle.std.specs.Prelude.{◌≡◌, ◌≤◌, ◌<◌, ℕ, List, [], length, option_map, unwrap_or}
 use Rattle.cp_slots.specs.Tables.{Tables}
-use Rattle.cp_walk.specs.declared.job.Job.{Job}
+use Rattle.cp_run.specs.declared.job.Job.{Job}
 use Rattle.cp_tool.specs.declared.options.Options.{Options}
 use Rattle.cp_outcomes.specs.Chosen.{IsChosen, IsFirst, IsSchedule}
 use Rattle.cp_outcomes.specs.declared.telling.First.{First}

@@ -8,6 +8,7 @@ use cp_cover::{Gaps, cover_json, cover_text, entries_of, find_coverage, gaps_of}
 use cp_front::Loaded;
 use cp_legend::Legend;
 use cp_progress::ObserveProgress;
+use cp_run::Job;
 use cp_show_mark::ShowAnswer;
 use cp_tool::Options;
 use std::alloc::{AllocError, Global};
@@ -71,7 +72,7 @@ fn gaps_within<O: ObserveProgress>(
 ) -> Result<Gaps, AllocError> {
     let program = &loaded.program;
     let limits = options.limits();
-    let coverage = find_coverage(alloc, program, limits, options.states, observer)?;
+    let coverage = find_coverage(alloc, &Job { program, limits }, options.states, observer)?;
     let entries = entries_of(alloc, loaded.checked.tree())?;
     gaps_of(alloc, program, legend, &entries, &coverage)
 }

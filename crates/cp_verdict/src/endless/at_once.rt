@@ -13,6 +13,7 @@ use crate::endless::verdict::{EndsMark, verdict_on};
 use cp_at_once::search_at_once_with;
 use cp_machine::Discipline;
 use cp_progress::ObserveProgress;
+use cp_run::Job;
 use std::alloc::{AllocError, Global};
 
 /// What all schedules of any length say of some expectations; where there are too many states, what kernel calls at once say, if these may be made and there are
@@ -98,7 +99,7 @@ pub fn mark_at_once<O: ObserveProgress>(
         most,
         ..
     } = subject;
-    let found = search_at_once_with(alloc, program, limits, most, observer)?;
+    let found = search_at_once_with(alloc, &Job { program, limits }, most, observer)?;
     let known = knowledge_at_once(alloc, program, &found)?;
     let verdict = verdict_on(&known, list);
     tell(alloc, subject, &known, list, verdict, true)

@@ -18,7 +18,7 @@ use crate::endless::verdict::{EndsVerdict, mark_of, verdict_on};
 use cp_legend::Legend;
 use cp_machine::{Discipline, Gates};
 use cp_progress::ObserveProgress;
-use cp_run::Limits;
+use cp_run::{Job, Limits};
 use cp_slots::Resolved;
 use cp_waits::{FoundWaits, Waiting, Waits, find_waits};
 use std::alloc::{AllocError, Global};
@@ -97,7 +97,13 @@ fn knowledge<O: ObserveProgress>(
         most,
         ..
     } = subject;
-    let FoundWaits { found, waits } = find_waits(alloc, program, limits, most, asks, observer)?;
+    let FoundWaits { found, waits } = find_waits(
+        alloc,
+        &Job { program, limits },
+        most,
+        asks,
+        observer,
+    )?;
     knowledge_of(alloc, program, &found, lines_of(waits))
 }
 

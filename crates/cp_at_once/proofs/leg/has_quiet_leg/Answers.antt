@@ -11,12 +11,12 @@ returns-clause-leg g c = λ yes.
     record {
       free = c.requires.free;
       after = without_output n;
-      leg = subst (λ s. EndsQuietly c.args.program.now c.args.limits.discipline s c.args.pid n) c.take_moved.ensures.same (c.take_leg-event.ensures.leg (sym c.is_quiet.ensures ∙ quiet));
+      leg = subst (λ s. EndsQuietly c.args.job.now.run.program.now c.args.job.now.run.limits.discipline s c.args.pid n) c.take_moved.ensures.same (c.take_leg-event.ensures.leg (sym c.is_quiet.ensures ∙ quiet));
       phases = sym c.as_slice-after.ensures.value ∙ phases_same c.as_slice-after.result.now c.as_slice-before.result.now c.eq.result c.eq.ensures yes ∙ c.as_slice-before.ensures.value;
     })
 
 pub take_moved-requires-clause-own : goal.take_moved-requires-clause-own
-take_moved-requires-clause-own g c = (c.args.program.now, c.requires.ahead, c.requires.own)
+take_moved-requires-clause-own g c = (c.args.job.now.run.program.now, c.requires.ahead, c.requires.own)
 
 pub returns-clause-kept : goal.returns-clause-kept
 returns-clause-kept g c = λ moved this. c.take_leg-event.ensures.kept moved (machine_of c.args.state.now) (subst (KeepBodies moved (machine_of c.args.state.now)) (sym c.take_moved.ensures.same) (keep_refl moved (machine_of c.args.state.now))) this

@@ -21,19 +21,19 @@ ready_here r discipline s pending all i is none listed lt =
 pub enters_next-requires-clause-ready : goal.enters_next-requires-clause-ready
 enters_next-requires-clause-ready g c =
     let all = c.as_slice-pid-items.result.now in
-    let on = ready_here c.args.program.now c.args.limits.discipline c.args.state.now c.pending.result all c.loop-pid.pid-index c.pending.ensures (sym c.if-is_some.ensures) (c.as_slice-pid-items.ensures.value ∙ c.candidates-numbers.ensures) (omega arith) in
+    let on = ready_here c.args.job.now.run.program.now c.args.job.now.run.limits.discipline c.args.state.now c.pending.result all c.loop-pid.pid-index c.pending.ensures (sym c.if-is_some.ensures) (c.as_slice-pid-items.ensures.value ∙ c.candidates-numbers.ensures) (omega arith) in
     search (rules, on)
 
 pub has_quiet_leg-requires-clause-ready : goal.has_quiet_leg-requires-clause-ready
 has_quiet_leg-requires-clause-ready g c =
     let all = c.as_slice-pid-items.result.now in
-    let on = ready_here c.args.program.now c.args.limits.discipline c.args.state.now c.pending.result all c.loop-pid.pid-index c.pending.ensures (sym c.if-is_some.ensures) (c.as_slice-pid-items.ensures.value ∙ c.candidates-numbers.ensures) (omega arith) in
+    let on = ready_here c.args.job.now.run.program.now c.args.job.now.run.limits.discipline c.args.state.now c.pending.result all c.loop-pid.pid-index c.pending.ensures (sym c.if-is_some.ensures) (c.as_slice-pid-items.ensures.value ∙ c.candidates-numbers.ensures) (omega arith) in
     search (rules, on)
 
 pub returns-then-has_quiet_leg-clause-may : goal.returns-then-has_quiet_leg-clause-may
 returns-then-has_quiet_leg-clause-may g c =
     let s = machine_of c.args.state.now in
-    let sys = slots c.args.program.now c.args.limits.discipline in
+    let sys = slots c.args.job.now.run.program.now c.args.job.now.run.limits.discipline in
     let i = c.loop-pid.pid-index in
     let all = c.as_slice-pid-items.result.now in
     let listed : all ≡ those_below sys.processes (may sys s) = c.as_slice-pid-items.ensures.value ∙ c.candidates-numbers.ensures in
@@ -51,7 +51,7 @@ pub loop-pid-init : goal.loop-pid-init
 loop-pid-init g c =
     record {
       ahead = c.requires.ahead;
-      kept = kept_everybody c.args.program.now c.args.state.now c.args.ahead.now (has_moved c.everybody-moved.result) c.requires.own c.requires.ahead c.everybody-moved.ensures;
+      kept = kept_everybody c.args.job.now.run.program.now c.args.state.now c.args.ahead.now (has_moved c.everybody-moved.result) c.requires.own c.requires.ahead c.everybody-moved.ensures;
     }
 
 pub loop-pid-preserved : goal.loop-pid-preserved

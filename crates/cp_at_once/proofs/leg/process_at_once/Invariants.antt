@@ -5,6 +5,6 @@ use Rattle.cp_at_once.proofs.leg.process_at_once.Given as goal
 abbrev pub invariant-loop-pid : goal.invariant-loop-pid
 invariant-loop-pid g l =
     record {
-      ahead : IsStateOf l.program l.ahead;
+      ahead : IsStateOf l.job.program.now l.ahead;
       kept : KeepBodies (has_moved l.moved) (machine_of l.state) (machine_of l.ahead);
     }

@@ -10,7 +10,7 @@ use Rattle.cp_at_once.proofs.leg.take_leg.Goals.{then-not-local_step+in-Local+el
 
 pub loop-preserved : goal.loop-preserved
 loop-preserved g c =
-    let r = c.args.program.now in
+    let r = c.args.job.now.run.program.now in
     let p = c.args.pid in
     let old : Machine = machine_of c.loop.state in
     let m = machine_of c.local_step.new.state in
@@ -44,9 +44,9 @@ loop-preserved g c =
 
 pub returns-in_default : goal.returns-in_default
 returns-in_default g c =
-    let r = c.args.program.now in
+    let r = c.args.job.now.run.program.now in
     let p = c.args.pid in
-    let discipline = c.args.limits.discipline in
+    let discipline = c.args.job.now.run.limits.discipline in
     let n = machine_of c.step-event.new.state in
     let none : c.local_step.result ≡ false = search in
     let same = c.local_step.ensures.same none in
@@ -58,7 +58,7 @@ returns-in_default g c =
 
 pub returns-then-is_some-clause-kept : goal.returns-then-is_some-clause-kept
 returns-then-is_some-clause-kept g c = λ moved before k this.
-    (let r = c.args.program.now in
+    (let r = c.args.job.now.run.program.now in
     let p = c.args.pid in
     let none : c.local_step.result ≡ false = search in
     let same = c.local_step.ensures.same none in

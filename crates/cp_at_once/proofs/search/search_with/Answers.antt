@@ -43,4 +43,4 @@ returns g c =
     answers_told r (slot_graph r job.limits.discipline job.limits.steps) (HasLeg r job.limits.discipline) job.most c.visit_all.new.visit.found c.in_ok-stopped.stopped c.is_none-search.result c.is_none-search.ensures c.in_ok-stopped.ensures.searched
 
 pub follow-requires-clause-ahead : goal.follow-requires-clause-ahead
-follow-requires-clause-ahead g c = c.in_ok-copy.ensures.own c.args.job.now.program.now c.in_ok-state.ensures.own
+follow-requires-clause-ahead g c = c.in_ok-copy.ensures.own c.args.job.now.run.program.now c.in_ok-state.ensures.own

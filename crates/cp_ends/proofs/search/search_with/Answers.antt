@@ -3,7 +3,7 @@ use Rattle.cp_ends.proofs.GoingOn.{search_answer, stop_noted}
 use Rattle.cp_ends.proofs.search.search_with.Goals as goal
 
 pub open-requires-clause-nothing : goal.open-requires-clause-nothing
-open-requires-clause-nothing g c = c.new-visit.ensures c.args.job.now.program.now
+open-requires-clause-nothing g c = c.new-visit.ensures c.args.job.now.run.program.now
 
 pub returns : goal.returns
 returns g c =

@@ -8,6 +8,6 @@ abbrev pub invariant-loop-at : goal.invariant-loop-at
 invariant-loop-at g l =
     record {
       states : l.graph.states ≡ l.initial.graph.states;
-      own : All (IsStateOf l.job.program.now) l.graph.states.items;
-      known : AreKnown (slots l.job.program.now l.job.limits.discipline) l.job.limits.steps l.counting.known.entries;
+      own : All (IsStateOf l.job.run.program.now) l.graph.states.items;
+      known : AreKnown (slots l.job.run.program.now l.job.run.limits.discipline) l.job.run.limits.steps l.counting.known.entries;
     }

@@ -7,6 +7,6 @@ use Rattle.cp_page.proofs.onward.tell_onward.Given as goal
 abbrev pub invariant-loop-used : goal.invariant-loop-used
 invariant-loop-used g l =
     record {
-      states : All (IsStateOf l.job.program.now) l.graph.states.items;
-      known : AreKnown (slots l.job.program.now l.job.limits.discipline) l.job.limits.steps l.counting.known.entries;
+      states : All (IsStateOf l.job.run.program.now) l.graph.states.items;
+      known : AreKnown (slots l.job.run.program.now l.job.run.limits.discipline) l.job.run.limits.steps l.counting.known.entries;
     }

@@ -13,5 +13,5 @@ returns g c =
       own = moved.own;
       steps = moved.steps;
       calls = omega (arith, one);
-      kept = λ before h. subst (λ b. KeepBodies (g.W.Watch.moved c.observe_choice.new.observer.watch) b (machine_of c.observe_choice.new.state)) (blind_chosen (slots c.args.program.now c.args.limits.discipline) c.args.limits.steps (machine_of c.args.state.now) c.args.process before) (moved.seen before h);
+      kept = λ before h. subst (λ b. KeepBodies (g.W.Watch.moved c.observe_choice.new.observer.watch) b (machine_of c.observe_choice.new.state)) (blind_chosen (slots c.args.job.now.program.now c.args.job.now.limits.discipline) c.args.job.now.limits.steps (machine_of c.args.state.now) c.args.process before) (moved.seen before h);
     }

@@ -9,8 +9,8 @@ use Rattle.cp_run.proofs.observing.expect_step.Goals as goal
 pub returns-then-local_step : goal.returns-then-local_step
 returns-then-local_step g c =
     let b = g.O.Observe.IS_SILENT in
-    let r = c.args.program.now in
-    let discipline = c.args.limits.discipline in
+    let r = c.args.job.now.program.now in
+    let discipline = c.args.job.now.limits.discipline in
     let sys = slots_by b r discipline in
     let s = machine_of c.args.state.now in
     let p = c.args.process in

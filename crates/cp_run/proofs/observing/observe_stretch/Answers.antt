@@ -13,12 +13,12 @@ use Rattle.cp_run.proofs.observing.observe_stretch.Goals.{else-loop-test, then-l
 
 pub loop-preserved : goal.loop-preserved
 loop-preserved g c =
-    let r = c.args.program.now in
-    let discipline = c.args.limits.discipline in
+    let r = c.args.job.now.program.now in
+    let discipline = c.args.job.now.limits.discipline in
     let sys = slots_by g.O.Observe.IS_SILENT r discipline in
     let fold = g.O.Observe.fold r discipline in
-    let lt : c.loop.counter < c.args.limits.steps = omega arith in
-    let left = c.args.limits.steps - c.loop.counter in
+    let lt : c.loop.counter < c.args.job.now.limits.steps = omega arith in
+    let left = c.args.job.now.limits.steps - c.loop.counter in
     let p = c.in-Goes.process in
     let s = machine_of c.loop.state in
     let t = machine_of c.see_step.new.state in
@@ -31,24 +31,24 @@ loop-preserved g c =
       own = made.own;
       ready = made.ready;
       free = made.free;
-      walked = c.loop.invariant.walked ∙ ap (walked sys left s) c.in-Goes.is ∙ walked_on sys c.args.limits.steps c.loop.counter s t p c.in_ok-next.next lt state turn;
+      walked = c.loop.invariant.walked ∙ ap (walked sys left s) c.in-Goes.is ∙ walked_on sys c.args.job.now.limits.steps c.loop.counter s t p c.in_ok-next.next lt state turn;
       seen = λ x h.
           (let so_far = c.loop.invariant.seen x h in
           let y = so_far.0 in
           let expects = subst (λ m. g.O.Observe.expects c.expect_step.new.observer r discipline m p y) (sym same) (expected.expects c.if-branch.false y so_far.1) in
           let z = fold.on_step (machine_of c.expect_step.new.state) p (sys.event (machine_of c.expect_step.new.state) p) t y in
-          (z, made.seen y expects, fold_further sys fold c.args.limits.steps c.loop.counter s t p (sys.event s p) c.in_ok-next.next (fold_turn (fold_stretch sys fold c.args.limits.steps (machine_of c.args.state.now)) c.args.turn x) y z lt state refl turn (so_far.2 ∙ ap (λ u. fold_turn (fold_stretch sys fold left s) u y) c.in-Goes.is) (ap (λ m. fold.on_step m p (sys.event m p) t y) same)));
+          (z, made.seen y expects, fold_further sys fold c.args.job.now.limits.steps c.loop.counter s t p (sys.event s p) c.in_ok-next.next (fold_turn (fold_stretch sys fold c.args.job.now.limits.steps (machine_of c.args.state.now)) c.args.turn x) y z lt state refl turn (so_far.2 ∙ ap (λ u. fold_turn (fold_stretch sys fold left s) u y) c.in-Goes.is) (ap (λ m. fold.on_step m p (sys.event m p) t y) same)));
       steps = let none = expected.none c.if-branch.false in let more = made.steps in let so_far = c.loop.invariant.steps in omega (arith, none, more, so_far);
     }
 
 pub loop-preserved-then-branch : goal.loop-preserved-then-branch
 loop-preserved-then-branch g c =
-    let r = c.args.program.now in
-    let discipline = c.args.limits.discipline in
+    let r = c.args.job.now.program.now in
+    let discipline = c.args.job.now.limits.discipline in
     let sys = slots_by g.O.Observe.IS_SILENT r discipline in
     let fold = g.O.Observe.fold r discipline in
-    let lt : c.loop.counter < c.args.limits.steps = omega arith in
-    let left = c.args.limits.steps - c.loop.counter in
+    let lt : c.loop.counter < c.args.job.now.limits.steps = omega arith in
+    let left = c.args.job.now.limits.steps - c.loop.counter in
     let p = c.in-Goes.process in
     let s = machine_of c.loop.state in
     let t = machine_of c.expect_step.new.state in
@@ -59,19 +59,19 @@ loop-preserved-then-branch g c =
       own = passed.own;
       ready = passed.ready;
       free = passed.free;
-      walked = c.loop.invariant.walked ∙ ap (walked sys left s) c.in-Goes.is ∙ walked_on sys c.args.limits.steps c.loop.counter s t p (Goes p) lt state turn;
+      walked = c.loop.invariant.walked ∙ ap (walked sys left s) c.in-Goes.is ∙ walked_on sys c.args.job.now.limits.steps c.loop.counter s t p (Goes p) lt state turn;
       seen = λ x h.
           (let so_far = c.loop.invariant.seen x h in
           let y = so_far.0 in
           let z = fold.on_step s p (sys.event s p) t y in
-          (z, passed.seen c.if-branch.true y so_far.1, fold_further sys fold c.args.limits.steps c.loop.counter s t p (sys.event s p) (Goes p) (fold_turn (fold_stretch sys fold c.args.limits.steps (machine_of c.args.state.now)) c.args.turn x) y z lt state refl turn (so_far.2 ∙ ap (λ u. fold_turn (fold_stretch sys fold left s) u y) c.in-Goes.is) refl));
+          (z, passed.seen c.if-branch.true y so_far.1, fold_further sys fold c.args.job.now.limits.steps c.loop.counter s t p (sys.event s p) (Goes p) (fold_turn (fold_stretch sys fold c.args.job.now.limits.steps (machine_of c.args.state.now)) c.args.turn x) y z lt state refl turn (so_far.2 ∙ ap (λ u. fold_turn (fold_stretch sys fold left s) u y) c.in-Goes.is) refl));
       steps = let more = passed.steps in let so_far = c.loop.invariant.steps in omega (arith, more, so_far);
     }
 
 pub returns-clause-walked : goal.returns-clause-walked
 returns-clause-walked g c =
-    let sys = slots_by g.O.Observe.IS_SILENT c.args.program.now c.args.limits.discipline in
-    let left = c.args.limits.steps - c.loop.counter in
+    let sys = slots_by g.O.Observe.IS_SILENT c.args.job.now.program.now c.args.job.now.limits.discipline in
+    let left = c.args.job.now.limits.steps - c.loop.counter in
     c.loop.invariant.walked
     ∙ walked_up sys left (machine_of c.loop.state) c.loop.next (elim c.loop-test.branch [
       | else-loop-test w ↦ let over = w.loop-test.false in goes_always c.loop.next (left ≡ 0) (omega (arith, over))
@@ -80,11 +80,11 @@ returns-clause-walked g c =
 
 pub returns-clause-seen : goal.returns-clause-seen
 returns-clause-seen g c = λ x h.
-    (let r = c.args.program.now in
-    let discipline = c.args.limits.discipline in
+    (let r = c.args.job.now.program.now in
+    let discipline = c.args.job.now.limits.discipline in
     let sys = slots_by g.O.Observe.IS_SILENT r discipline in
     let fold = g.O.Observe.fold r discipline in
-    let left = c.args.limits.steps - c.loop.counter in
+    let left = c.args.job.now.limits.steps - c.loop.counter in
     let s = machine_of c.loop.state in
     let so_far = c.loop.invariant.seen x h in
     let done = shows_no_more sys fold left s c.loop.next so_far.0 (elim c.loop-test.branch [

@@ -12,13 +12,13 @@ turn_of-requires-clause-goes_on g c =
     let s = machine_of c.args.state.now in
     let p = c.args.process in
     let left_so = c.leave.ensures.state ∙ ap (λ b. left_by b (machine_of c.step-event.new.state)) c.is_silent.ensures in
-    λ local. ready_left g.O.Observe.IS_SILENT (machine_of c.step-event.new.state) (machine_of c.leave.new.state) p left_so ∙ local_ready c.args.program.now s (machine_of c.step-event.new.state) p c.step-event.result (ready_thread s p c.requires.ready) c.requires.ready c.step-event.ensures.after local
+    λ local. ready_left g.O.Observe.IS_SILENT (machine_of c.step-event.new.state) (machine_of c.leave.new.state) p left_so ∙ local_ready c.args.job.now.program.now s (machine_of c.step-event.new.state) p c.step-event.result (ready_thread s p c.requires.ready) c.requires.ready c.step-event.ensures.after local
 
 pub returns : goal.returns
 returns g c =
     let b = g.O.Observe.IS_SILENT in
-    let r = c.args.program.now in
-    let discipline = c.args.limits.discipline in
+    let r = c.args.job.now.program.now in
+    let discipline = c.args.job.now.limits.discipline in
     let fold = g.O.Observe.fold r discipline in
     let s = machine_of c.args.state.now in
     let p = c.args.process in

@@ -11,40 +11,40 @@ use Rattle.cp_run.proofs.observing.take_choice.Goals as goal
 
 pub returns-then-is_none : goal.returns-then-is_none
 returns-then-is_none g c =
-    let r = c.args.program.now in
-    let discipline = c.args.limits.discipline in
+    let r = c.args.job.now.program.now in
+    let discipline = c.args.job.now.limits.discipline in
     let s = c.args.state.now in
     let goes = chosen_goes r discipline s c.args.process c.pending.result c.pending.ensures c.if-is_none.ensures c.requires.own c.requires.may in
     record {
-      node = λ b. chosen_free (slots_by b r discipline) c.args.limits.steps (machine_of s) c.args.process goes.free;
-      walked = λ b. walked_chosen_free (slots_by b r discipline) c.args.limits.steps (machine_of s) c.args.process goes.free;
-      seen = λ b x h. (x, h, fold_chosen_free (slots_by b r discipline) (g.O.Observe.fold r discipline) c.args.limits.steps (machine_of s) c.args.process x goes.free);
+      node = λ b. chosen_free (slots_by b r discipline) c.args.job.now.limits.steps (machine_of s) c.args.process goes.free;
+      walked = λ b. walked_chosen_free (slots_by b r discipline) c.args.job.now.limits.steps (machine_of s) c.args.process goes.free;
+      seen = λ b x h. (x, h, fold_chosen_free (slots_by b r discipline) (g.O.Observe.fold r discipline) c.args.job.now.limits.steps (machine_of s) c.args.process x goes.free);
       ready = goes.ready;
       free = goes.free;
       own = goes.own;
     }
 
 pub admit-requires : goal.admit-requires
-admit-requires g c = chosen_comes c.args.program.now c.args.limits.discipline c.args.state.now c.args.process c.pending.result c.pending.ensures c.if-is_none.ensures c.requires.own c.requires.may
+admit-requires g c = chosen_comes c.args.job.now.program.now c.args.job.now.limits.discipline c.args.state.now c.args.process c.pending.result c.pending.ensures c.if-is_none.ensures c.requires.own c.requires.may
 
 pub see_admission-requires : goal.see_admission-requires
-see_admission-requires g c = record { own = c.admit.ensures.own c.args.program.now c.requires.own }
+see_admission-requires g c = record { own = c.admit.ensures.own c.args.job.now.program.now c.requires.own }
 
 pub settled_turn-requires-clause-own : goal.settled_turn-requires-clause-own
-settled_turn-requires-clause-own g c = c.admit.ensures.own c.args.program.now c.requires.own
+settled_turn-requires-clause-own g c = c.admit.ensures.own c.args.job.now.program.now c.requires.own
 
 pub returns : goal.returns
 returns g c =
-    let r = c.args.program.now in
-    let discipline = c.args.limits.discipline in
+    let r = c.args.job.now.program.now in
+    let discipline = c.args.job.now.limits.discipline in
     let s = c.args.state.now in
     let n = machine_of c.admit.new.self in
     let turn = c.settled_turn.result in
     let pending = pending_is (machine_of s) c.pending.result true c.pending.ensures c.if-is_none.ensures in
     record {
-      node = λ b. chosen_at_gate (slots_by b r discipline) c.args.limits.steps (machine_of s) n c.args.process turn pending c.admit.ensures.after (c.settled_turn.ensures.turn ∙ settled_by b r discipline n true c.args.process);
-      walked = λ b. walked_chosen_gate (slots_by b r discipline) c.args.limits.steps (machine_of s) n c.args.process turn pending c.admit.ensures.after (c.settled_turn.ensures.turn ∙ settled_by b r discipline n true c.args.process);
-      seen = λ b x h. ((g.O.Observe.fold r discipline).on_admission c.args.process n x, c.in_ok-see_admission.ensures (machine_of s) x c.admit.ensures.after h, fold_chosen_gate (slots_by b r discipline) (g.O.Observe.fold r discipline) c.args.limits.steps (machine_of s) n c.args.process turn x ((g.O.Observe.fold r discipline).on_admission c.args.process n x) pending c.admit.ensures.after (c.settled_turn.ensures.turn ∙ settled_by b r discipline n true c.args.process) refl);
+      node = λ b. chosen_at_gate (slots_by b r discipline) c.args.job.now.limits.steps (machine_of s) n c.args.process turn pending c.admit.ensures.after (c.settled_turn.ensures.turn ∙ settled_by b r discipline n true c.args.process);
+      walked = λ b. walked_chosen_gate (slots_by b r discipline) c.args.job.now.limits.steps (machine_of s) n c.args.process turn pending c.admit.ensures.after (c.settled_turn.ensures.turn ∙ settled_by b r discipline n true c.args.process);
+      seen = λ b x h. ((g.O.Observe.fold r discipline).on_admission c.args.process n x, c.in_ok-see_admission.ensures (machine_of s) x c.admit.ensures.after h, fold_chosen_gate (slots_by b r discipline) (g.O.Observe.fold r discipline) c.args.job.now.limits.steps (machine_of s) n c.args.process turn x ((g.O.Observe.fold r discipline).on_admission c.args.process n x) pending c.admit.ensures.after (c.settled_turn.ensures.turn ∙ settled_by b r discipline n true c.args.process) refl);
       ready = c.settled_turn.ensures.ready;
       free = goes_always turn (is_pending n ≡ false) (free_behind r discipline s c.args.process c.pending.result c.pending.ensures c.if-is_none.ensures c.requires.may n c.admit.ensures.after);
       own = c.admit.ensures.own r c.requires.own;
@@ -59,5 +59,5 @@ returns-in_err-see_admission g c =
       seen = none_well c.from_residual.result _ _ failed;
       ready = none_well c.from_residual.result _ _ failed;
       free = none_well c.from_residual.result _ _ failed;
-      own = c.admit.ensures.own c.args.program.now c.requires.own;
+      own = c.admit.ensures.own c.args.job.now.program.now c.requires.own;
     }

@@ -4,8 +4,8 @@ use Rattle.cp_run.proofs.runs.run_counted.Given as goal
 abbrev pub invariant-loop-place : goal.invariant-loop-place
 invariant-loop-place g l =
     record {
-      own : IsStateOf l.program l.state;
-      within : l.place ≤ l.limits.choices;
-      same : run (slots l.program l.limits.discipline) l.limits.choices l.limits.steps l.word ≡ further l.place (run_from (slots l.program l.limits.discipline) l.limits.steps (l.limits.choices - l.place) (drop l.place l.word) (node_of l.halt (machine_of l.state)));
-      ticks : l.ticks ≤ l.fn.ticks + (l.place + 1) * l.limits.steps;
+      own : IsStateOf l.job.program.now l.state;
+      within : l.place ≤ l.job.limits.choices;
+      same : run (slots l.job.program.now l.job.limits.discipline) l.job.limits.choices l.job.limits.steps l.word ≡ further l.place (run_from (slots l.job.program.now l.job.limits.discipline) l.job.limits.steps (l.job.limits.choices - l.place) (drop l.place l.word) (node_of l.halt (machine_of l.state)));
+      ticks : l.ticks ≤ l.fn.ticks + (l.place + 1) * l.job.limits.steps;
     }

@@ -12,17 +12,17 @@ listed f n all i is lt = let e = ap length is in subst (At f n i) (sym is) (at_t
 
 pub take-requires-clause-below : goal.take-requires-clause-below
 take-requires-clause-below g c =
-    let r = c.args.job.now.program.now in
+    let r = c.args.job.now.run.program.now in
     let all = c.as_slice-process-items.result.now in
     let i = c.loop-process.process-index in
-    let at = listed (may (slots r c.args.job.now.limits.discipline) (machine_of c.args.state.now)) (processes_of r) all i (c.as_slice-process-items.ensures.value ∙ c.candidates-numbers.ensures) (omega arith) in
+    let at = listed (may (slots r c.args.job.now.run.limits.discipline) (machine_of c.args.state.now)) (processes_of r) all i (c.as_slice-process-items.ensures.value ∙ c.candidates-numbers.ensures) (omega arith) in
     let below : get_or all i 0 < processes_of r = at.2 in
     search (rules, below)
 
 pub take-requires-clause-may : goal.take-requires-clause-may
 take-requires-clause-may g c =
-    let r = c.args.job.now.program.now in
-    let sys = slots r c.args.job.now.limits.discipline in
+    let r = c.args.job.now.run.program.now in
+    let sys = slots r c.args.job.now.run.limits.discipline in
     let all = c.as_slice-process-items.result.now in
     let i = c.loop-process.process-index in
     let at = listed (may sys (machine_of c.args.state.now)) (processes_of r) all i (c.as_slice-process-items.ensures.value ∙ c.candidates-numbers.ensures) (omega arith) in
@@ -31,8 +31,8 @@ take-requires-clause-may g c =
 
 pub take-requires-clause-within : goal.take-requires-clause-within
 take-requires-clause-within g c =
-    let r = c.args.job.now.program.now in
-    let sys = slots r c.args.job.now.limits.discipline in
+    let r = c.args.job.now.run.program.now in
+    let sys = slots r c.args.job.now.run.limits.discipline in
     let all = c.as_slice-process-items.result.now in
     let i = c.loop-process.process-index in
     let at = listed (may sys (machine_of c.args.state.now)) (processes_of r) all i (c.as_slice-process-items.ensures.value ∙ c.candidates-numbers.ensures) (omega arith) in
@@ -41,8 +41,8 @@ take-requires-clause-within g c =
 
 pub loop-process-preserved : goal.loop-process-preserved
 loop-process-preserved g c =
-    let r = c.args.job.now.program.now in
-    let sys = slots r c.args.job.now.limits.discipline in
+    let r = c.args.job.now.run.program.now in
+    let sys = slots r c.args.job.now.run.limits.discipline in
     let all = c.as_slice-process-items.result.now in
     let i = c.loop-process.process-index in
     let s = machine_of c.args.state.now in

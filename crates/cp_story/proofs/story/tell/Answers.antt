@@ -19,11 +19,11 @@ use Rattle.cp_story.proofs.story.tell.Goals as goal
 pub returns : goal.returns
 returns g c =
     let l = legend_seen c.args.legend.now in
-    let r = c.args.program.now in
-    let discipline = c.args.limits.discipline in
+    let r = c.args.job.now.program.now in
+    let discipline = c.args.job.now.limits.discipline in
     let sys = slots r discipline in
-    let choices = c.args.limits.choices in
-    let steps = c.args.limits.steps in
+    let choices = c.args.job.now.limits.choices in
+    let steps = c.args.job.now.limits.steps in
     let word = c.args.word.now in
     let teller = c.observe_run.new.observer in
     let ended = machine_of c.observe_run.new.state in

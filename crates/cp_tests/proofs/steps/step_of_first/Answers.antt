@@ -11,9 +11,9 @@ step-requires-clause-still g c = pending_is (machine_of c.args.state.now) c.pend
 pub step-requires-clause-ready : goal.step-requires-clause-ready
 step-requires-clause-ready g c =
     let e : is_pending (machine_of c.args.state.now) ≡ false = pending_is (machine_of c.args.state.now) c.pending.result false c.pending.ensures (sym c.if-is_some.ensures) in
-    may_be_ready (slots c.args.program.now c.args.limits.discipline) (machine_of c.args.state.now) 0 e (sym c.may.ensures ∙ c.if-not-may.false)
+    may_be_ready (slots c.args.job.now.program.now c.args.job.now.limits.discipline) (machine_of c.args.state.now) 0 e (sym c.may.ensures ∙ c.if-not-may.false)
 
 pub step-requires-clause-pid : goal.step-requires-clause-pid
 step-requires-clause-pid g c =
     let e : is_pending (machine_of c.args.state.now) ≡ false = pending_is (machine_of c.args.state.now) c.pending.result false c.pending.ensures (sym c.if-is_some.ensures) in
-    ready_within c.args.state.now 0 (may_be_ready (slots c.args.program.now c.args.limits.discipline) (machine_of c.args.state.now) 0 e (sym c.may.ensures ∙ c.if-not-may.false))
+    ready_within c.args.state.now 0 (may_be_ready (slots c.args.job.now.program.now c.args.job.now.limits.discipline) (machine_of c.args.state.now) 0 e (sym c.may.ensures ∙ c.if-not-may.false))

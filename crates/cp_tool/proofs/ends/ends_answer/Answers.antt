@@ -9,8 +9,8 @@ use Rattle.cp_tool.proofs.ends.ends_answer.Goals as goal
 pub returns : goal.returns
 returns g c =
     let o = c.args.options.now in
-    let r = c.args.program.now in
-    let l = c.args.limits in
+    let r = c.args.job.now.program.now in
+    let l = c.args.job.now.limits in
     let x = c.in_ok-found.found in
     let a = subst (λ (g : Discipline). IsAnswer r g o.steps o.states x.found) c.requires.discipline (subst (λ n. IsAnswer r l.discipline n o.states x.found) c.requires.steps (c.in_ok-found.ensures.answer o.some_state)) in
     let asked = subst (λ (g : Discipline). TellAsked r g o.steps o.waits x.found x.waits) c.requires.discipline (subst (λ n. TellAsked r l.discipline n o.waits x.found x.waits) c.requires.steps c.in_ok-found.ensures.waits) in

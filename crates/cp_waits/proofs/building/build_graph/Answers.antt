@@ -5,7 +5,7 @@ use Rattle.cp_waits.proofs.Visiting.{graph_noted}
 use Rattle.cp_waits.proofs.building.build_graph.Goals as goal
 
 pub open-requires-clause-nothing : goal.open-requires-clause-nothing
-open-requires-clause-nothing g c = c.new.ensures c.args.job.now.program.now
+open-requires-clause-nothing g c = c.new.ensures c.args.job.now.run.program.now
 
 pub visit_all-requires-clause-begun : goal.visit_all-requires-clause-begun
 visit_all-requires-clause-begun g c =

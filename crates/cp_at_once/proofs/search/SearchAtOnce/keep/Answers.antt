@@ -5,7 +5,7 @@ use Rattle.cp_at_once.proofs.search.SearchAtOnce.keep.Goals as goal
 
 pub returns-then-contains-clause-found : goal.returns-then-contains-clause-found
 returns-then-contains-clause-found g c = λ g states word h is leads.
-    (let r = c.args.job.now.program.now in
+    (let r = c.args.job.now.run.program.now in
     let m = machine_of c.args.state.now in
     let present : c.contains.result ≡ true = search in
     let are = c.row_of.ensures.kept r states h.kept in
@@ -14,7 +14,7 @@ returns-then-contains-clause-found g c = λ g states word h is leads.
 
 pub returns-then-len-job-clause-found : goal.returns-then-len-job-clause-found
 returns-then-len-job-clause-found g c = λ g states word h is leads.
-    (let r = c.args.job.now.program.now in
+    (let r = c.args.job.now.run.program.now in
     let m = machine_of c.args.state.now in
     let absent : c.contains.result ≡ false = search in
     let are = c.row_of.ensures.kept r states h.kept in
@@ -25,7 +25,7 @@ returns-then-len-job-clause-found g c = λ g states word h is leads.
 
 pub returns-clause-found : goal.returns-clause-found
 returns-clause-found g c = λ g states word h is leads.
-    (let r = c.args.job.now.program.now in
+    (let r = c.args.job.now.run.program.now in
     let m = machine_of c.args.state.now in
     let own = machine_own r c.args.state.now c.requires.own in
     let row = c.in_ok-row.ensures.row in

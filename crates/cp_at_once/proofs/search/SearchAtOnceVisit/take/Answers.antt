@@ -11,7 +11,7 @@ choose-requires-clause-quiet g c =
     ap output_of c.requires.copied ∙ all_at (λ y. y.0.output ≡ []) x.states c.args.at (machine_of c.args.state.now, x.word) x.holds.kept.entries.quiet x.is
 
 pub choose-requires-clause-may : goal.choose-requires-clause-may
-choose-requires-clause-may g c = ap (λ m. may (slots c.args.job.now.program.now c.args.job.now.limits.discipline) m c.args.process) c.requires.copied ∙ c.requires.may
+choose-requires-clause-may g c = ap (λ m. may (slots c.args.job.now.run.program.now c.args.job.now.run.limits.discipline) m c.args.process) c.requires.copied ∙ c.requires.may
 
 pub returns-clause-within : goal.returns-clause-within
 returns-clause-within g c =
@@ -46,4 +46,4 @@ returns-clause-stops g c =
     (choice_taken r gr Leg job.most f h c.args.at m (those_below p (gr.may m)) p c.requires.within.1 c.requires.may o c.choice.ensures.state c.choice.ensures.numbers _ _ (c.in_ok-arrival.ensures.goal ∙ ap (λ k. (gr.on k p).goal) c.requires.copied) (c.in_ok-arrival.ensures.shown ∙ ap (λ l. l ++ (gr.on (machine_of c.args.next.now) p).shown) c.clear.ensures.items ∙ ap (λ k. (gr.on k p).shown) c.requires.copied) c.in_ok-is_room.is_room c.in_ok-is_room.ensures.found))
 
 pub returns-clause-next : goal.returns-clause-next
-returns-clause-next g c = c.take_from.ensures.own c.args.job.now.program.now c.follow.ensures.own c.requires.own
+returns-clause-next g c = c.take_from.ensures.own c.args.job.now.run.program.now c.follow.ensures.own c.requires.own

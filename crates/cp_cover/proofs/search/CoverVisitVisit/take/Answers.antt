@@ -24,4 +24,4 @@ returns-clause-within g c = λ room.
     within_more r sys job.limits.steps job.most job.limits.choices c.args.self.now.layer.known.keys c.args._at m (those_below p (may sys m)) p c.args.self.now.marks.known.keys c.note_choice.new.marks.known.keys c.args.self.now.next.known.keys next c.requires.within marks node few)
 
 pub note_choice-requires-clause-may : goal.note_choice-requires-clause-may
-note_choice-requires-clause-may g c = ap (λ m. may (slots c.args.job.now.program.now c.args.job.now.limits.discipline) m c.args.process) c.requires.copied ∙ c.requires.may
+note_choice-requires-clause-may g c = ap (λ m. may (slots c.args.job.now.run.program.now c.args.job.now.run.limits.discipline) m c.args.process) c.requires.copied ∙ c.requires.may

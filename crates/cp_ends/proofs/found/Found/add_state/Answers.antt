@@ -12,7 +12,7 @@ use Rattle.cp_ends.proofs.found.Found.add_state.Goals as goal
 
 pub returns-in-Some-clause-comes : goal.returns-in-Some-clause-comes
 returns-in-Some-clause-comes c = λ f word h is before.
-    (let r = c.args.job.now.program.now in
+    (let r = c.args.job.now.run.program.now in
     let most = c.args.job.now.most in
     let m = machine_of c.args.state.now in
     let are = c.row_of.ensures.kept r f.states h.holds.states in
@@ -25,7 +25,7 @@ returns-in-Some-clause-comes c = λ f word h is before.
 
 pub returns-then-number-most-clause-comes : goal.returns-then-number-most-clause-comes
 returns-then-number-most-clause-comes c = λ f word h is before.
-    (let r = c.args.job.now.program.now in
+    (let r = c.args.job.now.run.program.now in
     let m = machine_of c.args.state.now in
     let are = c.row_of.ensures.kept r f.states h.holds.states in
     let new : has same_key f.states m ≡ false = subst (IsNumberOf f.states m) c.in_default.is (c.number.ensures r f.states m are (machine_own r c.args.state.now c.requires.own) c.in_ok-row.ensures.row) in
@@ -35,7 +35,7 @@ returns-then-number-most-clause-comes c = λ f word h is before.
 
 pub returns-clause-comes : goal.returns-clause-comes
 returns-clause-comes c = λ f word h is before.
-    (let r = c.args.job.now.program.now in
+    (let r = c.args.job.now.run.program.now in
     let most = c.args.job.now.most in
     let m = machine_of c.args.state.now in
     let own = machine_own r c.args.state.now c.requires.own in

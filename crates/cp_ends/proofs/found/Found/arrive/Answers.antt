@@ -9,7 +9,7 @@ use Rattle.cp_ends.proofs.found.Found.arrive.Goals as goal
 
 pub returns-in_ok-add_end-in-Ended-clause-arrives : goal.returns-in_ok-add_end-in-Ended-clause-arrives
 returns-in_ok-add_end-in-Ended-clause-arrives c = λ f word a h is before to shown.
-    (let r = c.args.job.now.program.now in
+    (let r = c.args.job.now.run.program.now in
     let mid = c.add_values.new.self in
     let k : SlotFindings = with_shown f word a in
     let values : Holds r mid k = subst (λ (vs : List Shown). Holds r mid (record f { values = with_values ends_tests.value ends_tests.most f.values vs word })) shown (c.in_ok-add_values.ensures.values r f word h.holds is) in
@@ -19,7 +19,7 @@ returns-in_ok-add_end-in-Ended-clause-arrives c = λ f word a h is before to sho
 pub returns-in-Choice-clause-arrives : goal.returns-in-Choice-clause-arrives
 returns-in-Choice-clause-arrives c =
     ok_to c.add_state.result _ _ c.add_state.ensures.comes (λ arrived on f word a h is before to shown.
-    (let r = c.args.job.now.program.now in
+    (let r = c.args.job.now.run.program.now in
     let mid = c.add_values.new.self in
     let k : SlotFindings = with_shown f word a in
     let values : Holds r mid k = subst (λ (vs : List Shown). Holds r mid (record f { values = with_values ends_tests.value ends_tests.most f.values vs word })) shown (c.in_ok-add_values.ensures.values r f word h.holds is) in

@@ -11,7 +11,7 @@ use Rattle.cp_ends.specs.Legs.{ComesTo, choice_leg, with_round}
 use Rattle.cp_endless_laws.specs.Silent.{silent_slots}
 
 pub choose-requires-clause-may : goal.choose-requires-clause-may
-choose-requires-clause-may g c = ap (λ m. may (slots c.args.job.now.program.now c.args.job.now.limits.discipline) m c.args.process) c.requires.copied ∙ c.requires.may
+choose-requires-clause-may g c = ap (λ m. may (slots c.args.job.now.run.program.now c.args.job.now.run.limits.discipline) m c.args.process) c.requires.copied ∙ c.requires.may
 
 pub choose-requires-clause-quiet : goal.choose-requires-clause-quiet
 choose-requires-clause-quiet g c = ap output_of c.requires.copied ∙ c.requires.within.quiet

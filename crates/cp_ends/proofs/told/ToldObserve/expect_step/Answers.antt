@@ -7,7 +7,7 @@ returns g c = λ x h. (
   h.0,
   h.1,
   h.2,
-  c.add-2.ensures c.args._program.now c.args._limits.discipline x.1.0 x.1.1 c.requires.own h.3,
+  c.add-2.ensures c.args._job.now.program.now c.args._job.now.limits.discipline x.1.0 x.1.1 c.requires.own h.3,
   noted c.args.self.now.moved c.add.new.self c.args.process (machine_of c.args.state.now) x.1.0 c.add.ensures.others c.add.ensures.this h.4,
   c.add.ensures.this,
 )

@@ -16,7 +16,7 @@ returns-then-matches g c = λ before x step h. (
   ],
   refl,
   h.3,
-  moved_on c.args._program.now c.args.self.now.moved c.args._process before (machine_of c.args.state.now) c.args.event x.1.0 step h.4 h.5,
+  moved_on c.args._job.now.program.now c.args.self.now.moved c.args._process before (machine_of c.args.state.now) c.args.event x.1.0 step h.4 h.5,
 )
 
 pub returns-else-matches : goal.returns-else-matches
@@ -28,5 +28,5 @@ returns-else-matches g c = λ before x step h. (
   ],
   refl,
   h.3,
-  moved_on c.args._program.now c.args.self.now.moved c.args._process before (machine_of c.args.state.now) c.args.event x.1.0 step h.4 h.5,
+  moved_on c.args._job.now.program.now c.args.self.now.moved c.args._process before (machine_of c.args.state.now) c.args.event x.1.0 step h.4 h.5,
 )

@@ -5,8 +5,8 @@ use Rattle.cp_merged.proofs.layering.Layering.end_layer.Goals as goal
 
 pub loop-key-init : goal.loop-key-init
 loop-key-init g c =
-    let r = c.args.job.now.program.now in
-    let l = c.args.job.now.limits in
+    let r = c.args.job.now.run.program.now in
+    let l = c.args.job.now.run.limits in
     let store = c.args.self.now.frontier.store in
     let all = c.into_iter-key-iterator.ensures.into_iter_gives ∙ c.iter-key-items.ensures.rest in
     record {
@@ -16,8 +16,8 @@ loop-key-init g c =
 
 pub take_output-requires : goal.take_output-requires
 take_output-requires g c =
-    let r = c.args.job.now.program.now in
-    let l = c.args.job.now.limits in
+    let r = c.args.job.now.run.program.now in
+    let l = c.args.job.now.run.limits in
     let old = c.loop-key.self.frontier in
     let es = c.next.new.self in
     let e : StateRow × code.Prefixes = (c.in-Some.key.now, c.in-Some.prefixes.now) in
@@ -30,8 +30,8 @@ take_output-requires g c =
 
 pub end-requires : goal.end-requires
 end-requires g c =
-    let r = c.args.job.now.program.now in
-    let l = c.args.job.now.limits in
+    let r = c.args.job.now.run.program.now in
+    let l = c.args.job.now.run.limits in
     let old = c.loop-key.self.frontier in
     let es = c.next.new.self in
     let e : StateRow × code.Prefixes = (c.in-Some.key.now, c.in-Some.prefixes.now) in
@@ -41,8 +41,8 @@ end-requires g c =
 
 pub loop-key-preserved : goal.loop-key-preserved
 loop-key-preserved g c =
-    let r = c.args.job.now.program.now in
-    let l = c.args.job.now.limits in
+    let r = c.args.job.now.run.program.now in
+    let l = c.args.job.now.run.limits in
     let old = c.loop-key.self.frontier in
     let es = c.next.new.self in
     let e : StateRow × code.Prefixes = (c.in-Some.key.now, c.in-Some.prefixes.now) in
@@ -60,7 +60,7 @@ loop-key-preserved g c =
 
 pub returns : goal.returns
 returns g c =
-    let r = c.args.job.now.program.now in
-    let l = c.args.job.now.limits in
+    let r = c.args.job.now.run.program.now in
+    let l = c.args.job.now.run.limits in
     let front = c.loop-key.self.frontier in
     ending_done r l.discipline l.steps l.choices front.store front.ended.entries (subst (Ending r l.discipline l.steps l.choices front.store front.ended.entries) c.in-None.ensures.steps.0 c.loop-key.invariant.ending)

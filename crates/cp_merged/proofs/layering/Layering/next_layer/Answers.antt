@@ -7,8 +7,8 @@ use Rattle.cp_merged.proofs.layering.Layering.next_layer.Goals as goal
 
 pub loop-key-init : goal.loop-key-init
 loop-key-init g c =
-    let r = c.args.job.now.program.now in
-    let l = c.args.job.now.limits in
+    let r = c.args.job.now.run.program.now in
+    let l = c.args.job.now.run.limits in
     let front = c.args.self.now.frontier in
     let all = c.into_iter-key-iterator.ensures.into_iter_gives ∙ c.iter-key-items.ensures.rest in
     let due = c.requires.due in
@@ -23,8 +23,8 @@ loop-key-init g c =
 
 pub take-requires-clause-row : goal.take-requires-clause-row
 take-requires-clause-row g c =
-    let r = c.args.job.now.program.now in
-    let l = c.args.job.now.limits in
+    let r = c.args.job.now.run.program.now in
+    let l = c.args.job.now.run.limits in
     let d = c.args.depth in
     let old = c.loop-key.self.frontier in
     let es = c.next.new.self in
@@ -36,8 +36,8 @@ take-requires-clause-row g c =
 
 pub take_choices-requires-clause-here : goal.take_choices-requires-clause-here
 take_choices-requires-clause-here g c =
-    let r = c.args.job.now.program.now in
-    let l = c.args.job.now.limits in
+    let r = c.args.job.now.run.program.now in
+    let l = c.args.job.now.run.limits in
     let d = c.args.depth in
     let old = c.loop-key.self.frontier in
     let es = c.next.new.self in
@@ -56,8 +56,8 @@ take_choices-requires-clause-next g c =
 
 pub take_choices-requires-clause-room : goal.take_choices-requires-clause-room
 take_choices-requires-clause-room g c =
-    let r = c.args.job.now.program.now in
-    let l = c.args.job.now.limits in
+    let r = c.args.job.now.run.program.now in
+    let l = c.args.job.now.run.limits in
     let d = c.args.depth in
     let old = c.loop-key.self.frontier in
     let es = c.next.new.self in
@@ -70,8 +70,8 @@ take_choices-requires-clause-room g c =
 
 pub take_choices-requires-clause-small : goal.take_choices-requires-clause-small
 take_choices-requires-clause-small g c =
-    let r = c.args.job.now.program.now in
-    let l = c.args.job.now.limits in
+    let r = c.args.job.now.run.program.now in
+    let l = c.args.job.now.run.limits in
     let d = c.args.depth in
     let old = c.loop-key.self.frontier in
     let es = c.next.new.self in
@@ -82,8 +82,8 @@ take_choices-requires-clause-small g c =
 
 pub returns-then-len-job-clause-many : goal.returns-then-len-job-clause-many
 returns-then-len-job-clause-many g c =
-    let r = c.args.job.now.program.now in
-    let l = c.args.job.now.limits in
+    let r = c.args.job.now.run.program.now in
+    let l = c.args.job.now.run.limits in
     let d = c.args.depth in
     let old = c.loop-key.self.frontier in
     let es = c.next.new.self in
@@ -99,8 +99,8 @@ returns-then-len-job-clause-many g c =
 
 pub loop-key-preserved : goal.loop-key-preserved
 loop-key-preserved g c =
-    let r = c.args.job.now.program.now in
-    let l = c.args.job.now.limits in
+    let r = c.args.job.now.run.program.now in
+    let l = c.args.job.now.run.limits in
     let d = c.args.depth in
     let old = c.loop-key.self.frontier in
     let es = c.next.new.self in
@@ -124,8 +124,8 @@ loop-key-preserved g c =
 
 pub returns-clause-front : goal.returns-clause-front
 returns-clause-front g c =
-    let r = c.args.job.now.program.now in
-    let l = c.args.job.now.limits in
+    let r = c.args.job.now.run.program.now in
+    let l = c.args.job.now.run.limits in
     let front = c.loop-key.self.frontier in
     making_done r l.discipline l.steps c.args.depth front.store front.ended.entries front.layer.entries (subst (Making r l.discipline l.steps c.args.depth front.store front.ended.entries front.layer.entries) c.in-None.ensures.steps.0 c.loop-key.invariant.making)
 

@@ -5,10 +5,10 @@ use Rattle.cp_merged.proofs.layering.Layering.start.Goals as goal
 
 pub add-requires-clause-small : goal.add-requires-clause-small
 add-requires-clause-small g c =
-    let l = c.args.job.now.limits in
+    let l = c.args.job.now.run.limits in
     let old = c.new-frontier.result in
-    let h = holds_none c.args.job.now.program.now l.discipline l.choices l.steps c.args.job.now.most c.row_anew.new.self old.ended.entries old.layer.entries c.new-frontier.ensures.ended c.new-frontier.ensures.layer in
-    (c.args.job.now.program.now, h.0, h.1, (let e = c.one.ensures in let s = h.2 in omega (arith, e, s)))
+    let h = holds_none c.args.job.now.run.program.now l.discipline l.choices l.steps c.args.job.now.most c.row_anew.new.self old.ended.entries old.layer.entries c.new-frontier.ensures.ended c.new-frontier.ensures.layer in
+    (c.args.job.now.run.program.now, h.0, h.1, (let e = c.one.ensures in let s = h.2 in omega (arith, e, s)))
 
 pub add-requires-clause-moved : goal.add-requires-clause-moved
 add-requires-clause-moved g c = keep_refl (has_moved c.nobody-moved.result) (machine_of c.open-halt.new.state)
@@ -18,8 +18,8 @@ add-requires-clause-bound g c = λ nothing. refl
 
 pub returns-then-len-job-clause-fault : goal.returns-then-len-job-clause-fault
 returns-then-len-job-clause-fault g c =
-    let l = c.args.job.now.limits in
-    let r = c.args.job.now.program.now in
+    let l = c.args.job.now.run.limits in
+    let r = c.args.job.now.run.program.now in
     let old = c.new-frontier.result in
     let front = c.add.new.self in
     let many : c.args.job.now.most < length front.layer.entries = omega arith in
@@ -28,8 +28,8 @@ returns-then-len-job-clause-fault g c =
 
 pub returns-clause-reached : goal.returns-clause-reached
 returns-clause-reached g c =
-    let l = c.args.job.now.limits in
-    let r = c.args.job.now.program.now in
+    let l = c.args.job.now.run.limits in
+    let r = c.args.job.now.run.program.now in
     let old = c.new-frontier.result in
     let front = c.add.new.self in
     let few : length front.layer.entries ≤ c.args.job.now.most = omega arith in
@@ -47,6 +47,6 @@ pub returns-clause-next : goal.returns-clause-next
 returns-clause-next g c =
     let row = row_on c.row_anew.new.self c.add.new.self.store c.in-Ok-row_anew.row.numbers (machine_of c.open-halt.new.state) c.in-Ok-add.ensures.kept c.in-Ok-row_anew.ensures.row in
     record {
-      own = c.in-Ok-copy.ensures.own c.args.job.now.program.now c.open-halt.ensures.own;
+      own = c.in-Ok-copy.ensures.own c.args.job.now.run.program.now c.open-halt.ensures.own;
       row = subst (IsRowOf c.add.new.self.store c.in-Ok-row_anew.row.numbers) (sym c.in-Ok-copy.ensures.same) row;
     }

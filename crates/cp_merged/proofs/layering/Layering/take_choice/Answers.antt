@@ -20,7 +20,7 @@ pub add-added-requires-clause-bound : goal.add-added-requires-clause-bound
 add-added-requires-clause-bound g c =
     let m = machine_of c.args.self.now.next.state in
     let n = machine_of c.choose-halt.new.state in
-    let bounds = choice_bounds c.args.job.now.program.now c.args.job.now.limits.discipline c.args.job.now.limits.steps c.args.self.now.next.state c.args.process c.choose-halt.result n c.requires.own c.requires.may c.choose-halt.ensures.node in
+    let bounds = choice_bounds c.args.job.now.run.program.now c.args.job.now.run.limits.discipline c.args.job.now.run.limits.steps c.args.self.now.next.state c.args.process c.choose-halt.result n c.requires.own c.requires.may c.choose-halt.ensures.node in
     subst (λ before. KeepBindings before n) c.requires.copied (λ (nothing : NothingStarts m n). bounds.bound nothing.0 nothing.1)
 
 pub take_moved-requires-clause-kept : goal.take_moved-requires-clause-kept
@@ -29,11 +29,11 @@ take_moved-requires-clause-kept g c =
     subst (λ before. KeepBodies (has_moved c.choose-halt.new.watch) before (machine_of c.choose-halt.new.state)) c.requires.copied (c.choose-halt.ensures.kept m (keep_refl (has_moved c.nobody-moved.result) m))
 
 pub take_moved-requires-clause-own : goal.take_moved-requires-clause-own
-take_moved-requires-clause-own g c = (c.args.job.now.program.now, c.choose-halt.ensures.own, c.requires.before)
+take_moved-requires-clause-own g c = (c.args.job.now.run.program.now, c.choose-halt.ensures.own, c.requires.before)
 
 pub returns-in-Ended-clause-next : goal.returns-in-Ended-clause-next
 returns-in-Ended-clause-next g c =
-    let r = c.args.job.now.program.now in
+    let r = c.args.job.now.run.program.now in
     let old = c.args.self.now.frontier in
     let new = c.add-added.new.self in
     let own = c.take_moved.ensures.own r c.choose-halt.ensures.own c.requires.before in
@@ -45,17 +45,17 @@ returns-in-Ended-clause-next g c =
 
 pub returns-in-Choice-clause-next : goal.returns-in-Choice-clause-next
 returns-in-Choice-clause-next g c =
-    let r = c.args.job.now.program.now in
+    let r = c.args.job.now.run.program.now in
     let new = c.add-added.new.self in
     ok_to c.add-added.result (λ _. IsRowOf new.store c.add-added.new.row.numbers (machine_of c.choose-halt.new.state)) (λ _. IsStored r new.store (record { state = c.choose-halt.new.state; row = c.add-added.new.row })) (c.add-added.ensures.due c.in-Choice.is) (λ a row. record { own = c.choose-halt.ensures.own; row = row })
 
 pub add-added-requires-clause-small : goal.add-added-requires-clause-small
-add-added-requires-clause-small g c = (c.args.job.now.program.now, c.requires.small.0, c.requires.small.1, c.requires.small.2)
+add-added-requires-clause-small g c = (c.args.job.now.run.program.now, c.requires.small.0, c.requires.small.1, c.requires.small.2)
 
 pub returns-in-Ended-clause-front : goal.returns-in-Ended-clause-front
 returns-in-Ended-clause-front g c =
-    let r = c.args.job.now.program.now in
-    let l = c.args.job.now.limits in
+    let r = c.args.job.now.run.program.now in
+    let l = c.args.job.now.run.limits in
     let old = c.args.self.now.frontier in
     let new = c.add-added.new.self in
     let m = machine_of c.args.self.now.next.state in
@@ -68,8 +68,8 @@ returns-in-Ended-clause-front g c =
 
 pub returns-in-Choice-clause-front : goal.returns-in-Choice-clause-front
 returns-in-Choice-clause-front g c =
-    let r = c.args.job.now.program.now in
-    let l = c.args.job.now.limits in
+    let r = c.args.job.now.run.program.now in
+    let l = c.args.job.now.run.limits in
     let old = c.args.self.now.frontier in
     let new = c.add-added.new.self in
     let m = machine_of c.args.self.now.next.state in

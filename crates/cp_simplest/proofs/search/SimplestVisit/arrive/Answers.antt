@@ -6,7 +6,7 @@ use Rattle.cp_simplest.proofs.search.SimplestVisit.arrive.Goals.{in-Ended+in_ok-
 
 pub returns : goal.returns
 returns g c =
-    let r = c.args.job.now.program.now in
+    let r = c.args.job.now.run.program.now in
     let noted : AreOwn r c.match-halt.self.states = elim c.match-halt.branch [
       | in-Ended+in_ok-target-in-Ended w ↦ subst (λ v. AreOwn r v.states) (sym w.self-is) c.requires.states
       | in-Choice+in_ok-target-in-Choice w ↦ subst (λ v. AreOwn r v.states) (sym w.self-is) c.requires.states

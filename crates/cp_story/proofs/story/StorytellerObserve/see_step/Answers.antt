@@ -9,4 +9,4 @@ pub returns : goal.returns
 returns c =
     let now = c.args.self.now in
     let new = c.push_step.new.self in
-    ok_both c.push_step.result _ _ _ c.push_step.ensures.told c.push_step.ensures.lines (λ _ told line before x made h. step_seen c.args.program.now c.args.limits.discipline c.args.process before (machine_of c.args.state.now) c.args.event now.aim (telling_of now.observer now.events.items) (telling_of new.observer new.events.items) (lines_of now.events.items) (lines_of new.events.items) x told line h)
+    ok_both c.push_step.result _ _ _ c.push_step.ensures.told c.push_step.ensures.lines (λ _ told line before x made h. step_seen c.args.job.now.program.now c.args.job.now.limits.discipline c.args.process before (machine_of c.args.state.now) c.args.event now.aim (telling_of now.observer now.events.items) (telling_of new.observer new.events.items) (lines_of now.events.items) (lines_of new.events.items) x told line h)

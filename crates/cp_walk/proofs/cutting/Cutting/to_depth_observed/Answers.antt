@@ -1,5 +1,5 @@
 use Rattle.cp_walk.proofs.Words.{◌∙◌, arith, subst, Some, length-map, slots, Advanced, words_of}
-use Rattle.cp_walk.specs.declared.job.Job.{Job}
+use Rattle.cp_run.specs.declared.job.Job.{Job}
 use Rattle.cp_walk.proofs.Deepened.{all_settled, deepened_more}
 use Rattle.cp_walk.proofs.cutting.Cutting.to_depth_observed.Goals as goal
 

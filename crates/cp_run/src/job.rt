@@ -1,6 +1,6 @@
-//! What is explored.
+//! What is run.
 
-use cp_run::Limits;
+use crate::limits::Limits;
 use cp_slots::Resolved;
 
 /// A program, under limits.
