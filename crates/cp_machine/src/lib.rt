@@ -35,4 +35,4 @@ pub use process::{Entry, ProcessState, Status};
 pub use shown::Shown;
 pub use state::{Gate, MOST_SHOWN, Phase, Readiness, State};
 pub use stepper::step;
-pub use ticks::Ticks;
+pub use ticks::{Count, Ticks, Uncounted};

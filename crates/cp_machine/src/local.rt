@@ -15,19 +15,13 @@ use crate::stack::{repeat, replace, top_of};
 use crate::state::State;
 use crate::statement::{assign, branch};
 use crate::take::perform_successor;
-use crate::ticks::Ticks;
+use crate::ticks::Count;
 use cp_slots::{Action, Item, Resolved};
-use std::sync::ledger::Ledger;
 
 /// Takes one step of a process that is ready, if it is local and of a frequent kind, and tells whether it did; otherwise the machine
 /// is the same. Where steps are local, this is `step` without its event.
 #[inline(always)]
-pub fn local_step<L: Ledger>(
-    program: &Resolved,
-    state: &mut State,
-    pid: u8,
-    ticks: &mut Ticks<L>,
-) -> bool
+pub fn local_step<C: Count>(program: &Resolved, state: &mut State, pid: u8, ticks: &mut C) -> bool
     requires own { IsStateOf program.now state.old }
     requires pid { pid < length state.old.processes.items }
     requires ready { IsTrue (is_ready (machine_of state.old) pid) }
@@ -37,7 +31,7 @@ pub fn local_step<L: Ledger>(
     ensures own { IsStateOf program.now state.new }
     ensures ready { is_ready (machine_of state.new) pid ≡ true }
     ensures still { is_pending (machine_of state.new) ≡ false }
-    ensures ticks { ticks.new ≡ (if result then ticks.old + 1 else ticks.old) }
+    ensures ticks { C.count ticks.new ≡ (if result then (if C.counts then C.count ticks.old + 1 else C.count ticks.old) else C.count ticks.old) }
 {
     let taken = take_local(program, state, pid);
     if taken {

@@ -13,24 +13,18 @@ use crate::process::{Entry, Status};
 use crate::stack::top_of;
 use crate::state::State;
 use crate::take::{take_item, take_successor};
-use crate::ticks::Ticks;
+use crate::ticks::Count;
 use cp_slots::Resolved;
-use std::sync::ledger::Ledger;
 
 /// Takes one step of a process that is ready, while nothing is pending. It takes no memory.
-pub fn step<L: Ledger>(
-    program: &Resolved,
-    state: &mut State,
-    pid: u8,
-    ticks: &mut Ticks<L>,
-) -> Event
+pub fn step<C: Count>(program: &Resolved, state: &mut State, pid: u8, ticks: &mut C) -> Event
     requires own { IsStateOf program.now state.old }
     requires pid { pid < length state.old.processes.items }
     requires ready { IsTrue (is_ready (machine_of state.old) pid) }
     requires still { is_pending (machine_of state.old) ≡ false }
     ensures after { step_at program.now (machine_of state.old) pid ≡ record { machine = machine_of state.new; event = result } }
     ensures own { IsStateOf program.now state.new }
-    ensures ticks { ticks.new ≡ (if succeeds result then ticks.old + 1 else ticks.old) }
+    ensures ticks { C.count ticks.new ≡ (if succeeds result then (if C.counts then C.count ticks.old + 1 else C.count ticks.old) else C.count ticks.old) }
 {
     let event = take_step(program, state, pid);
     match event {

@@ -4,6 +4,20 @@ ghost use Rattle.std.specs.Prelude.{◌≡◌, ◌+◌};
 use std::marker::Model;
 use std::sync::ledger::{Blank, Book, Ledger, Share};
 
+/// Whoever is told of each thing that is counted: `Ticks` counts it, and `Uncounted` does not.
+pub trait Count {
+    ghost use Rattle.std.specs.Prelude.{◌≡◌, ◌+◌, ℕ, Bool, if◌then◌else◌};
+
+    /// Whether it counts.
+    ghost counts: { Bool };
+
+    ghost count: { Self → ℕ };
+
+    /// Counts one more, if it counts.
+    fn tick(&mut self)
+        ensures { count self.new ≡ (if counts then count self.old + 1 else count self.old) };
+}
+
 /// A count for contracts alone. It takes no bytes, and only `tick` changes it.
 #[derive(Drop)]
 pub struct Ticks<L: Ledger> {
@@ -34,9 +48,36 @@ impl<L: Ledger> Ticks<L> {
     }
 
     /// Counts one more.
-    pub fn tick(&mut self)
+    fn raise(&mut self)
         ensures { self.new ≡ self.old + 1 }
     {
         self.book.add(&mut self.share, 1);
     }
+}
+
+impl<L: Ledger> Count for Ticks<L> {
+    ghost use Rattle.std.specs.Prelude.{true};
+
+    ghost counts = { true };
+
+    ghost count = { λ t. t };
+
+    fn tick(&mut self) {
+        self.raise();
+    }
+}
+
+/// Nothing is counted.
+#[derive(Clone, Copy, Drop)]
+pub struct Uncounted;
+
+impl Count for Uncounted {
+    ghost use Rattle.std.specs.Prelude.{false};
+
+    ghost counts = { false };
+
+    ghost count = { λ _. 0 };
+
+    #[inline(always)]
+    fn tick(&mut self) {}
 }

@@ -1,10 +1,11 @@
 -- How many steps are counted, and what holds of an answer.
 use Rattle.std.proofs.Common.{◌≡◌, ℕ, ◌+◌, ◌≤◌, Bool, true, false, if◌then◌else◌, arith, Result, Ok, Err, IfOk}
 
--- a step is counted at most once
-pub counted : (b : Bool) (n m : ℕ) → m ≡ (if b then n + 1 else n) → m ≤ n + 1
-counted true n m e = omega (arith, e)
-counted false n m e = omega (arith, e)
+-- a step that succeeds, or not, is counted at most once, if it is counted
+pub counted : (succeeds counts : Bool) (n m : ℕ) → m ≡ (if succeeds then (if counts then n + 1 else n) else n) → m ≤ n + 1
+counted true true n m e = omega (arith, e)
+counted true false n m e = omega (arith, e)
+counted false counts n m e = omega (arith, e)
 
 -- what holds of an answer, from what else holds of it
 pub ok_as : {A E : Type 0} (r : Result A E) (P Q : A → Type 0) → IfOk r P → ((a : A) → P a → Q a) → IfOk r Q

@@ -12,8 +12,7 @@ use crate::moves::Moves;
 use crate::observing::{halt_at, observe_choice, observe_opening};
 use crate::outcome::{Halt, OutcomeKind};
 use arrayvec::ArrayVec;
-use cp_machine::{State, Ticks, Unwatched, Watch};
-use std::sync::ledger::Ledger;
+use cp_machine::{Count, State, Unwatched, Watch};
 
 /// The numbers that a due choice may take, in rising order: the line of the pending monitor, or the ready processes.
 pub fn candidates(job: &Job<'_>, state: &State) -> ArrayVec<u8, 16>
@@ -35,20 +34,20 @@ pub fn may(job: &Job<'_>, state: &State, process: u8) -> bool
 }
 
 /// Takes a due choice: lets the process in at the pending monitor, or goes on with it. `watch` is told of the processes that move.
-pub fn choose<S: Ledger, C: Ledger, W: Watch + Copy>(
+pub fn choose<S: Count, C: Count, W: Watch + Copy>(
     job: &Job<'_>,
     state: &mut State,
     process: u8,
     watch: &mut W,
-    steps: &mut Ticks<S>,
-    calls: &mut Ticks<C>,
+    steps: &mut S,
+    calls: &mut C,
 ) -> Halt<OutcomeKind>
     requires own { IsStateOf job.now.program.now state.old }
     requires may { may (slots job.now.program.now job.now.limits.discipline) (machine_of state.old) process ≡ true }
     ensures node { chosen (slots job.now.program.now job.now.limits.discipline) job.now.limits.steps (machine_of state.old) process ≡ node_of result (machine_of state.new) }
     ensures own { IsStateOf job.now.program.now state.new }
-    ensures steps { steps.new ≤ steps.old + job.now.limits.steps }
-    ensures calls { calls.new ≤ calls.old + 1 }
+    ensures steps { S.count steps.new ≤ S.count steps.old + job.now.limits.steps }
+    ensures calls { C.count calls.new ≤ C.count calls.old + 1 }
     ensures kept { (before : Machine) → KeepBodies (W.moved watch.old) before (machine_of state.old) → KeepBodies (W.moved watch.new) before (machine_of state.new) }
 {
     calls.tick();
@@ -63,18 +62,18 @@ pub fn choose<S: Ledger, C: Ledger, W: Watch + Copy>(
 }
 
 /// Begins a run in the opening state.
-pub fn open<S: Ledger, C: Ledger>(
+pub fn open<S: Count, C: Count>(
     job: &Job<'_>,
     state: &mut State,
-    steps: &mut Ticks<S>,
-    calls: &mut Ticks<C>,
+    steps: &mut S,
+    calls: &mut C,
 ) -> Halt<OutcomeKind>
     requires own { IsStateOf job.now.program.now state.old }
     requires start { machine_of state.old ≡ opening job.now.program.now job.now.limits.discipline }
     ensures node { opened (slots job.now.program.now job.now.limits.discipline) job.now.limits.steps ≡ node_of result (machine_of state.new) }
     ensures own { IsStateOf job.now.program.now state.new }
-    ensures steps { steps.new ≤ steps.old + job.now.limits.steps }
-    ensures calls { calls.new ≤ calls.old + 1 }
+    ensures steps { S.count steps.new ≤ S.count steps.old + job.now.limits.steps }
+    ensures calls { C.count calls.new ≤ C.count calls.old + 1 }
 {
     calls.tick();
     let mut moves = Moves { watch: Unwatched };

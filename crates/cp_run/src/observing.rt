@@ -16,10 +16,9 @@ use crate::observe::Observe;
 use crate::outcome::{Halt, OutcomeKind, RunEnd, Turn};
 use crate::runs::{end_of_word, is_over};
 use crate::turn::{settled_turn, turn_at, turn_of};
-use cp_machine::{State, Ticks, local_step, step};
+use cp_machine::{Count, State, local_step, step};
 use cp_slots::Resolved;
 use std::alloc::{AllocError, Global};
-use std::sync::ledger::Ledger;
 
 /// Where a stretch halts that makes no more steps.
 pub fn halt_at(turn: Turn) -> Halt<OutcomeKind>
@@ -46,11 +45,11 @@ fn leave(program: &Resolved, state: &mut State, is_silent: bool)
 
 /// An observer sees a step of a process come, and the step is taken if it is local and need not be seen. Tells whether it was taken.
 #[inline(always)]
-pub fn expect_step<S: Ledger, O: Observe>(
+pub fn expect_step<S: Count, O: Observe>(
     job: &Job<'_>,
     state: &mut State,
     process: u8,
-    steps: &mut Ticks<S>,
+    steps: &mut S,
     observer: &mut O,
 ) -> Result<bool, O::Error>
     requires own { IsStateOf job.now.program.now state.old }
@@ -64,8 +63,8 @@ pub fn expect_step<S: Ledger, O: Observe>(
     ensures own { IsStateOf job.now.program.now state.new }
     ensures ready { IfOk result (λ _. is_ready (machine_of state.new) process ≡ true) }
     ensures free { IfOk result (λ _. is_pending (machine_of state.new) ≡ false) }
-    ensures steps { steps.new ≤ steps.old + 1 }
-    ensures none { IfOk result (λ taken. taken ≡ false → steps.new ≡ steps.old) }
+    ensures steps { S.count steps.new ≤ S.count steps.old + 1 }
+    ensures none { IfOk result (λ taken. taken ≡ false → S.count steps.new ≡ S.count steps.old) }
 {
     observer.expect_step(job, state, process)?;
     if !O::sees_local() && local_step(job.program, state, process, steps) {
@@ -77,11 +76,11 @@ pub fn expect_step<S: Ledger, O: Observe>(
 
 /// Takes the step that an observer expects. Answers what comes next.
 #[inline(always)]
-pub fn see_step<S: Ledger, O: Observe>(
+pub fn see_step<S: Count, O: Observe>(
     job: &Job<'_>,
     state: &mut State,
     process: u8,
-    steps: &mut Ticks<S>,
+    steps: &mut S,
     observer: &mut O,
 ) -> Result<Turn, O::Error>
     requires own { IsStateOf job.now.program.now state.old }
@@ -93,7 +92,7 @@ pub fn see_step<S: Ledger, O: Observe>(
     ensures own { IsStateOf job.now.program.now state.new }
     ensures ready { IfOk result (λ t. IfGoes t (λ q. is_ready (machine_of state.new) q ≡ true)) }
     ensures free { IfOk result (λ t. IfGoes t (λ q. is_pending (machine_of state.new) ≡ false)) }
-    ensures steps { steps.new ≤ steps.old + 1 }
+    ensures steps { S.count steps.new ≤ S.count steps.old + 1 }
 {
     let event = step(job.program, state, process, steps);
     observer.see_step(job, state, process, event)?;
@@ -102,11 +101,11 @@ pub fn see_step<S: Ledger, O: Observe>(
 }
 
 // A stretch, if one comes next: at most as many steps as the limit. Answers what comes after them.
-fn observe_stretch<S: Ledger, O: Observe>(
+fn observe_stretch<S: Count, O: Observe>(
     job: &Job<'_>,
     state: &mut State,
     turn: Turn,
-    steps: &mut Ticks<S>,
+    steps: &mut S,
     observer: &mut O,
 ) -> Result<Turn, O::Error>
     requires own { IsStateOf job.now.program.now state.old }
@@ -117,7 +116,7 @@ fn observe_stretch<S: Ledger, O: Observe>(
     ensures own { IsStateOf job.now.program.now state.new }
     ensures ready { IfOk result (λ t. IfGoes t (λ q. is_ready (machine_of state.new) q ≡ true)) }
     ensures free { IfOk result (λ t. IfGoes t (λ q. is_pending (machine_of state.new) ≡ false)) }
-    ensures steps { steps.new ≤ steps.old + job.now.limits.steps }
+    ensures steps { S.count steps.new ≤ S.count steps.old + job.now.limits.steps }
 {
     let mut next = turn;
     for _ in 0..job.limits.steps {
@@ -158,11 +157,11 @@ fn take_choice<O: Observe>(
 
 /// Takes a due choice, and makes the stretch after it. An observer is told of it. Answers what comes next; where that is a step, the stretch
 /// made as many as the limits allow.
-pub fn observe_choice<S: Ledger, O: Observe>(
+pub fn observe_choice<S: Count, O: Observe>(
     job: &Job<'_>,
     state: &mut State,
     process: u8,
-    steps: &mut Ticks<S>,
+    steps: &mut S,
     observer: &mut O,
 ) -> Result<Turn, O::Error>
     requires own { IsStateOf job.now.program.now state.old }
@@ -173,17 +172,17 @@ pub fn observe_choice<S: Ledger, O: Observe>(
     ensures own { IsStateOf job.now.program.now state.new }
     ensures ready { IfOk result (λ t. IfGoes t (λ q. is_ready (machine_of state.new) q ≡ true)) }
     ensures free { IfOk result (λ t. IfGoes t (λ q. is_pending (machine_of state.new) ≡ false)) }
-    ensures steps { steps.new ≤ steps.old + job.now.limits.steps }
+    ensures steps { S.count steps.new ≤ S.count steps.old + job.now.limits.steps }
 {
     let turn = take_choice(job, state, process, observer)?;
     observe_stretch(job, state, turn, steps, observer)
 }
 
 /// The same of the beginning of a run, in the opening state.
-pub fn observe_opening<S: Ledger, O: Observe>(
+pub fn observe_opening<S: Count, O: Observe>(
     job: &Job<'_>,
     state: &mut State,
-    steps: &mut Ticks<S>,
+    steps: &mut S,
     observer: &mut O,
 ) -> Result<Turn, O::Error>
     requires own { IsStateOf job.now.program.now state.old }
@@ -194,7 +193,7 @@ pub fn observe_opening<S: Ledger, O: Observe>(
     ensures own { IsStateOf job.now.program.now state.new }
     ensures ready { IfOk result (λ t. IfGoes t (λ q. is_ready (machine_of state.new) q ≡ true)) }
     ensures free { IfOk result (λ t. IfGoes t (λ q. is_pending (machine_of state.new) ≡ false)) }
-    ensures steps { steps.new ≤ steps.old + job.now.limits.steps }
+    ensures steps { S.count steps.new ≤ S.count steps.old + job.now.limits.steps }
 {
     // A sound program has a process.
     let _processes = job.program.processes();
@@ -204,11 +203,11 @@ pub fn observe_opening<S: Ledger, O: Observe>(
 
 /// Runs a word from the opening state, in which `state` is. An observer is told of it; where it fails, so does the run.
 /// `ticks` counts the steps that succeed.
-pub fn observe_run<L: Ledger, O: Observe<Error = AllocError>>(
+pub fn observe_run<S: Count, O: Observe<Error = AllocError>>(
     alloc: Global,
     job: &Job<'_>,
     word: &[u8],
-    ticks: &mut Ticks<L>,
+    ticks: &mut S,
     state: &mut State,
     observer: &mut O,
 ) -> Result<RunEnd, AllocError>
@@ -220,7 +219,7 @@ pub fn observe_run<L: Ledger, O: Observe<Error = AllocError>>(
     ensures seen { IfOk result (λ _. (x : O.Seen) → O.holds observer.old job.now.program.now job.now.limits.discipline (machine_of state.old) x → O.holds observer.new job.now.program.now job.now.limits.discipline (machine_of state.new) (fold_run (slots job.now.program.now job.now.limits.discipline) (O.fold job.now.program.now job.now.limits.discipline) job.now.limits.choices job.now.limits.steps word.now x)) }
     ensures stop { IfOk result (λ _. machine_of state.new ≡ last_state (slots job.now.program.now job.now.limits.discipline) job.now.limits.choices job.now.limits.steps word.now) }
     ensures own { IsStateOf job.now.program.now state.new }
-    ensures ticks { ticks.new ≤ ticks.old + (job.now.limits.choices + 1) * job.now.limits.steps }
+    ensures ticks { S.count ticks.new ≤ S.count ticks.old + (job.now.limits.choices + 1) * job.now.limits.steps }
 {
     let first = observe_opening(job, state, ticks, observer)?;
     let mut halt = halt_at(first);

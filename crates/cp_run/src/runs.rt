@@ -10,10 +10,8 @@ use crate::choice::{candidates, choose, may, open};
 use crate::job::Job;
 use crate::limits::Limits;
 use crate::outcome::{Halt, Outcome, OutcomeKind, Output, RunEnd};
-use cp_machine::{State, Ticks, Unwatched};
+use cp_machine::{Count, State, Uncounted, Unwatched};
 use std::alloc::{AllocError, Global};
-use std::marker::Brand;
-use std::sync::ledger::{Blank, Ledger};
 
 /// An end of this kind, with what the state has displayed.
 pub fn outcome_at(alloc: Global, kind: OutcomeKind, state: &State) -> Result<Outcome, AllocError>
@@ -24,35 +22,18 @@ pub fn outcome_at(alloc: Global, kind: OutcomeKind, state: &State) -> Result<Out
 }
 
 /// Runs a word from the opening state. `ticks` counts the steps that succeed.
-pub fn run<L: Ledger>(
+pub fn run<S: Count>(
     alloc: Global,
     job: &Job<'_>,
     word: &[u8],
-    ticks: &mut Ticks<L>,
+    ticks: &mut S,
 ) -> Result<RunEnd, AllocError>
     requires { length word.now ≤ 100 }
     ensures answer { IfOk result (λ end. answer_of end ≡ run (slots job.now.program.now job.now.limits.discipline) job.now.limits.choices job.now.limits.steps word.now) }
-    ensures ticks { ticks.new ≤ ticks.old + (job.now.limits.choices + 1) * job.now.limits.steps }
+    ensures ticks { S.count ticks.new ≤ S.count ticks.old + (job.now.limits.choices + 1) * job.now.limits.steps }
 {
-    run_counted::<L, Brand>(alloc, job, word, ticks, Blank::new(1))
-}
-
-fn run_counted<L: Ledger, C: Ledger>(
-    alloc: Global,
-    job: &Job<'_>,
-    word: &[u8],
-    ticks: &mut Ticks<L>,
-    blank: Blank,
-) -> Result<RunEnd, AllocError>
-    requires name { blank.name ≡ C.name }
-    requires parts { blank.parts ≡ C.parts }
-    requires one { C.parts ≡ 1 }
-    ensures answer { IfOk result (λ end. answer_of end ≡ run (slots job.now.program.now job.now.limits.discipline) job.now.limits.choices job.now.limits.steps word.now) }
-    ensures ticks { ticks.new ≤ ticks.old + (job.now.limits.choices + 1) * job.now.limits.steps }
-{
-    let mut calls: Ticks<C> = Ticks::new(blank);
     let mut state = State::start(alloc, job.program, job.limits.discipline)?;
-    let mut halt = open(job, &mut state, ticks, &mut calls);
+    let mut halt = open(job, &mut state, ticks, &mut Uncounted);
     for (place, process) in word.iter().enumerate() {
         match halt {
             Halt::Ended(kind) => {
@@ -73,7 +54,14 @@ fn run_counted<L: Ledger, C: Ledger>(
                 if !may(job, &state, *process) {
                     return Ok(RunEnd::NotReady { place });
                 }
-                halt = choose(job, &mut state, *process, &mut Unwatched, ticks, &mut calls);
+                halt = choose(
+                    job,
+                    &mut state,
+                    *process,
+                    &mut Unwatched,
+                    ticks,
+                    &mut Uncounted,
+                );
             }
         }
     }

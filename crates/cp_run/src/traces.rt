@@ -12,9 +12,8 @@ use crate::line::{Holders, TraceEvent, TraceLine};
 use crate::observe::Observe;
 use crate::observing::observe_run;
 use crate::outcome::RunEnd;
-use cp_machine::{Event, State, Ticks};
+use cp_machine::{Count, Event, State};
 use std::alloc::{AllocError, Global};
-use std::sync::ledger::Ledger;
 
 /// For each monitor the process inside it.
 pub fn holders(alloc: Global, job: &Job<'_>, state: &State) -> Result<Holders, AllocError>
@@ -128,17 +127,17 @@ impl Observe for Lines {
 
 /// Runs a word from the opening state, and answers a line for each kernel event, process end and admission, and the run's end.
 /// `ticks` counts the steps that succeed.
-pub fn trace<L: Ledger>(
+pub fn trace<S: Count>(
     alloc: Global,
     job: &Job<'_>,
     word: &[u8],
-    ticks: &mut Ticks<L>,
+    ticks: &mut S,
 ) -> Result<(Vec<TraceLine>, RunEnd), AllocError>
     requires { length word.now ≤ 100 }
     ensures lines { IfOk result (λ t. t.0.items ≡ trace (slots job.now.program.now job.now.limits.discipline) job.now.limits.choices job.now.limits.steps word.now) }
     ensures answer { IfOk result (λ t. answer_of t.1 ≡ run (slots job.now.program.now job.now.limits.discipline) job.now.limits.choices job.now.limits.steps word.now) }
     ensures few { IfOk result (λ t. length t.0.items ≤ (job.now.limits.choices + 1) * job.now.limits.steps + job.now.limits.choices) }
-    ensures ticks { ticks.new ≤ ticks.old + (job.now.limits.choices + 1) * job.now.limits.steps }
+    ensures ticks { S.count ticks.new ≤ S.count ticks.old + (job.now.limits.choices + 1) * job.now.limits.steps }
 {
     let mut lines = Lines {
         alloc,

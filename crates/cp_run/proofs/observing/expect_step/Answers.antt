@@ -37,6 +37,6 @@ returns-then-local_step g c =
       own = c.leave.ensures.own;
       ready = ready;
       free = still;
-      steps = counted c.local_step.result c.args.steps.now c.local_step.new.ticks c.local_step.ensures.ticks;
+      steps = counted c.local_step.result g.S.Count.counts _ _ c.local_step.ensures.ticks;
       none = λ no. absurd (cc);
     }

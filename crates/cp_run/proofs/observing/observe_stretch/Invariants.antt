@@ -14,5 +14,5 @@ invariant-loop g l =
       free : IfGoes l.next (λ q. is_pending (machine_of l.state) ≡ false);
       walked : walked sys l.job.limits.steps (machine_of l.fn.state) l.fn.turn ≡ walked sys (l.job.limits.steps - l.counter) (machine_of l.state) l.next;
       seen : (x : g.O.Observe.Seen) → g.O.Observe.holds l.fn.observer l.job.program.now l.job.limits.discipline (machine_of l.fn.state) x → (y : g.O.Observe.Seen) × g.O.Observe.holds l.observer l.job.program.now l.job.limits.discipline (machine_of l.state) y × (fold_turn (fold_stretch sys fold l.job.limits.steps (machine_of l.fn.state)) l.fn.turn x ≡ fold_turn (fold_stretch sys fold (l.job.limits.steps - l.counter) (machine_of l.state)) l.next y);
-      steps : l.steps ≤ l.fn.steps + l.counter;
+      steps : g.S.Count.count l.steps ≤ g.S.Count.count l.fn.steps + l.counter;
     }

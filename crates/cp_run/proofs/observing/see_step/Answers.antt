@@ -35,5 +35,5 @@ returns g c =
       own = c.leave.ensures.own;
       ready = c.turn_of.ensures.ready;
       free = c.turn_of.ensures.free;
-      steps = counted (succeeds event) c.args.steps.now c.step-event.new.ticks c.step-event.ensures.ticks;
+      steps = counted (succeeds event) g.S.Count.counts _ _ c.step-event.ensures.ticks;
     }

@@ -5,7 +5,7 @@ use Rattle.cp_run.specs.Code.{answer_of, node_of, further}
 use Rattle.cp_run.proofs.TraceBounds.{ticks_within}
 use Rattle.cp_run.proofs.Running.{over_at, limit_at, refused_at, goes_at, drop_next}
 use Rattle.cp_run.proofs.Failing.{none_well}
-use Rattle.cp_run.proofs.runs.run_counted.Goals as goal
+use Rattle.cp_run.proofs.runs.run.Goals as goal
 
 pub returns-in-Ended-clause-answer : goal.returns-in-Ended-clause-answer
 returns-in-Ended-clause-answer g c =
@@ -16,8 +16,8 @@ returns-in-Ended-clause-answer g c =
     let w = drop n c.args.word.now in
     ap (λ o. Ended o n) c.in_ok-outcome-in-Ended.ensures ∙ sym (c.loop-place.invariant.same ∙ ap (λ h. further n (run_from sys c.args.job.now.limits.steps k w (node_of h m))) c.in-Ended.is ∙ over_at sys c.args.job.now.limits.steps k n w c.in-Ended.kind m)
 
-pub returns-then-place-limits-clause-answer : goal.returns-then-place-limits-clause-answer
-returns-then-place-limits-clause-answer g c =
+pub returns-then-place-job-clause-answer : goal.returns-then-place-job-clause-answer
+returns-then-place-job-clause-answer g c =
     let sys = slots c.args.job.now.program.now c.args.job.now.limits.discipline in
     let m = machine_of c.loop-place.state in
     let n = c.loop-place.place in
@@ -76,8 +76,8 @@ returns-clause-answer g c =
 pub returns-in-Ended-clause-ticks : goal.returns-in-Ended-clause-ticks
 returns-in-Ended-clause-ticks g c = ticks_within _ _ _ _ _ c.loop-place.invariant.ticks c.loop-place.invariant.within
 
-pub returns-then-place-limits-clause-ticks : goal.returns-then-place-limits-clause-ticks
-returns-then-place-limits-clause-ticks g c = ticks_within _ _ _ _ _ c.loop-place.invariant.ticks c.loop-place.invariant.within
+pub returns-then-place-job-clause-ticks : goal.returns-then-place-job-clause-ticks
+returns-then-place-job-clause-ticks g c = ticks_within _ _ _ _ _ c.loop-place.invariant.ticks c.loop-place.invariant.within
 
 pub returns-then-not-may-clause-ticks : goal.returns-then-not-may-clause-ticks
 returns-then-not-may-clause-ticks g c = ticks_within _ _ _ _ _ c.loop-place.invariant.ticks c.loop-place.invariant.within
