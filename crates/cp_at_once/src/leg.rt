@@ -8,9 +8,8 @@ ghost use Rattle.cp_run.specs.Slots.{slots};
 ghost use Rattle.cp_at_once.specs.Legs.{EndsQuietly, HasLeg, ends_quietly};
 
 use crate::entering::enters_next;
-use cp_machine::{Event, Kernel, Moved, State, Ticks, Watch, local_step, step};
+use cp_machine::{Event, Kernel, Moved, State, Uncounted, Watch, local_step, step};
 use cp_run::{Job, candidates};
-use std::sync::ledger::Ledger;
 
 /// Whether a leg that ends in this event may be made at once: a kernel call that is no `enter`, or the end of the process.
 fn is_quiet(event: Event) -> bool
@@ -24,7 +23,7 @@ fn is_quiet(event: Event) -> bool
 }
 
 /// Makes the leg of a ready process. Answers the event that it ends in; `Local` where it is longer than the limit of steps.
-fn take_leg<S: Ledger>(job: &Job<'_>, state: &mut State, pid: u8, steps: &mut Ticks<S>) -> Event
+fn take_leg(job: &Job<'_>, state: &mut State, pid: u8) -> Event
     requires own { IsStateOf job.now.program.now state.old }
     requires ready { is_ready (machine_of state.old) pid ≡ true }
     requires free { is_pending (machine_of state.old) ≡ false }
@@ -34,8 +33,8 @@ fn take_leg<S: Ledger>(job: &Job<'_>, state: &mut State, pid: u8, steps: &mut Ti
     ensures kept { (moved : ℕ → Bool) (before : Machine) → KeepBodies moved before (machine_of state.old) → moved pid ≡ true → KeepBodies moved before (machine_of state.new) }
 {
     for _ in 0..job.limits.steps {
-        if !local_step(job.program, state, pid, steps) {
-            let event = step(job.program, state, pid, steps);
+        if !local_step(job.program, state, pid, &mut Uncounted) {
+            let event = step(job.program, state, pid, &mut Uncounted);
             let Event::Local = event else {
                 return event;
             };
@@ -48,14 +47,7 @@ fn take_leg<S: Ledger>(job: &Job<'_>, state: &mut State, pid: u8, steps: &mut Ti
 }
 
 // Whether the leg of a ready process may be made at once. There is room for a state, which differs by what some processes moved alone.
-fn has_quiet_leg<S: Ledger>(
-    job: &Job<'_>,
-    state: &State,
-    ahead: &mut State,
-    moved: &Moved,
-    pid: u8,
-    steps: &mut Ticks<S>,
-) -> bool
+fn has_quiet_leg(job: &Job<'_>, state: &State, ahead: &mut State, moved: &Moved, pid: u8) -> bool
     requires own { IsStateOf job.now.program.now state.now }
     requires ahead { IsStateOf job.now.program.now ahead.old }
     requires ready { is_ready (machine_of state.now) pid ≡ true }
@@ -67,7 +59,7 @@ fn has_quiet_leg<S: Ledger>(
     ensures leg { result ≡ true → HasLeg job.now.program.now job.now.limits.discipline (machine_of state.now) pid }
 {
     ahead.take_moved(state, moved);
-    let event = take_leg(job, ahead, pid, steps);
+    let event = take_leg(job, ahead, pid);
     if !is_quiet(event) {
         return false;
     }
@@ -78,12 +70,7 @@ fn has_quiet_leg<S: Ledger>(
 
 /// The least ready process whose leg may be made at once: it ends in a call that is no `enter` or in the end of the process, and leaves the status of each
 /// component as it was. There is none where it is to be chosen who enters a monitor. There is room for a state.
-pub fn process_at_once<S: Ledger>(
-    job: &Job<'_>,
-    state: &State,
-    ahead: &mut State,
-    steps: &mut Ticks<S>,
-) -> Option<u8>
+pub fn process_at_once(job: &Job<'_>, state: &State, ahead: &mut State) -> Option<u8>
     requires own { IsStateOf job.now.program.now state.now }
     requires ahead { IsStateOf job.now.program.now ahead.old }
     requires quiet { output_of (machine_of state.now) ≡ [] }
@@ -100,7 +87,7 @@ pub fn process_at_once<S: Ledger>(
         if enters_next(job.program, state, *pid) {
             continue;
         }
-        if has_quiet_leg(job, state, ahead, &moved, *pid, steps) {
+        if has_quiet_leg(job, state, ahead, &moved, *pid) {
             return Some(*pid);
         }
         moved = Moved::nobody();

@@ -19,21 +19,18 @@ use cp_ends::End;
 use cp_ends::choosing::{choose, open};
 use cp_ends::sight::Unseen;
 use cp_ends::told::Told;
-use cp_machine::{State, Ticks};
+use cp_machine::State;
 use cp_progress::{ObserveProgress, Progress, Unobserved};
 use cp_run::{Halt, Job};
 use cp_search::{SearchJob, Visit, visit_all};
 use std::alloc::{AllocError, Global};
-use std::marker::Brand;
-use std::sync::ledger::{Blank, Ledger};
 
 // What is found so far, with room for displayed values, and for a state in which a leg is tried.
 #[derive(Drop)]
-struct SearchAtOnce<S: Ledger> {
+struct SearchAtOnce {
     found: FoundAtOnce,
     told: Told<Unseen>,
     ahead: State,
-    steps: Ticks<S>,
 }
 
 /// Goes on from the opening state, and from each state that is kept, with each number that may be chosen there. Where a choice is due after that, a leg
@@ -58,35 +55,24 @@ pub fn search_at_once_with<O: ObserveProgress>(
         run: *job,
         most,
     };
-    search_with::<O, Brand>(&job, observer, Blank::new(1))
+    search_with(&job, observer)
 }
 
-fn search_with<O: ObserveProgress, S: Ledger>(
+fn search_with<O: ObserveProgress>(
     job: &SearchJob<'_>,
     observer: &mut O,
-    blank: Blank,
 ) -> Result<FoundAtOnce, AllocError>
-    requires name { blank.name ≡ S.name }
-    requires parts { blank.parts ≡ S.parts }
-    requires one { S.parts ≡ 1 }
     ensures { IfOk result (λ found. Answers job.now.run.program.now (slot_graph job.now.run.program.now job.now.run.limits.discipline job.now.run.limits.steps) (HasLeg job.now.run.program.now job.now.run.limits.discipline) job.now.most 8 found found.is_whole) }
 {
     let mut state = State::start(job.alloc, job.run.program, job.run.limits.discipline)?;
     let found = FoundAtOnce::new(job.alloc, &state)?;
     let told = Told::new(job.alloc, Unseen);
-    let mut search: SearchAtOnce<S> = SearchAtOnce {
+    let mut search: SearchAtOnce = SearchAtOnce {
         found,
         told,
         ahead: state.copy(job.alloc)?,
-        steps: Ticks::new(blank),
     };
-    let arrival = open(
-        job.alloc,
-        &job.run,
-        &mut state,
-        &mut search.told,
-        &mut search.steps,
-    )?;
+    let arrival = open(job.alloc, &job.run, &mut state, &mut search.told)?;
     let mut next = state.copy(job.alloc)?;
     let origin = OriginAtOnce::start();
     let is_room = search.follow(job, &mut next, arrival, origin)?;
@@ -99,7 +85,7 @@ fn search_with<O: ObserveProgress, S: Ledger>(
     Ok(search.found)
 }
 
-impl<S: Ledger> SearchAtOnce<S> {
+impl SearchAtOnce {
     // Makes legs at once as long as there are such, and not too many in a row. `false` where they lead to a state too many.
     fn follow(
         &mut self,
@@ -124,21 +110,12 @@ impl<S: Ledger> SearchAtOnce<S> {
                 Halt::Ended(_) => return Ok(true),
                 Halt::Choice => {}
             }
-            let ahead = &mut self.ahead;
-            let steps = &mut self.steps;
-            let Some(pid) = process_at_once(&job.run, state, ahead, steps) else {
+            let Some(pid) = process_at_once(&job.run, state, &mut self.ahead) else {
                 return self.keep(job, state, origin);
             };
             origin.numbers.push(pid);
             self.told.values.clear();
-            arrival = choose(
-                job.alloc,
-                &job.run,
-                state,
-                pid,
-                &mut self.told,
-                &mut self.steps,
-            )?;
+            arrival = choose(job.alloc, &job.run, state, pid, &mut self.told)?;
         }
         self.note(arrival, &origin)?;
         match arrival {
@@ -183,7 +160,7 @@ impl<S: Ledger> SearchAtOnce<S> {
     }
 }
 
-impl<S: Ledger> Visit for SearchAtOnce<S> {
+impl Visit for SearchAtOnce {
     ghost use Rattle.std.specs.Prelude.{false, true};
     ghost use Rattle.std.proofs.Math.Nat.{lt_of_lt_of_le};
     ghost use Rattle.cp_machine.specs.System.{IsStateOf};
@@ -225,14 +202,7 @@ impl<S: Ledger> Visit for SearchAtOnce<S> {
         process: u8,
     ) -> Result<bool, AllocError> {
         self.told.values.clear();
-        let arrival = choose(
-            job.alloc,
-            &job.run,
-            next,
-            process,
-            &mut self.told,
-            &mut self.steps,
-        )?;
+        let arrival = choose(job.alloc, &job.run, next, process, &mut self.told)?;
         let is_room = self.follow(job, next, arrival, OriginAtOnce::choice(at, process))?;
         next.take_from(state);
         Ok(is_room)

@@ -17,19 +17,17 @@ use crate::end::End;
 use crate::round::end_of_cut;
 use crate::sight::Sight;
 use crate::told::Told;
-use cp_machine::{Moved, State, Ticks};
+use cp_machine::{Moved, State, Uncounted};
 use cp_run::{Halt, Job, Turn, observe_choice, observe_opening};
 use std::alloc::{AllocError, Global};
-use std::sync::ledger::Ledger;
 
 // Where a stretch came to that made as many steps as it may, by what comes next.
-fn arrive<S: Ledger, P: Sight>(
+fn arrive<P: Sight>(
     alloc: Global,
     job: &Job<'_>,
     state: &mut State,
     turn: Turn,
     told: &mut Told<P>,
-    steps: &mut Ticks<S>,
 ) -> Result<Halt<End>, AllocError>
     requires own { IsStateOf job.now.program.now state.old }
     requires ready { IfGoes turn (λ q. is_ready (machine_of state.old) q ≡ true) }
@@ -46,7 +44,7 @@ fn arrive<S: Ledger, P: Sight>(
         Turn::Over(kind) => Ok(Halt::Ended(End::Over(kind))),
         Turn::Due => Ok(Halt::Choice),
         Turn::Goes(pid) => {
-            let end = end_of_cut(alloc, job, state, pid, told, steps)?;
+            let end = end_of_cut(alloc, job, state, pid, told)?;
             Ok(Halt::Ended(end))
         }
     }
@@ -54,13 +52,12 @@ fn arrive<S: Ledger, P: Sight>(
 
 /// Takes a due choice: lets the process in at the pending monitor, or goes on with it. The choice is seen, and each moment of the stretch, and
 /// who moves is noted.
-pub fn choose<S: Ledger, P: Sight>(
+pub fn choose<P: Sight>(
     alloc: Global,
     job: &Job<'_>,
     state: &mut State,
     process: u8,
     told: &mut Told<P>,
-    steps: &mut Ticks<S>,
 ) -> Result<Halt<End>, AllocError>
     requires own { IsStateOf job.now.program.now state.old }
     requires may { may (slots job.now.program.now job.now.limits.discipline) (machine_of state.old) process ≡ true }
@@ -75,17 +72,16 @@ pub fn choose<S: Ledger, P: Sight>(
     told.moved = Moved::nobody();
     told.seen = P::begin(job.program);
     told.seen.see_due(state);
-    let turn = observe_choice(job, state, process, steps, told)?;
-    arrive(alloc, job, state, turn, told, steps)
+    let turn = observe_choice(job, state, process, &mut Uncounted, told)?;
+    arrive(alloc, job, state, turn, told)
 }
 
 /// Begins a run in the opening state. Each moment before the first choice is seen.
-pub fn open<S: Ledger, P: Sight>(
+pub fn open<P: Sight>(
     alloc: Global,
     job: &Job<'_>,
     state: &mut State,
     told: &mut Told<P>,
-    steps: &mut Ticks<S>,
 ) -> Result<Halt<End>, AllocError>
     requires own { IsStateOf job.now.program.now state.old }
     requires start { machine_of state.old ≡ opening job.now.program.now job.now.limits.discipline }
@@ -96,6 +92,6 @@ pub fn open<S: Ledger, P: Sight>(
     ensures leg { IfOk result (λ h. ComesTo (silent_slots job.now.program.now job.now.limits.discipline) (λ w. P.sees w job.now.program.now job.now.limits.discipline) job.now.limits.steps (first_leg (silent_slots job.now.program.now job.now.limits.discipline) job.now.limits.steps) [] told.new.seen (with_round told.new.again h) (machine_of state.new)) }
 {
     told.seen = P::begin(job.program);
-    let turn = observe_opening(job, state, steps, told)?;
-    arrive(alloc, job, state, turn, told, steps)
+    let turn = observe_opening(job, state, &mut Uncounted, told)?;
+    arrive(alloc, job, state, turn, told)
 }

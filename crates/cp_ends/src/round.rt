@@ -18,20 +18,18 @@ use crate::end::End;
 use crate::sight::Sight;
 use crate::told::Told;
 use cp_key::StateKey;
-use cp_machine::{State, Ticks};
+use cp_machine::{State, Uncounted};
 use cp_run::{Job, Observe, OutcomeKind, Turn, expect_step, see_step};
 use std::alloc::{AllocError, Global};
-use std::sync::ledger::Ledger;
 
 /// How a stretch ends of which all steps are made, where this process would make the next one: if the state comes back within as many
 /// steps, before a choice is due or the run ends, it goes on for ever. What is displayed and seen of it is told if it does.
-pub fn end_of_cut<S: Ledger, P: Sight>(
+pub fn end_of_cut<P: Sight>(
     alloc: Global,
     job: &Job<'_>,
     state: &mut State,
     pid: u8,
     told: &mut Told<P>,
-    steps: &mut Ticks<S>,
 ) -> Result<End, AllocError>
     requires own { IsStateOf job.now.program.now state.old }
     requires ready { is_ready (machine_of state.old) pid ≡ true }
@@ -46,7 +44,7 @@ pub fn end_of_cut<S: Ledger, P: Sight>(
     let before = told.seen;
     told.is_called = false;
     told.seen = P::begin(job.program);
-    if !observe_round(alloc, job, state, pid, steps, told)? {
+    if !observe_round(alloc, job, state, pid, told)? {
         told.values.truncate(count);
         told.seen = before;
         told.again = None;
@@ -64,12 +62,11 @@ pub fn end_of_cut<S: Ledger, P: Sight>(
 
 /// Goes on with a process until the state is what it was at first and this process would go on again, or a choice is due or the run is over,
 /// or as many steps are made as the limits allow. An observer is told of it. Tells whether it came back.
-pub fn observe_round<S: Ledger, O: Observe<Error = AllocError>>(
+pub fn observe_round<O: Observe<Error = AllocError>>(
     alloc: Global,
     job: &Job<'_>,
     state: &mut State,
     pid: u8,
-    steps: &mut Ticks<S>,
     observer: &mut O,
 ) -> Result<bool, AllocError>
     requires silent { O.IS_SILENT ≡ true }
@@ -92,7 +89,7 @@ pub fn observe_round<S: Ledger, O: Observe<Error = AllocError>>(
     };
     let mut going = pid;
     for _ in 0..job.limits.steps {
-        let turn = take_step(job, state, going, steps, observer)?;
+        let turn = take_step(job, state, going, observer)?;
         let Turn::Goes(next) = turn else {
             return Ok(false);
         };
@@ -106,11 +103,10 @@ pub fn observe_round<S: Ledger, O: Observe<Error = AllocError>>(
 
 // A step of which nothing stays displayed. Answers what comes next.
 #[inline(always)]
-fn take_step<S: Ledger, O: Observe>(
+fn take_step<O: Observe>(
     job: &Job<'_>,
     state: &mut State,
     pid: u8,
-    steps: &mut Ticks<S>,
     observer: &mut O,
 ) -> Result<Turn, O::Error>
     requires silent { O.IS_SILENT ≡ true }
@@ -124,10 +120,10 @@ fn take_step<S: Ledger, O: Observe>(
     ensures turn { IfOk result (λ t. t ≡ turn_after (silent_slots job.now.program.now job.now.limits.discipline) (machine_of state.new) pid ((silent_slots job.now.program.now job.now.limits.discipline).event (machine_of state.old) pid)) }
     ensures seen { IfOk result (λ _. (x : O.Seen) → O.holds observer.old job.now.program.now job.now.limits.discipline (machine_of state.old) x → O.holds observer.new job.now.program.now job.now.limits.discipline (machine_of state.new) ((O.fold job.now.program.now job.now.limits.discipline).on_step (machine_of state.old) pid ((silent_slots job.now.program.now job.now.limits.discipline).event (machine_of state.old) pid) (machine_of state.new) x)) }
 {
-    if expect_step(job, state, pid, steps, observer)? {
+    if expect_step(job, state, pid, &mut Uncounted, observer)? {
         return Ok(Turn::Goes(pid));
     }
-    see_step(job, state, pid, steps, observer)
+    see_step(job, state, pid, &mut Uncounted, observer)
 }
 
 // Whether this is the state of a key. There is room for another one.

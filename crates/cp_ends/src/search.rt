@@ -21,20 +21,17 @@ use crate::found::{Arrived, Found};
 use crate::origin::Origin;
 use crate::sight::{Sight, Unseen};
 use crate::told::Told;
-use cp_machine::{State, Ticks};
+use cp_machine::State;
 use cp_progress::{ObserveProgress, Progress, Unobserved};
 use cp_run::Job;
 use cp_search::{SearchJob, Visit, visit_all};
 use std::alloc::{AllocError, Global};
-use std::marker::Brand;
-use std::sync::ledger::{Blank, Ledger};
 
 /// What is found so far, with room for what is told of a stretch.
 #[derive(Drop)]
-pub struct EndsVisit<S: Ledger, P> {
+pub struct EndsVisit<P> {
     pub found: Found,
     pub told: Told<P>,
-    steps: Ticks<S>,
 }
 
 /// Goes on from the opening state, and from each state that is found, with each number that may be chosen there, in the order in which
@@ -63,21 +60,17 @@ pub fn search_ends_with<O: ObserveProgress>(
         run: *job,
         most: states,
     };
-    search_with::<O, Brand>(&job, observer, Blank::new(1))
+    search_with(&job, observer)
 }
 
-fn search_with<O: ObserveProgress, S: Ledger>(
+fn search_with<O: ObserveProgress>(
     job: &SearchJob<'_>,
     observer: &mut O,
-    blank: Blank,
 ) -> Result<Found, AllocError>
-    requires name { blank.name ≡ S.name }
-    requires parts { blank.parts ≡ S.parts }
-    requires one { S.parts ≡ 1 }
     requires most { 1 ≤ job.now.most }
     ensures { IfOk result (λ found. IsSearch job.now.run.program.now (slot_graph job.now.run.program.now job.now.run.limits.discipline job.now.run.limits.steps) job.now.most found found.stopped) }
 {
-    let mut visit: EndsVisit<S, Unseen> = EndsVisit::new(job.alloc, Unseen, blank);
+    let mut visit: EndsVisit<Unseen> = EndsVisit::new(job.alloc, Unseen);
     let mut state = State::start(job.alloc, job.run.program, job.run.limits.discipline)?;
     visit.open(job, &mut state)?;
     let mut next = state.copy(job.alloc)?;
@@ -85,18 +78,14 @@ fn search_with<O: ObserveProgress, S: Ledger>(
     Ok(visit.found)
 }
 
-impl<S: Ledger, P: Sight> EndsVisit<S, P> {
+impl<P: Sight> EndsVisit<P> {
     /// Nothing is found.
-    pub fn new(alloc: Global, seen: P, blank: Blank) -> EndsVisit<S, P>
-        requires name { blank.name ≡ S.name }
-        requires parts { blank.parts ≡ S.parts }
-        requires one { S.parts ≡ 1 }
+    pub fn new(alloc: Global, seen: P) -> EndsVisit<P>
         ensures { (r : Tables) → Holds r result.found nothing }
     {
         EndsVisit {
             found: Found::new(alloc),
             told: Told::new(alloc, seen),
-            steps: Ticks::new(blank),
         }
     }
 
@@ -111,7 +100,7 @@ impl<S: Ledger, P: Sight> EndsVisit<S, P> {
         ensures leg { IfOk result (λ arrived. ComesTo (silent_slots job.now.run.program.now job.now.run.limits.discipline) (λ w. P.sees w job.now.run.program.now job.now.run.limits.discipline) job.now.run.limits.steps (first_leg (silent_slots job.now.run.program.now job.now.run.limits.discipline) job.now.run.limits.steps) [] self.new.told.seen (with_round self.new.told.again (halt_of arrived)) (machine_of state.new)) }
     {
         self.told.values.clear();
-        let halt = open(job.alloc, &job.run, state, &mut self.told, &mut self.steps)?;
+        let halt = open(job.alloc, &job.run, state, &mut self.told)?;
         let values = self.told.values.as_slice();
         let moved = &self.told.moved;
         self.found
@@ -141,14 +130,7 @@ impl<S: Ledger, P: Sight> EndsVisit<S, P> {
         ensures leg { IfOk result (λ arrived. ComesTo (silent_slots job.now.run.program.now job.now.run.limits.discipline) (λ w. P.sees w job.now.run.program.now job.now.run.limits.discipline) job.now.run.limits.steps (choice_leg (silent_slots job.now.run.program.now job.now.run.limits.discipline) job.now.run.limits.steps (machine_of state.now) process) (machine_of state.now ∷ []) self.new.told.seen (with_round self.new.told.again (halt_of arrived)) (machine_of next.new)) }
     {
         self.told.values.clear();
-        let halt = choose(
-            job.alloc,
-            &job.run,
-            next,
-            process,
-            &mut self.told,
-            &mut self.steps,
-        )?;
+        let halt = choose(job.alloc, &job.run, next, process, &mut self.told)?;
         let origin = Origin::Choice {
             state: at,
             number: process,
@@ -173,7 +155,7 @@ impl<S: Ledger, P: Sight> EndsVisit<S, P> {
     }
 }
 
-impl<S: Ledger, P: Sight> Visit for EndsVisit<S, P> {
+impl<P: Sight> Visit for EndsVisit<P> {
     ghost use Rattle.cp_ends.specs.Answer.{HoldsFew, IsStopped, ends_tests, slot_graph};
     ghost use Rattle.cp_ends.specs.Searched.{searched};
     ghost use Rattle.cp_ends.specs.Visited.{IsWhole, IsWithin};

@@ -3,29 +3,23 @@
 ghost use Rattle.std.specs.Prelude.{◌≡◌, ◌≤◌, length};
 
 use crate::subject::Telling;
-use cp_machine::{Signals, Ticks};
+use cp_machine::{Signals, Uncounted};
 use cp_run::{Job, OutcomeKind, RunEnd};
 use cp_story::{Happening, MOST_NUMBERS, OpenCall, Story, Wait, tell};
 use std::alloc::AllocError;
-use std::marker::Brand;
-use std::sync::ledger::{Blank, Ledger};
 
 /// The story of a word that is told to its end; none where the word has too many numbers, or the run was stopped by how much it displayed.
 pub fn whole_story(telling: Telling<'_>, word: &[u8]) -> Result<Option<Story>, AllocError> {
     if word.len() > MOST_NUMBERS {
         return Ok(None);
     }
-    let story = story_of::<Brand>(telling, word, Blank::new(1))?;
+    let story = story_of(telling, word)?;
     Ok(if is_full(&story) { None } else { Some(story) })
 }
 
-fn story_of<L: Ledger>(telling: Telling<'_>, word: &[u8], blank: Blank) -> Result<Story, AllocError>
+fn story_of(telling: Telling<'_>, word: &[u8]) -> Result<Story, AllocError>
     requires short { length word.now ≤ 100 }
-    requires name { blank.name ≡ L.name }
-    requires parts { blank.parts ≡ L.parts }
-    requires one { L.parts ≡ 1 }
 {
-    let mut ticks: Ticks<L> = Ticks::new(blank);
     let Telling { alloc, subject, .. } = telling;
     tell(
         alloc,
@@ -35,7 +29,7 @@ fn story_of<L: Ledger>(telling: Telling<'_>, word: &[u8], blank: Blank) -> Resul
         },
         subject.legend,
         word,
-        &mut ticks,
+        &mut Uncounted,
     )
 }
 

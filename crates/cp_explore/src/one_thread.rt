@@ -26,5 +26,5 @@ pub fn explore_one<L: Ledger>(
     ensures many { IfErr result (λ e. IsTooMany e → 50000 < length (table (slots job.entry.program.now job.entry.limits.discipline) job.entry.limits.choices job.entry.limits.steps)) }
     ensures calls { IfOk result (λ t. calls.new ≤ calls.old + beginnings (words_of_rows t.rows)) }
 {
-    walk_on_one_thread(alloc, job, calls)
+    walk_on_one_thread(alloc, &job, calls)
 }

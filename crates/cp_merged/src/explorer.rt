@@ -16,12 +16,9 @@ use crate::frontier::Ends;
 use crate::layering::{Layering, MergeJob, progress_of};
 use crate::ordered::sort_tallies;
 use crate::tallies::Tallies;
-use cp_machine::Ticks;
 use cp_progress::{ObserveProgress, Unobserved};
 use cp_walk::Job;
 use std::alloc::Global;
-use std::marker::Brand;
-use std::sync::ledger::{Blank, Ledger};
 
 /// The different outcomes of all complete words of a job, by layers of states. A layer may have `states` states.
 pub fn explore_merged(alloc: Global, job: Job, states: usize) -> Result<Tallies, MergeFault>
@@ -48,7 +45,7 @@ pub fn explore_merged_with<O: ObserveProgress>(
         run: job,
         most: states,
     };
-    let ends = ends_of::<O, Brand, Brand>(&job, observer, Blank::new(1), Blank::new(1))?;
+    let ends = ends_of(&job, observer)?;
     match sort_tallies(alloc, ends) {
         Ok(tallies) => Ok(tallies),
         Err(_) => Err(MergeFault::Memory),
@@ -56,26 +53,13 @@ pub fn explore_merged_with<O: ObserveProgress>(
 }
 
 /// The outcomes in the order in which they are found.
-fn ends_of<O: ObserveProgress, S: Ledger, C: Ledger>(
-    job: &MergeJob<'_>,
-    observer: &mut O,
-    steps: Blank,
-    calls: Blank,
-) -> Result<Ends, MergeFault>
-    requires steps_name { steps.name ≡ S.name }
-    requires steps_parts { steps.parts ≡ S.parts }
-    requires steps_one { S.parts ≡ 1 }
-    requires calls_name { calls.name ≡ C.name }
-    requires calls_parts { calls.parts ≡ C.parts }
-    requires calls_one { C.parts ≡ 1 }
+fn ends_of<O: ObserveProgress>(job: &MergeJob<'_>, observer: &mut O) -> Result<Ends, MergeFault>
     ensures ends { IfOk result (λ ends. map end_of ends.entries ≡ by_layers (slots job.now.run.program.now job.now.run.limits.discipline) same_outcome same_key job.now.run.limits.choices job.now.run.limits.steps) }
     ensures small { IfOk result (λ ends. rows_in (map end_of ends.entries) < 10 ^ 126) }
     ensures within { IfOk result (λ _. FitsBefore (slots job.now.run.program.now job.now.run.limits.discipline) job.now.run.limits.choices job.now.run.limits.steps job.now.most (job.now.run.limits.choices + 1)) }
     ensures fault { IfErr result (λ e. IsDueFault (slots job.now.run.program.now job.now.run.limits.discipline) job.now.run.limits.choices job.now.run.limits.steps job.now.most e) }
 {
-    let steps: Ticks<S> = Ticks::new(steps);
-    let calls: Ticks<C> = Ticks::new(calls);
-    let mut layering = Layering::start(job, observer, steps, calls)?;
+    let mut layering = Layering::start(job, observer)?;
     for depth in 0..job.run.limits.choices {
         layering.one_layer(job, depth)?;
         let progress = progress_of(&layering.frontier, u32::from(depth) + 1);

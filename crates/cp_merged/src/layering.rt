@@ -18,12 +18,11 @@ use crate::frontier::{Frontier, MOST_OUTCOMES, StateLayer};
 use crate::prefixes::Prefixes;
 use crate::stored::StoredState;
 use crate::word::Word;
-use cp_machine::{Moved, State, Ticks};
+use cp_machine::{Moved, State, Uncounted};
 use cp_natural::Natural;
 use cp_progress::{ObserveProgress, Progress, STATES_BETWEEN};
 use cp_run::{Halt, Job, OutcomeKind, candidates, choose, open};
 use std::alloc::{AllocError, Global};
-use std::sync::ledger::Ledger;
 
 /// What is searched: a program under limits, where a layer may have so many states.
 #[derive(Clone, Copy)]
@@ -35,12 +34,10 @@ pub struct MergeJob<'a> {
 
 /// A search by layers: where words have arrived, the state that is gone on from, and the one that it becomes.
 #[derive(Drop)]
-pub struct Layering<'a, S: Ledger, C: Ledger, O: ObserveProgress> {
+pub struct Layering<'a, O: ObserveProgress> {
     pub frontier: Frontier,
     pub here: StoredState,
     pub next: StoredState,
-    pub steps: Ticks<S>,
-    pub calls: Ticks<C>,
     pub observer: &'a mut O,
 }
 
@@ -60,26 +57,19 @@ fn tell_layer<O: ObserveProgress>(observer: &mut O, frontier: &Frontier, depth: 
     }
 }
 
-impl<'a, S: Ledger, C: Ledger, O: ObserveProgress> Layering<'a, S, C, O> {
+impl<'a, O: ObserveProgress> Layering<'a, O> {
     /// The layer of no choice, with the state that leads to it, and a copy.
-    pub fn start(
-        job: &MergeJob<'_>,
-        observer: &'a mut O,
-        steps: Ticks<S>,
-        calls: Ticks<C>,
-    ) -> Result<Layering<'a, S, C, O>, MergeFault>
+    pub fn start(job: &MergeJob<'_>, observer: &'a mut O) -> Result<Layering<'a, O>, MergeFault>
         ensures here { IfOk result (λ found. IsStored job.now.run.program.now found.frontier.store found.here) }
         ensures next { IfOk result (λ found. IsStored job.now.run.program.now found.frontier.store found.next) }
         ensures reached { IfOk result (λ found. Reached job.now.run.program.now job.now.run.limits.discipline job.now.run.limits.choices job.now.run.limits.steps job.now.most 0 found.frontier.store found.frontier.ended.entries found.frontier.layer.entries) }
         ensures fault { IfErr result (λ e. IsDueFault (slots job.now.run.program.now job.now.run.limits.discipline) job.now.run.limits.choices job.now.run.limits.steps job.now.most e) }
     {
-        let mut steps = steps;
-        let mut calls = calls;
         let alloc = job.alloc;
         let Ok(mut state) = State::start(alloc, job.run.program, job.run.limits.discipline) else {
             return Err(MergeFault::Memory);
         };
-        let halt = open(&job.run, &mut state, &mut steps, &mut calls);
+        let halt = open(&job.run, &mut state, &mut Uncounted, &mut Uncounted);
         let one = Prefixes {
             count: Natural::one(),
             first: Word::new(),
@@ -103,8 +93,6 @@ impl<'a, S: Ledger, C: Ledger, O: ObserveProgress> Layering<'a, S, C, O> {
             frontier,
             here: StoredState { state, row },
             next: StoredState { state: copy, row },
-            steps,
-            calls,
             observer,
         })
     }
@@ -136,8 +124,8 @@ impl<'a, S: Ledger, C: Ledger, O: ObserveProgress> Layering<'a, S, C, O> {
             &mut self.next.state,
             process,
             &mut moved,
-            &mut self.steps,
-            &mut self.calls,
+            &mut Uncounted,
+            &mut Uncounted,
         );
         arriving.first.push(process);
         let added = self.frontier.add(

@@ -4,15 +4,12 @@ ghost use Rattle.std.specs.Prelude.{◌≡◌, ◌≤◌, IfOk, IfSome, length, 
 ghost use Rattle.cp_run.specs.Slots.{slots};
 ghost use Rattle.cp_simplest.specs.Simple.{IsScheduleOf};
 
-use cp_machine::Ticks;
 use cp_merged::{Tallies, Tally};
 use cp_progress::ObserveProgress;
 use cp_run::Outcome;
 use cp_simplest::{Searched, SimplestSchedule, is_schedule_of, simplest};
 use cp_walk::Job;
 use std::alloc::{AllocError, Global};
-use std::marker::Brand;
-use std::sync::ledger::{Blank, Ledger};
 
 /// The simplest schedule of each outcome, or none of any where there are too many states to search through.
 #[derive(Drop)]
@@ -58,7 +55,7 @@ impl Simples {
             return Ok(None);
         };
         let word = simple.word.as_slice();
-        if is_row::<Brand>(alloc, job, word, &tally.outcome, Blank::new(1))? {
+        if is_schedule_of(alloc, &job, word, &tally.outcome)? {
             Ok(Some(simple))
         } else {
             Ok(None)
@@ -68,22 +65,4 @@ impl Simples {
     fn simplest_at(&self, place: usize) -> Option<&SimplestSchedule> {
         self.words.as_ref()?.get(place)?.as_ref()
     }
-}
-
-// Whether the run of a word is a row of the table with this outcome.
-fn is_row<L: Ledger>(
-    alloc: Global,
-    job: Job,
-    word: &[u8],
-    outcome: &Outcome,
-    blank: Blank,
-) -> Result<bool, AllocError>
-    requires name { blank.name ≡ L.name }
-    requires parts { blank.parts ≡ L.parts }
-    requires one { L.parts ≡ 1 }
-    requires word { length word.now ≤ 100 }
-    ensures { IfOk result (λ is. is ≡ true → IsScheduleOf (slots job.entry.program.now job.entry.limits.discipline) job.entry.limits.choices job.entry.limits.steps word.now outcome.now) }
-{
-    let mut ticks: Ticks<L> = Ticks::new(blank);
-    is_schedule_of(alloc, &job, word, outcome, &mut ticks)
 }

@@ -18,7 +18,7 @@ use crate::simples::Simples;
 use crate::stopped::is_stopped;
 use crate::subject::Subject;
 use cp_legend::Legend;
-use cp_machine::{ErrorName, Ticks};
+use cp_machine::{ErrorName, Uncounted};
 use cp_merged::Tally;
 use cp_run::OutcomeKind;
 use cp_simplest::SimplestSchedule;
@@ -27,8 +27,6 @@ use cp_story::{
 };
 use cp_walk::Job;
 use std::alloc::{AllocError, Global};
-use std::marker::Brand;
-use std::sync::ledger::{Blank, Ledger};
 
 /// An outcome as it is told: with its simplest schedule, if one is told.
 #[derive(Drop)]
@@ -200,32 +198,19 @@ pub fn story_of(alloc: Global, subject: Subject<'_>, word: &[u8]) -> Result<Stor
     ensures cause { IfOk result (λ s. s.cause ≡ spec.cause_after (setting_of subject.entry subject.entry.limits.choices) word.now) }
     ensures violation { IfOk result (λ s. option_map violation_seen s.violation ≡ spec.violation_after (setting_of subject.entry subject.entry.limits.choices) word.now) }
 {
-    story_by::<Brand>(alloc, subject, word, Blank::new(1))
-}
-
-fn story_by<L: Ledger>(
-    alloc: Global,
-    subject: Subject<'_>,
-    word: &[u8],
-    blank: Blank,
-) -> Result<Story, AllocError>
-    requires name { blank.name ≡ L.name }
-    requires parts { blank.parts ≡ L.parts }
-    requires one { L.parts ≡ 1 }
-    requires word { length word.now ≤ 100 }
-    ensures waits { IfOk result (λ s. map wait_of s.waits.items ≡ spec.waits_after (setting_of subject.entry subject.entry.limits.choices) word.now) }
-    ensures reasons { IfOk result (λ s. map reason_seen s.reasons.items ≡ spec.reasons_after (setting_of subject.entry subject.entry.limits.choices) word.now) }
-    ensures cause { IfOk result (λ s. s.cause ≡ spec.cause_after (setting_of subject.entry subject.entry.limits.choices) word.now) }
-    ensures violation { IfOk result (λ s. option_map violation_seen s.violation ≡ spec.violation_after (setting_of subject.entry subject.entry.limits.choices) word.now) }
-{
     let Subject {
         program,
         legend,
         limits,
         ..
     } = subject;
-    let mut ticks: Ticks<L> = Ticks::new(blank);
-    tell(alloc, &Job { program, limits }, legend, word, &mut ticks)
+    tell(
+        alloc,
+        &Job { program, limits },
+        legend,
+        word,
+        &mut Uncounted,
+    )
 }
 
 // The process that was in error, and the text of the line at which it was.

@@ -23,8 +23,6 @@ use cp_search::{SearchJob, Visit, visit_all};
 use cp_slots::Resolved;
 use cp_walk::Job;
 use std::alloc::{AllocError, Global};
-use std::marker::Brand;
-use std::sync::ledger::{Blank, Ledger};
 
 /// The first outcomes, whose first schedules are gone along to their ends.
 const MOST_LAID_OUT: usize = 500;
@@ -80,7 +78,7 @@ fn put_counted<O: ObserveProgress>(
         Edge::Open
     };
     let words = first_words(alloc, tallies, MOST_LAID_OUT)?;
-    put_graph::<LimitedSchedules, O, Brand>(
+    put_graph::<LimitedSchedules, O>(
         alloc,
         json,
         subject,
@@ -88,7 +86,6 @@ fn put_counted<O: ObserveProgress>(
         merging_for(tallies),
         edge,
         &words,
-        Blank::new(1),
     )?;
     json.put_member("isWhole", found.is_some());
     json.put_member("more", tallies.len().saturating_sub(MOST_LISTED));
@@ -105,7 +102,7 @@ fn put_endless<O: ObserveProgress>(
 ) -> Result<(), AllocError> {
     let endless = endless_of(alloc, subject, observer)?;
     let words = endless.words(alloc)?;
-    put_graph::<EndlessSchedules, O, Brand>(
+    put_graph::<EndlessSchedules, O>(
         alloc,
         json,
         subject,
@@ -113,7 +110,6 @@ fn put_endless<O: ObserveProgress>(
         Merging::WithoutOutput,
         Edge::Open,
         &words,
-        Blank::new(1),
     )?;
     endless.put(alloc, json, subject.legend)
 }
@@ -180,7 +176,7 @@ fn put_pair(json: &mut Json, name: &str, type_name: &str) {
 }
 
 // The variables that stay with their first values, the states and the edges that are found, and the tables on which they stand.
-fn put_graph<K: Schedules, O: ObserveProgress, S: Ledger>(
+fn put_graph<K: Schedules, O: ObserveProgress>(
     alloc: Global,
     json: &mut Json,
     subject: PageSubject<'_>,
@@ -188,12 +184,7 @@ fn put_graph<K: Schedules, O: ObserveProgress, S: Ledger>(
     merging: Merging,
     edge: Edge,
     words: &[Vec<u8>],
-    blank: Blank,
-) -> Result<(), AllocError>
-    requires name { blank.name ≡ S.name }
-    requires parts { blank.parts ≡ S.parts }
-    requires one { S.parts ≡ 1 }
-{
+) -> Result<(), AllocError> {
     let job = SearchJob {
         alloc,
         run: Job {
@@ -203,7 +194,7 @@ fn put_graph<K: Schedules, O: ObserveProgress, S: Ledger>(
         most: subject.states,
     };
     let mut state = State::start(alloc, job.run.program, job.run.limits.discipline)?;
-    let mut graph: PageGraph<'_, K, S> = PageGraph::new(alloc, subject, &state, merging, blank)?;
+    let mut graph: PageGraph<'_, K> = PageGraph::new(alloc, subject, &state, merging)?;
     put_from(
         &job,
         json,
@@ -217,11 +208,11 @@ fn put_graph<K: Schedules, O: ObserveProgress, S: Ledger>(
 }
 
 // The same, of schedules that begin in this state, where the graph has no states yet.
-fn put_from<K: Schedules, O: ObserveProgress, S: Ledger>(
+fn put_from<K: Schedules, O: ObserveProgress>(
     job: &SearchJob<'_>,
     json: &mut Json,
     observer: &mut O,
-    graph: &mut PageGraph<'_, K, S>,
+    graph: &mut PageGraph<'_, K>,
     state: &mut State,
     first: &[u8],
     edge: Edge,
@@ -234,7 +225,7 @@ fn put_from<K: Schedules, O: ObserveProgress, S: Ledger>(
     let views = put_start(json, job.run.program, state, &mut graph.teller)?;
     let start = lay_out(job, observer, graph, state, first, words)?;
     if let Edge::Counted = edge {
-        tell_onward::<K, S, Brand, Brand>(job, graph, start, Blank::new(1), Blank::new(1))?;
+        tell_onward(job, graph, start)?;
     }
     put_found(json, graph, start, &views);
     Ok(())
@@ -256,12 +247,7 @@ fn put_start<K: Schedules>(
 }
 
 // The states and the edges that are found, with the tables. These are the edge before the first choice and the views at the start.
-fn put_found<K: Schedules, S: Ledger>(
-    json: &mut Json,
-    graph: &PageGraph<'_, K, S>,
-    start: usize,
-    views: &Json,
-) {
+fn put_found<K: Schedules>(json: &mut Json, graph: &PageGraph<'_, K>, start: usize, views: &Json) {
     json.put_name("start");
     json.open();
     json.put_plain(start);
@@ -301,10 +287,10 @@ fn first_views(
 
 // Finds the states: the first ones, those along the schedule that is laid out at first, and those along words. The answer is the edge before the
 // first choice.
-fn lay_out<K: Schedules, O: ObserveProgress, S: Ledger>(
+fn lay_out<K: Schedules, O: ObserveProgress>(
     job: &SearchJob<'_>,
     observer: &mut O,
-    graph: &mut PageGraph<'_, K, S>,
+    graph: &mut PageGraph<'_, K>,
     state: &mut State,
     first: &[u8],
     words: &[Vec<u8>],
@@ -323,10 +309,10 @@ fn lay_out<K: Schedules, O: ObserveProgress, S: Ledger>(
 }
 
 // Finds the states along words, until so many were gone on from for these.
-fn lay_words<K: Schedules, O: ObserveProgress, S: Ledger>(
+fn lay_words<K: Schedules, O: ObserveProgress>(
     job: &SearchJob<'_>,
     observer: &mut O,
-    graph: &mut PageGraph<'_, K, S>,
+    graph: &mut PageGraph<'_, K>,
     start: usize,
     words: &[Vec<u8>],
     state: &mut State,

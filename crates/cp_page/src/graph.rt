@@ -12,7 +12,7 @@ use crate::teller::Teller;
 use arrayvec::ArrayVec;
 use cp_ends::End;
 use cp_key::StateKey;
-use cp_machine::{State, Ticks};
+use cp_machine::State;
 use cp_progress::Progress;
 use cp_run::{Halt, candidates};
 use cp_search::{SearchJob, Visit, take_choices};
@@ -20,7 +20,6 @@ use cp_story::OpenCall;
 use indexmap::IndexSet;
 use std::alloc::{AllocError, Global};
 use std::mem;
-use std::sync::ledger::{Blank, Ledger};
 
 /// What belongs to a state at a due choice, and where it leads to.
 #[derive(Drop)]
@@ -48,7 +47,7 @@ struct Onward {
 
 /// The states that were found, and the edges between them.
 #[derive(Drop)]
-pub struct PageGraph<'a, K, S: Ledger> {
+pub struct PageGraph<'a, K> {
     pub teller: Teller<'a, K>,
     length: Length,
     merging: Merging,
@@ -59,21 +58,16 @@ pub struct PageGraph<'a, K, S: Ledger> {
     known: IndexSet<StateKey>,
     /// The state that each edge leads to, where it leads to no end.
     targets: Vec<Option<usize>>,
-    ticks: Ticks<S>,
 }
 
-impl<'a, K: Schedules, S: Ledger> PageGraph<'a, K, S> {
+impl<'a, K: Schedules> PageGraph<'a, K> {
     /// A graph without states, of schedules that begin in this one.
     pub fn new(
         alloc: Global,
         subject: PageSubject<'a>,
         start: &State,
         merging: Merging,
-        blank: Blank,
-    ) -> Result<PageGraph<'a, K, S>, AllocError>
-        requires name { blank.name ≡ S.name }
-        requires parts { blank.parts ≡ S.parts }
-        requires one { S.parts ≡ 1 }
+    ) -> Result<PageGraph<'a, K>, AllocError>
         ensures { IfOk result (λ graph. graph.states.items ≡ []) }
     {
         Ok(PageGraph {
@@ -84,7 +78,6 @@ impl<'a, K: Schedules, S: Ledger> PageGraph<'a, K, S> {
             nodes: Vec::new(alloc),
             known: IndexSet::new(alloc),
             targets: Vec::new(alloc),
-            ticks: Ticks::new(blank),
         })
     }
 
@@ -97,7 +90,7 @@ impl<'a, K: Schedules, S: Ledger> PageGraph<'a, K, S> {
         ensures states { IfOk result (λ _. All (IsStateOf job.now.run.program.now) self.new.states.items) }
     {
         self.teller.begin_edge(state)?;
-        let halt = self.teller.tell_opening(&job.run, state, &mut self.ticks)?;
+        let halt = self.teller.tell_opening(&job.run, state)?;
         self.arrive(job, state, halt, 0)
     }
 
@@ -308,7 +301,7 @@ impl<'a, K: Schedules, S: Ledger> PageGraph<'a, K, S> {
     }
 }
 
-impl<'a, K: Schedules, S: Ledger> Visit for PageGraph<'a, K, S> {
+impl<'a, K: Schedules> Visit for PageGraph<'a, K> {
     ghost use Rattle.std.specs.Prelude.{All};
     ghost use Rattle.cp_machine.specs.System.{IsStateOf};
 
@@ -354,9 +347,7 @@ impl<'a, K: Schedules, S: Ledger> Visit for PageGraph<'a, K, S> {
         process: u8,
     ) -> Result<bool, AllocError> {
         let depth = self.begin_choice(at as usize, next)?;
-        let halt = self
-            .teller
-            .tell_choice(&job.run, next, process, &mut self.ticks)?;
+        let halt = self.teller.tell_choice(&job.run, next, process)?;
         let edge = self.arrive(job, next, halt, depth)?;
         self.add_edge(at as usize, edge)?;
         next.take_from(state);

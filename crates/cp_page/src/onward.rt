@@ -19,26 +19,17 @@ use cp_search::SearchJob;
 use cp_ways::{Counting, Ways};
 use indexmap::IndexSet;
 use std::alloc::AllocError;
-use std::sync::ledger::{Blank, Ledger};
 
 /// Goes through the page by the number of choices, from the edge before the first one on. Wherever schedules come to a state that the page does
 /// not go on from, it tells what can still come of them.
-pub fn tell_onward<K: Schedules, S: Ledger, X: Ledger, C: Ledger>(
+pub fn tell_onward<K: Schedules>(
     job: &SearchJob<'_>,
-    graph: &mut PageGraph<'_, K, S>,
+    graph: &mut PageGraph<'_, K>,
     start: usize,
-    steps: Blank,
-    calls: Blank,
 ) -> Result<(), AllocError>
-    requires steps_name { steps.name ≡ X.name }
-    requires steps_parts { steps.parts ≡ X.parts }
-    requires steps_one { X.parts ≡ 1 }
-    requires calls_name { calls.name ≡ C.name }
-    requires calls_parts { calls.parts ≡ C.parts }
-    requires calls_one { C.parts ≡ 1 }
     requires states { All (IsStateOf job.now.run.program.now) graph.old.states.items }
 {
-    let mut counting: Counting<X, C> = Counting::new(job.alloc, steps, calls);
+    let mut counting: Counting = Counting::new(job.alloc);
     let mut layer = IndexSet::new(job.alloc);
     if let Some(first) = graph.target_of(Some(start)) {
         layer.insert(first)?;
@@ -51,10 +42,10 @@ pub fn tell_onward<K: Schedules, S: Ledger, X: Ledger, C: Ledger>(
 }
 
 // The states to which one choice more leads from these. Those that the page does not go on from are told of, with so many choices left.
-fn next_layer<K: Schedules, S: Ledger, X: Ledger, C: Ledger>(
+fn next_layer<K: Schedules>(
     job: &SearchJob<'_>,
-    graph: &mut PageGraph<'_, K, S>,
-    counting: &mut Counting<X, C>,
+    graph: &mut PageGraph<'_, K>,
+    counting: &mut Counting,
     layer: &IndexSet<usize>,
     left: u8,
 ) -> Result<IndexSet<usize>, AllocError>
@@ -73,8 +64,8 @@ fn next_layer<K: Schedules, S: Ledger, X: Ledger, C: Ledger>(
 }
 
 // The states to which the edges of a state lead.
-fn add_targets<K: Schedules, S: Ledger>(
-    graph: &PageGraph<'_, K, S>,
+fn add_targets<K: Schedules>(
+    graph: &PageGraph<'_, K>,
     at: usize,
     targets: &mut IndexSet<usize>,
 ) -> Result<(), AllocError> {
@@ -87,10 +78,10 @@ fn add_targets<K: Schedules, S: Ledger>(
 }
 
 // Tells what can still come from the state of this place on, where the page does not go on from it, and if it can be counted.
-fn tell_state<K: Schedules, S: Ledger, X: Ledger, C: Ledger>(
+fn tell_state<K: Schedules>(
     job: &SearchJob<'_>,
-    graph: &mut PageGraph<'_, K, S>,
-    counting: &mut Counting<X, C>,
+    graph: &mut PageGraph<'_, K>,
+    counting: &mut Counting,
     at: usize,
     left: u8,
 ) -> Result<(), AllocError>
@@ -112,10 +103,10 @@ fn tell_state<K: Schedules, S: Ledger, X: Ledger, C: Ledger>(
 }
 
 /// The ways on from the state of this place, and from each one that differs from it in what was displayed before; none where they can't be counted.
-fn count_onward<K: Schedules, S: Ledger, X: Ledger, C: Ledger>(
+fn count_onward<K: Schedules>(
     job: &SearchJob<'_>,
-    graph: &PageGraph<'_, K, S>,
-    counting: &mut Counting<X, C>,
+    graph: &PageGraph<'_, K>,
+    counting: &mut Counting,
     at: usize,
     left: u8,
 ) -> Result<Option<Ways>, AllocError>

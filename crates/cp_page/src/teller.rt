@@ -20,7 +20,7 @@ use cp_ends::round::end_of_cut;
 use cp_ends::sight::Unseen;
 use cp_ends::told::Told;
 use cp_legend::Legend;
-use cp_machine::{Event as Step, Kernel, MOST_SHOWN, State, Ticks};
+use cp_machine::{Event as Step, Kernel, MOST_SHOWN, State, Uncounted};
 use cp_run::{
     Halt, Holders, Job, Observe, OutcomeKind, TraceEvent, TraceLine, Turn, observe_choice,
     observe_opening,
@@ -29,7 +29,6 @@ use cp_slots::Resolved;
 use cp_story::{Aim, NONE, Observer, aim_of};
 use std::alloc::{AllocError, Global};
 use std::marker::PhantomData;
-use std::sync::ledger::Ledger;
 
 /// Who tells what happens: the tables, the variables that stay, and the edge of which the events are told.
 #[derive(Drop)]
@@ -140,12 +139,11 @@ impl<'a, K: Schedules> Teller<'a, K> {
     }
 
     /// Tells a due choice and the stretch that follows it. Answers where it comes to.
-    pub fn tell_choice<S: Ledger>(
+    pub fn tell_choice(
         &mut self,
         job: &Job<'_>,
         state: &mut State,
         process: u8,
-        ticks: &mut Ticks<S>,
     ) -> Result<Halt<End>, AllocError>
         requires own { IsStateOf job.now.program.now state.old }
         requires may { may (slots job.now.program.now job.now.limits.discipline) (machine_of state.old) process ≡ true }
@@ -154,16 +152,15 @@ impl<'a, K: Schedules> Teller<'a, K> {
         ensures own { IsStateOf job.now.program.now state.new }
     {
         Self::forget(job.program, state);
-        let turn = observe_choice(job, state, process, ticks, self)?;
-        self.arrive(job, state, turn, ticks)
+        let turn = observe_choice(job, state, process, &mut Uncounted, self)?;
+        self.arrive(job, state, turn)
     }
 
     /// Tells the beginning of a run in the opening state.
-    pub fn tell_opening<S: Ledger>(
+    pub fn tell_opening(
         &mut self,
         job: &Job<'_>,
         state: &mut State,
-        ticks: &mut Ticks<S>,
     ) -> Result<Halt<End>, AllocError>
         requires own { IsStateOf job.now.program.now state.old }
         requires start { machine_of state.old ≡ opening job.now.program.now job.now.limits.discipline }
@@ -171,18 +168,12 @@ impl<'a, K: Schedules> Teller<'a, K> {
         ensures goal { IfOk result (λ h. K.IS_SILENT ≡ true → goal_at h (machine_of state.new) ≡ (first_arrival (slots job.now.program.now job.now.limits.discipline) without_output same_key job.now.limits.steps).goal) }
         ensures own { IsStateOf job.now.program.now state.new }
     {
-        let turn = observe_opening(job, state, ticks, self)?;
-        self.arrive(job, state, turn, ticks)
+        let turn = observe_opening(job, state, &mut Uncounted, self)?;
+        self.arrive(job, state, turn)
     }
 
     // Where a stretch comes to of which this comes next. One that the limit of steps cuts goes on, in schedules of any length, if it repeats.
-    fn arrive<S: Ledger>(
-        &self,
-        job: &Job<'_>,
-        state: &mut State,
-        turn: Turn,
-        ticks: &mut Ticks<S>,
-    ) -> Result<Halt<End>, AllocError>
+    fn arrive(&self, job: &Job<'_>, state: &mut State, turn: Turn) -> Result<Halt<End>, AllocError>
         requires own { IsStateOf job.now.program.now state.old }
         requires ready { IfGoes turn (λ q. is_ready (machine_of state.old) q ≡ true) }
         requires free { IfGoes turn (λ q. is_pending (machine_of state.old) ≡ false) }
@@ -197,7 +188,7 @@ impl<'a, K: Schedules> Teller<'a, K> {
             Turn::Goes(pid) if K::IS_SILENT => {
                 let alloc = self.register.alloc;
                 let mut told = Told::new(alloc, Unseen);
-                let end = end_of_cut(alloc, job, state, pid, &mut told, ticks)?;
+                let end = end_of_cut(alloc, job, state, pid, &mut told)?;
                 Ok(Halt::Ended(end))
             }
             Turn::Goes(_) => Ok(Halt::Ended(End::Over(OutcomeKind::StepLimit))),

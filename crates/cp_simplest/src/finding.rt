@@ -5,7 +5,7 @@ ghost use Rattle.cp_run.specs.Slots.{slots};
 ghost use Rattle.cp_simplest.specs.Simple as spec;
 
 use crate::search::SimplestVisit;
-use cp_machine::{State, Ticks};
+use cp_machine::{State, Uncounted};
 use cp_merged::Word;
 use cp_progress::ObserveProgress;
 use cp_run::{Outcome, RunEnd, run};
@@ -13,8 +13,6 @@ use cp_search::{SearchJob, visit_all};
 use cp_walk::Job;
 use cp_walk::numbers::is_same;
 use std::alloc::{AllocError, Global};
-use std::marker::Brand;
-use std::sync::ledger::{Blank, Ledger};
 
 /// A schedule, and how many switches it has.
 #[derive(Drop)]
@@ -43,56 +41,35 @@ pub fn simplest<O: ObserveProgress>(
     outcomes: &[&Outcome],
     observer: &mut O,
 ) -> Result<Searched, AllocError> {
-    let Job { program, limits } = job;
     // A state is gone on from by several words, so the visitor counts its states itself.
     let job = SearchJob {
         alloc,
-        run: Job { program, limits },
+        run: job,
         most: u32::MAX,
     };
-    let steps = Blank::new(1);
-    search_for::<O, Brand, Brand>(&job, most, outcomes, observer, steps, Blank::new(1))
-}
-
-fn search_for<O: ObserveProgress, S: Ledger, C: Ledger>(
-    job: &SearchJob<'_>,
-    most: u32,
-    outcomes: &[&Outcome],
-    observer: &mut O,
-    steps: Blank,
-    calls: Blank,
-) -> Result<Searched, AllocError>
-    requires steps_name { steps.name ≡ S.name }
-    requires steps_parts { steps.parts ≡ S.parts }
-    requires steps_one { S.parts ≡ 1 }
-    requires calls_name { calls.name ≡ C.name }
-    requires calls_parts { calls.parts ≡ C.parts }
-    requires calls_one { C.parts ≡ 1 }
-{
-    let mut visit: SimplestVisit<S, C> = SimplestVisit::new(job, most, outcomes, steps, calls)?;
+    let mut visit = SimplestVisit::new(&job, most, outcomes)?;
     let mut state = State::start(job.alloc, job.run.program, job.run.limits.discipline)?;
     let mut next = state.copy(job.alloc)?;
-    if !visit.open(job, &mut state)? {
+    if !visit.open(&job, &mut state)? {
         return Ok(Searched::TooMany);
     }
-    match visit_all(job, &mut visit, &mut state, &mut next, observer)? {
+    match visit_all(&job, &mut visit, &mut state, &mut next, observer)? {
         Some(_) => Ok(Searched::TooMany),
         None => Ok(Searched::Found(visit.found)),
     }
 }
 
 /// Whether the run of a word uses all of it and ends with an outcome.
-pub fn is_schedule_of<L: Ledger>(
+pub fn is_schedule_of(
     alloc: Global,
     job: &Job<'_>,
     word: &[u8],
     outcome: &Outcome,
-    ticks: &mut Ticks<L>,
 ) -> Result<bool, AllocError>
     requires { length word.now ≤ 100 }
     ensures { IfOk result (λ is. is ≡ true → spec.IsScheduleOf (slots job.now.program.now job.now.limits.discipline) job.now.limits.choices job.now.limits.steps word.now outcome.now) }
 {
-    match run(alloc, job, word, ticks)? {
+    match run(alloc, job, word, &mut Uncounted)? {
         RunEnd::Ended {
             outcome: found,
             used,

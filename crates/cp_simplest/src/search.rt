@@ -9,7 +9,7 @@ use crate::finding::SimplestSchedule;
 use crate::label::{Label, Target};
 use crate::states::States;
 use crate::watching::LastMoved;
-use cp_machine::{State, Ticks};
+use cp_machine::{State, Uncounted};
 use cp_merged::end_key::EndKey;
 use cp_progress::Progress;
 use cp_run::choice::{choose, open};
@@ -18,11 +18,10 @@ use cp_search::{SearchJob, Visit};
 use indexmap::IndexSet;
 use std::alloc::AllocError;
 use std::collections::BTreeMap;
-use std::sync::ledger::{Blank, Ledger};
 
 /// What was found so far. A visit is one of a word, which leads to a state that others may lead to as well.
 #[derive(Drop)]
-pub struct SimplestVisit<S: Ledger, C: Ledger> {
+pub struct SimplestVisit {
     pub states: States,
     /// For each state, and for each process that made the last step, the lengths of the words that were gone on from there, as bits.
     lengths: Vec<[u128; 16]>,
@@ -41,25 +40,15 @@ pub struct SimplestVisit<S: Ledger, C: Ledger> {
     label: Label,
     last: u8,
     may_stay: bool,
-    steps: Ticks<S>,
-    calls: Ticks<C>,
 }
 
-impl<S: Ledger, C: Ledger> SimplestVisit<S, C> {
+impl SimplestVisit {
     /// Nothing is found, of these outcomes.
     pub fn new(
         job: &SearchJob<'_>,
         most: u32,
         outcomes: &[&Outcome],
-        steps: Blank,
-        calls: Blank,
-    ) -> Result<SimplestVisit<S, C>, AllocError>
-        requires steps_name { steps.name ≡ S.name }
-        requires steps_parts { steps.parts ≡ S.parts }
-        requires steps_one { S.parts ≡ 1 }
-        requires calls_name { calls.name ≡ C.name }
-        requires calls_parts { calls.parts ≡ C.parts }
-        requires calls_one { C.parts ≡ 1 }
+    ) -> Result<SimplestVisit, AllocError>
         ensures { IfOk result (λ visit. (r : Tables) → AreOwn r visit.states) }
     {
         let mut ends = IndexSet::new(job.alloc);
@@ -86,8 +75,6 @@ impl<S: Ledger, C: Ledger> SimplestVisit<S, C> {
             label: Label::empty(),
             last: 0,
             may_stay: false,
-            steps: Ticks::new(steps),
-            calls: Ticks::new(calls),
         })
     }
 
@@ -99,7 +86,7 @@ impl<S: Ledger, C: Ledger> SimplestVisit<S, C> {
         ensures own { IsStateOf job.now.run.program.now state.new }
         ensures states { IfOk result (λ _. AreOwn job.now.run.program.now self.new.states) }
     {
-        let halt = open(&job.run, state, &mut self.steps, &mut self.calls);
+        let halt = open(&job.run, state, &mut Uncounted, &mut Uncounted);
         self.arrive(job, halt, state, Label::empty(), 0)
     }
 
@@ -218,7 +205,7 @@ impl<S: Ledger, C: Ledger> SimplestVisit<S, C> {
     }
 }
 
-impl<S: Ledger, C: Ledger> Visit for SimplestVisit<S, C> {
+impl Visit for SimplestVisit {
     ghost use Rattle.cp_simplest.specs.Own.{AreOwn};
 
     ghost before = { λ v job n. AreOwn job.run.program.now v.states };
@@ -266,8 +253,8 @@ impl<S: Ledger, C: Ledger> Visit for SimplestVisit<S, C> {
             next,
             process,
             &mut watch,
-            &mut self.steps,
-            &mut self.calls,
+            &mut Uncounted,
+            &mut Uncounted,
         );
         let label = self.label.extended(process, is_switch);
         let is_room = self.arrive(job, halt, next, label, watch.process)?;

@@ -27,11 +27,10 @@ use crate::reasons::{WaitReason, reasons_at};
 use crate::statuses::status_of;
 use crate::stopping::{AbruptEnd, abrupt_end};
 use cp_legend::Legend;
-use cp_machine::{Event as Step, Signals, State, Status, Ticks};
+use cp_machine::{Count, Event as Step, Signals, State, Status};
 use cp_run::{Job, Observe, RunEnd, TraceEvent, TraceLine, candidates, holders, observe_run};
 use cp_slots::Resolved;
 use std::alloc::{AllocError, Global};
-use std::sync::ledger::Ledger;
 
 /// The most numbers of a word that is told.
 pub const MOST_NUMBERS: usize = 100;
@@ -282,12 +281,12 @@ fn is_inside(state: &State, monitor: u8, process: u8) -> bool
 
 /// Runs a word from the opening state and tells what happens: the events of its trace, and the run's end.
 /// `ticks` counts the steps that succeed.
-pub fn tell<L: Ledger>(
+pub fn tell<S: Count>(
     alloc: Global,
     job: &Job<'_>,
     legend: &Legend,
     word: &[u8],
-    ticks: &mut Ticks<L>,
+    ticks: &mut S,
 ) -> Result<Story, AllocError>
     requires { length word.now ≤ 100 }
     ensures lines { IfOk result (λ s. lines_of s.events.items ≡ trace (slots job.now.program.now job.now.limits.discipline) job.now.limits.choices job.now.limits.steps word.now) }
@@ -301,7 +300,7 @@ pub fn tell<L: Ledger>(
     ensures reasons { IfOk result (λ s. map reason_seen s.reasons.items ≡ reasons_of_run (legend_seen legend.now) job.now.program.now job.now.limits.discipline job.now.limits.choices job.now.limits.steps word.now) }
     ensures left { IfOk result (λ s. s.left ≡ numbers_left word.now (run (slots job.now.program.now job.now.limits.discipline) job.now.limits.choices job.now.limits.steps word.now)) }
     ensures signals { IfOk result (λ s. s.signals ≡ job.now.limits.discipline.signals) }
-    ensures ticks { ticks.new ≤ ticks.old + (job.now.limits.choices + 1) * job.now.limits.steps }
+    ensures ticks { S.count ticks.new ≤ S.count ticks.old + (job.now.limits.choices + 1) * job.now.limits.steps }
 {
     let mut state = State::start(alloc, job.program, job.limits.discipline)?;
     let observer = Observer::new(alloc, legend, &state)?;

@@ -15,13 +15,11 @@ use cp_explore::{
     Cutting, ExploreFault, Job, MergeFault, NoGate, Table, Text, explore_merged, explore_observed,
     merged_report, report, trace_report,
 };
-use cp_machine::Ticks;
+use cp_machine::Uncounted;
 use cp_progress::ObserveProgress;
 use cp_run::trace;
 use cp_slots::Resolved;
 use std::alloc::{AllocError, Global};
-use std::marker::Brand;
-use std::sync::ledger::{Blank, Ledger};
 use std::thread::Threads;
 
 /// The trace of the schedule that the options name, or the report of all schedules.
@@ -35,13 +33,7 @@ pub fn explore_program<X: Threads + Sync, O: ObserveProgress>(
     ensures { IfOk result (λ a. on_slots.IsExploredOn options.now program.now a.verdict a.text) }
 {
     match &options.schedule {
-        Some(word) => trace_schedule::<Brand>(
-            alloc,
-            options,
-            program,
-            word.as_slice(),
-            Blank::new(1),
-        ),
+        Some(word) => trace_schedule(alloc, options, program, word.as_slice()),
         None => {
             if options.merge {
                 report_merged(alloc, options, observer, program)
@@ -52,22 +44,17 @@ pub fn explore_program<X: Threads + Sync, O: ObserveProgress>(
     }
 }
 
-fn trace_schedule<L: Ledger>(
+fn trace_schedule(
     alloc: Global,
     options: &Options,
     program: &Resolved,
     word: &[u8],
-    blank: Blank,
 ) -> Result<Answer, AllocError>
-    requires name { blank.name ≡ L.name }
-    requires parts { blank.parts ≡ L.parts }
-    requires one { L.parts ≡ 1 }
     requires word { length word.now ≤ 100 }
     ensures { IfOk result (λ a. spec.IsTraced options.now (on_slots.machine options.now program.now) program.now.names word.now a.verdict a.text) }
 {
     let limits = options.limits();
-    let mut ticks: Ticks<L> = Ticks::new(blank);
-    let (lines, end) = trace(alloc, &Job { program, limits }, word, &mut ticks)?;
+    let (lines, end) = trace(alloc, &Job { program, limits }, word, &mut Uncounted)?;
     let report = trace_report(alloc, program, &lines, &end, word)?;
     Ok(Answer {
         verdict: Verdict::Reported,

@@ -23,8 +23,6 @@ use cp_progress::{ObserveProgress, Progress};
 use cp_run::{Halt, Job};
 use cp_search::{SearchJob, Visit, visit_all};
 use std::alloc::{AllocError, Global};
-use std::marker::Brand;
-use std::sync::ledger::{Blank, Ledger};
 
 /// What a search finds, and the choices of each state with what happens on the way to the next one.
 #[derive(Drop)]
@@ -35,8 +33,8 @@ pub struct FoundGraph {
 
 // What is found so far, and the choices of the states that were gone on from.
 #[derive(Drop)]
-struct GraphVisit<S: Ledger> {
-    ends: EndsVisit<S, PassingSets>,
+struct GraphVisit {
+    ends: EndsVisit<PassingSets>,
     graph: Graph,
 }
 
@@ -57,22 +55,18 @@ pub fn search_graph<O: ObserveProgress>(
         run: *job,
         most: states,
     };
-    build_graph::<O, Brand>(&job, observer, Blank::new(1))
+    build_graph(&job, observer)
 }
 
-fn build_graph<O: ObserveProgress, S: Ledger>(
+fn build_graph<O: ObserveProgress>(
     job: &SearchJob<'_>,
     observer: &mut O,
-    blank: Blank,
 ) -> Result<FoundGraph, AllocError>
-    requires name { blank.name ≡ S.name }
-    requires parts { blank.parts ≡ S.parts }
-    requires one { S.parts ≡ 1 }
     requires most { 1 ≤ job.now.most }
     ensures { IfOk result (λ x. IsSearchedGraph job.now.run.program.now job.now.run.limits.discipline job.now.run.limits.steps job.now.most x.found x.graph x.found.stopped) }
 {
-    let mut visit: GraphVisit<S> = GraphVisit {
-        ends: EndsVisit::new(job.alloc, PassingSets::begin(job.run.program), blank),
+    let mut visit: GraphVisit = GraphVisit {
+        ends: EndsVisit::new(job.alloc, PassingSets::begin(job.run.program)),
         graph: Graph::new(job.alloc, job.run.program.processes()),
     };
     let mut state = State::start(job.alloc, job.run.program, job.run.limits.discipline)?;
@@ -87,7 +81,7 @@ fn build_graph<O: ObserveProgress, S: Ledger>(
     Ok(FoundGraph { found, graph })
 }
 
-impl<S: Ledger> Visit for GraphVisit<S> {
+impl Visit for GraphVisit {
     ghost use Rattle.cp_ends.specs.Answer.{IsStopped, slot_graph};
     ghost use Rattle.cp_waits.specs.Building.{IsBuilt, IsBuiltTo, IsWithin};
 

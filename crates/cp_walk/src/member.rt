@@ -9,38 +9,27 @@ use crate::fault::ExploreFault;
 use crate::observer::ObserveWalk;
 use crate::one_thread::walk_on;
 use crate::row::Row;
-use cp_machine::{State, Ticks, Unwatched};
+use cp_machine::{State, Uncounted, Unwatched};
 use cp_run::{Job, choose, is_over, may, open};
 use std::alloc::Global;
-use std::sync::ledger::{Blank, Ledger};
 
 /// The rows of a table that begin with a word, which is replayed once.
-pub fn member_rows<S: Ledger, C: Ledger, N: ObserveWalk>(
+pub fn member_rows<N: ObserveWalk>(
     alloc: Global,
     job: &Job<'_>,
     word: &[u8],
-    blank: Blank,
-    other: Blank,
     observer: &mut N,
 ) -> Result<Vec<Row>, ExploreFault>
-    requires name { blank.name ≡ S.name }
-    requires parts { blank.parts ≡ S.parts }
-    requires one { S.parts ≡ 1 }
-    requires other_name { other.name ≡ C.name }
-    requires other_parts { other.parts ≡ C.parts }
-    requires other_one { C.parts ≡ 1 }
     requires short { length word.now ≤ 20 }
     requires few { job.now.limits.choices ≤ 20 }
     ensures rows { IfOk result (λ v. map line_of v.items ≡ rows_behind (slots job.now.program.now job.now.limits.discipline) job.now.limits.choices job.now.limits.steps word.now) }
     ensures few { IfOk result (λ v. length v.items ≤ 50000) }
     ensures many { IfErr result (λ e. IsTooMany e → 50000 < length (rows_behind (slots job.now.program.now job.now.limits.discipline) job.now.limits.choices job.now.limits.steps word.now)) }
 {
-    let mut steps: Ticks<S> = Ticks::new(blank);
-    let mut calls: Ticks<C> = Ticks::new(other);
     let Ok(mut state) = State::start(alloc, job.program, job.limits.discipline) else {
         return Err(ExploreFault::Memory);
     };
-    let mut halt = open(job, &mut state, &mut steps, &mut calls);
+    let mut halt = open(job, &mut state, &mut Uncounted, &mut Uncounted);
     for (place, process) in word.iter().enumerate() {
         if is_over(job.limits, halt, place) {
             return Ok(Vec::new(alloc));
@@ -53,11 +42,9 @@ pub fn member_rows<S: Ledger, C: Ledger, N: ObserveWalk>(
             &mut state,
             *process,
             &mut Unwatched,
-            &mut steps,
-            &mut calls,
+            &mut Uncounted,
+            &mut Uncounted,
         );
     }
-    walk_on(
-        alloc, job, &mut state, halt, word, steps, &mut calls, observer,
-    )
+    walk_on(alloc, job, &mut state, halt, word, &mut Uncounted, observer)
 }

@@ -17,73 +17,42 @@ use crate::observer::ObserveWalk;
 use crate::row::{Row, Rows, Table};
 use crate::walk::Walk;
 use crate::word::word_of;
-use cp_machine::{State, Ticks};
+use cp_machine::{Count, State, Uncounted};
 use cp_progress::Unobserved;
 use cp_run::{Halt, Job, OutcomeKind, open};
 use cp_slots::Resolved;
 use std::alloc::{AllocError, Global};
-use std::marker::Brand;
-use std::sync::ledger::{Blank, Ledger};
 
 /// The table of a job, by one walk over the tree of words. `calls` is raised by one by each call of `choose` and `open`; no word is replayed.
-pub fn walk_on_one_thread<L: Ledger>(
-    alloc: Global,
-    job: Job,
-    calls: &mut Ticks<L>,
-) -> Result<Table, ExploreFault>
-    requires { job.limits.choices ≤ 20 }
-    ensures table { IfOk result (λ t. map line_of t.rows ≡ table (slots job.entry.program.now job.entry.limits.discipline) job.entry.limits.choices job.entry.limits.steps) }
-    ensures few { IfOk result (λ t. length t.rows ≤ 50000) }
-    ensures many { IfErr result (λ e. IsTooMany e → 50000 < length (table (slots job.entry.program.now job.entry.limits.discipline) job.entry.limits.choices job.entry.limits.steps)) }
-    ensures calls { IfOk result (λ t. calls.new ≤ calls.old + beginnings (words_of_rows t.rows)) }
-{
-    explore_counted::<Brand, L>(alloc, &job, calls, Blank::new(1))
-}
-
-fn explore_counted<S: Ledger, C: Ledger>(
+pub fn walk_on_one_thread<C: Count>(
     alloc: Global,
     job: &Job<'_>,
-    calls: &mut Ticks<C>,
-    blank: Blank,
+    calls: &mut C,
 ) -> Result<Table, ExploreFault>
-    requires name { blank.name ≡ S.name }
-    requires parts { blank.parts ≡ S.parts }
-    requires one { S.parts ≡ 1 }
-    requires short { job.now.limits.choices ≤ 20 }
+    requires { job.now.limits.choices ≤ 20 }
     ensures table { IfOk result (λ t. map line_of t.rows ≡ table (slots job.now.program.now job.now.limits.discipline) job.now.limits.choices job.now.limits.steps) }
     ensures few { IfOk result (λ t. length t.rows ≤ 50000) }
     ensures many { IfErr result (λ e. IsTooMany e → 50000 < length (table (slots job.now.program.now job.now.limits.discipline) job.now.limits.choices job.now.limits.steps)) }
-    ensures calls { IfOk result (λ t. calls.new ≤ calls.old + beginnings (words_of_rows t.rows)) }
+    ensures calls { IfOk result (λ t. C.count calls.new ≤ C.count calls.old + beginnings (words_of_rows t.rows)) }
 {
-    let mut steps: Ticks<S> = Ticks::new(blank);
     let Ok(mut first) = State::start(alloc, job.program, job.limits.discipline) else {
         return Err(ExploreFault::Memory);
     };
-    let halt = open(job, &mut first, &mut steps, calls);
-    let rows = walk_on(
-        alloc,
-        job,
-        &mut first,
-        halt,
-        &[],
-        steps,
-        calls,
-        &mut Unobserved,
-    )?;
+    let halt = open(job, &mut first, &mut Uncounted, calls);
+    let rows = walk_on(alloc, job, &mut first, halt, &[], calls, &mut Unobserved)?;
     Ok(Table {
         rows: Rows::new(rows),
     })
 }
 
 /// Walks from a node on, of which no states are known: the rows of the node at the end of `word`.
-pub fn walk_on<S: Ledger, C: Ledger, N: ObserveWalk>(
+pub fn walk_on<C: Count, N: ObserveWalk>(
     alloc: Global,
     job: &Job<'_>,
     state: &mut State,
     halt: Halt<OutcomeKind>,
     word: &[u8],
-    steps: Ticks<S>,
-    calls: &mut Ticks<C>,
+    calls: &mut C,
     observer: &mut N,
 ) -> Result<Vec<Row>, ExploreFault>
     requires own { IsStateOf job.now.program.now state.old }
@@ -93,7 +62,7 @@ pub fn walk_on<S: Ledger, C: Ledger, N: ObserveWalk>(
     ensures rows { IfOk result (λ v. map line_of v.items ≡ map (behind word.now) (node_rows job.now.program.now job.now.limits (job.now.limits.choices - length word.now) (node_of halt (machine_of state.old)))) }
     ensures few { IfOk result (λ v. length v.items ≤ 50000) }
     ensures many { IfErr result (λ e. IsTooMany e → 50000 < length (node_rows job.now.program.now job.now.limits (job.now.limits.choices - length word.now) (node_of halt (machine_of state.old)))) }
-    ensures calls { IfOk result (λ _. calls.new + 1 ≤ calls.old + beginnings (words_in (node_rows job.now.program.now job.now.limits (job.now.limits.choices - length word.now) (node_of halt (machine_of state.old))))) }
+    ensures calls { IfOk result (λ _. C.count calls.new + 1 ≤ C.count calls.old + beginnings (words_in (node_rows job.now.program.now job.now.limits (job.now.limits.choices - length word.now) (node_of halt (machine_of state.old))))) }
 {
     let left = job.limits.choices - word.len() as u8;
     let Ok(mut kept) = copies(alloc, job.program, state, left) else {
@@ -108,7 +77,6 @@ pub fn walk_on<S: Ledger, C: Ledger, N: ObserveWalk>(
         alloc,
         word: path,
         found: Found { rows, walked },
-        steps,
         observer,
     };
     walk.walk_from(job, state, halt, kept.as_mut_slice(), calls)?;

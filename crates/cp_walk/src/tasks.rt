@@ -9,8 +9,6 @@ use crate::observer::ObserveWalk;
 use crate::row::Row;
 use crate::worker::Work;
 use std::alloc::Global;
-use std::marker::Brand;
-use std::sync::ledger::Blank;
 
 impl Work for Cutting<'_> {
     ghost rows = { λ c i. member_rows c.job.program.now c.job.limits c.words.items i };
@@ -24,13 +22,6 @@ impl Work for Cutting<'_> {
         let Some(word) = self.words.get(task as usize) else {
             return Ok(Vec::new(alloc));
         };
-        member_rows::<Brand, Brand, N>(
-            alloc,
-            &self.job,
-            word.as_slice(),
-            Blank::new(1),
-            Blank::new(1),
-            observer,
-        )
+        member_rows(alloc, &self.job, word.as_slice(), observer)
     }
 }

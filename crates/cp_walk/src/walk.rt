@@ -18,25 +18,23 @@ use crate::replay::add_replayed;
 use crate::row::Row;
 use crate::word::word_of;
 use arrayvec::ArrayVec;
-use cp_machine::{State, Ticks, Unwatched};
+use cp_machine::{Count, State, Uncounted, Unwatched};
 use cp_run::{Halt, Job, OutcomeKind, candidates, choose, outcome_at};
 use std::alloc::Global;
-use std::sync::ledger::Ledger;
 
 /// The most rows of a table.
 pub const MOST_ROWS: usize = 50_000;
 
 /// A walk: the word that it is at, what it has found, and whoever is told of it.
 #[derive(Drop)]
-pub struct Walk<'a, S: Ledger, N: ObserveWalk> {
+pub struct Walk<'a, N: ObserveWalk> {
     pub alloc: Global,
     pub word: ArrayVec<u8, 20>,
     pub found: Found,
-    pub steps: Ticks<S>,
     pub observer: &'a mut N,
 }
 
-impl<'a, S: Ledger, N: ObserveWalk> Walk<'a, S, N> {
+impl<'a, N: ObserveWalk> Walk<'a, N> {
     fn add_row(&mut self, state: &State, kind: OutcomeKind) -> Result<(), ExploreFault>
         ensures row { IfOk result (λ _. map line_of self.new.found.rows.items ≡ map line_of self.old.found.rows.items ++ record { word = self.old.word.items; outcome = record { kind = kind; output = output_of (machine_of state.now) } } ∷ []) }
         ensures few { IfOk result (λ _. length self.new.found.rows.items ≤ 50000) }
@@ -64,13 +62,13 @@ impl<'a, S: Ledger, N: ObserveWalk> Walk<'a, S, N> {
     /// Walks from a node, at the end of the word; there is a kept state for each choice left. The node's state goes on with the last number
     /// that may be chosen, so that it is copied once less than there are numbers.
     #[cycle(walk_from)]
-    pub fn walk_from<C: Ledger>(
+    pub fn walk_from<C: Count>(
         &mut self,
         job: &Job<'_>,
         state: &mut State,
         halt: Halt<OutcomeKind>,
         kept: &mut [State],
-        calls: &mut Ticks<C>,
+        calls: &mut C,
     ) -> Result<(), ExploreFault>
         requires own { IsStateOf job.now.program.now state.old }
         requires due { IsDue (slots job.now.program.now job.now.limits.discipline) (node_of halt (machine_of state.old)) }
@@ -81,7 +79,7 @@ impl<'a, S: Ledger, N: ObserveWalk> Walk<'a, S, N> {
         ensures walked { IfOk result (λ _. HasWalked job.now.program.now job.now.limits self.old.word.items (length kept.old) (node_of halt (machine_of state.old)) self.old.found self.new.found) }
         ensures word { IfOk result (λ _. self.new.word.items ≡ self.old.word.items) }
         ensures many { IfErr result (λ e. IsTooMany e → 50000 < length self.old.found.rows.items + length (node_rows job.now.program.now job.now.limits (length kept.old) (node_of halt (machine_of state.old)))) }
-        ensures calls { IfOk result (λ _. calls.new + 1 ≤ calls.old + beginnings (words_in (node_rows job.now.program.now job.now.limits (length kept.old) (node_of halt (machine_of state.old))))) }
+        ensures calls { IfOk result (λ _. C.count calls.new + 1 ≤ C.count calls.old + beginnings (words_in (node_rows job.now.program.now job.now.limits (length kept.old) (node_of halt (machine_of state.old))))) }
     {
         if let Halt::Ended(kind) = halt {
             return self.add_row(state, kind);
@@ -102,13 +100,13 @@ impl<'a, S: Ledger, N: ObserveWalk> Walk<'a, S, N> {
 
     /// The same. Where a node like this one was walked, its rows are taken once more, with another beginning.
     #[cycle(walk_from)]
-    fn walk_once<C: Ledger>(
+    fn walk_once<C: Count>(
         &mut self,
         job: &Job<'_>,
         state: &mut State,
         halt: Halt<OutcomeKind>,
         kept: &mut [State],
-        calls: &mut Ticks<C>,
+        calls: &mut C,
     ) -> Result<(), ExploreFault>
         requires own { IsStateOf job.now.program.now state.old }
         requires due { IsDue (slots job.now.program.now job.now.limits.discipline) (node_of halt (machine_of state.old)) }
@@ -119,7 +117,7 @@ impl<'a, S: Ledger, N: ObserveWalk> Walk<'a, S, N> {
         ensures walked { IfOk result (λ _. HasWalked job.now.program.now job.now.limits self.old.word.items (length kept.old) (node_of halt (machine_of state.old)) self.old.found self.new.found) }
         ensures word { IfOk result (λ _. self.new.word.items ≡ self.old.word.items) }
         ensures many { IfErr result (λ e. IsTooMany e → 50000 < length self.old.found.rows.items + length (node_rows job.now.program.now job.now.limits (length kept.old) (node_of halt (machine_of state.old)))) }
-        ensures calls { IfOk result (λ _. calls.new + 1 ≤ calls.old + beginnings (words_in (node_rows job.now.program.now job.now.limits (length kept.old) (node_of halt (machine_of state.old))))) }
+        ensures calls { IfOk result (λ _. C.count calls.new + 1 ≤ C.count calls.old + beginnings (words_in (node_rows job.now.program.now job.now.limits (length kept.old) (node_of halt (machine_of state.old))))) }
     {
         let Ok(key) = self.found.walked.key_of(state, halt, kept.len() as u8) else {
             return Err(ExploreFault::Memory);
@@ -147,13 +145,13 @@ impl<'a, S: Ledger, N: ObserveWalk> Walk<'a, S, N> {
 
     /// Takes a due choice in a state, and walks from where it leads to.
     #[cycle(walk_from)]
-    fn walk_child<C: Ledger>(
+    fn walk_child<C: Count>(
         &mut self,
         job: &Job<'_>,
         state: &mut State,
         process: u8,
         deeper: &mut [State],
-        calls: &mut Ticks<C>,
+        calls: &mut C,
     ) -> Result<(), ExploreFault>
         requires own { IsStateOf job.now.program.now state.old }
         requires may { may (slots job.now.program.now job.now.limits.discipline) (machine_of state.old) process ≡ true }
@@ -164,9 +162,9 @@ impl<'a, S: Ledger, N: ObserveWalk> Walk<'a, S, N> {
         ensures walked { IfOk result (λ _. HasWalked job.now.program.now job.now.limits (self.old.word.items ++ process ∷ []) (length deeper.old) (chosen (slots job.now.program.now job.now.limits.discipline) job.now.limits.steps (machine_of state.old) process) self.old.found self.new.found) }
         ensures word { IfOk result (λ _. self.new.word.items ≡ self.old.word.items) }
         ensures many { IfErr result (λ e. IsTooMany e → 50000 < length self.old.found.rows.items + length (node_rows job.now.program.now job.now.limits (length deeper.old) (chosen (slots job.now.program.now job.now.limits.discipline) job.now.limits.steps (machine_of state.old) process))) }
-        ensures calls { IfOk result (λ _. calls.new ≤ calls.old + beginnings (words_in (node_rows job.now.program.now job.now.limits (length deeper.old) (chosen (slots job.now.program.now job.now.limits.discipline) job.now.limits.steps (machine_of state.old) process)))) }
+        ensures calls { IfOk result (λ _. C.count calls.new ≤ C.count calls.old + beginnings (words_in (node_rows job.now.program.now job.now.limits (length deeper.old) (chosen (slots job.now.program.now job.now.limits.discipline) job.now.limits.steps (machine_of state.old) process)))) }
     {
-        let halt = choose(job, state, process, &mut Unwatched, &mut self.steps, calls);
+        let halt = choose(job, state, process, &mut Unwatched, &mut Uncounted, calls);
         self.word.push(process);
         self.walk_once(job, state, halt, deeper, calls)?;
         let _ = self.word.pop();

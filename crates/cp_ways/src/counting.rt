@@ -14,11 +14,10 @@ ghost use Rattle.cp_ways.specs.Weights.{after, total, Adds, AreKnown, WeighAs};
 use crate::key::key_of_ways;
 use crate::ways::Ways;
 use cp_key::StateKey;
-use cp_machine::{Shown, State, Ticks, Unwatched};
+use cp_machine::{Shown, State, Uncounted, Unwatched};
 use cp_run::{Halt, Job, OutcomeKind, candidates, choose};
 use indexmap::IndexMap;
 use std::alloc::{AllocError, Global};
-use std::sync::ledger::{Blank, Ledger};
 
 /// How many states are remembered, each with a number of choices left.
 const MOST_KNOWN: usize = 50_000;
@@ -42,30 +41,20 @@ impl From<AllocError> for WaysFault {
 
 /// The ways on that are known.
 #[derive(Drop)]
-pub struct Counting<S: Ledger, C: Ledger> {
+pub struct Counting {
     pub known: IndexMap<StateKey, Ways>,
     /// How many outcomes these have.
     outcomes: usize,
-    steps: Ticks<S>,
-    calls: Ticks<C>,
 }
 
-impl<S: Ledger, C: Ledger> Counting<S, C> {
+impl Counting {
     /// Nothing is known.
-    pub fn new(alloc: Global, steps: Blank, calls: Blank) -> Counting<S, C>
-        requires steps_name { steps.name ≡ S.name }
-        requires steps_parts { steps.parts ≡ S.parts }
-        requires steps_one { S.parts ≡ 1 }
-        requires calls_name { calls.name ≡ C.name }
-        requires calls_parts { calls.parts ≡ C.parts }
-        requires calls_one { C.parts ≡ 1 }
+    pub fn new(alloc: Global) -> Counting
         ensures { result.known.entries ≡ [] }
     {
         Counting {
             known: IndexMap::new(alloc),
             outcomes: 0,
-            steps: Ticks::new(steps),
-            calls: Ticks::new(calls),
         }
     }
 
@@ -173,8 +162,8 @@ impl<S: Ledger, C: Ledger> Counting<S, C> {
             &mut next,
             process,
             &mut Unwatched,
-            &mut self.steps,
-            &mut self.calls,
+            &mut Uncounted,
+            &mut Uncounted,
         );
         let shown = shown_since(state, &next);
         match halt {

@@ -9,8 +9,8 @@ use Rattle.cp_at_once.proofs.leg.take_leg.Goals as goal
 use Rattle.cp_at_once.proofs.leg.take_leg.Goals.{then-not-local_step+in-Local+else-is_some, else-not-local_step}
 
 pub loop-preserved : goal.loop-preserved
-loop-preserved g c =
-    let r = c.args.job.now.run.program.now in
+loop-preserved c =
+    let r = c.args.job.now.program.now in
     let p = c.args.pid in
     let old : Machine = machine_of c.loop.state in
     let m = machine_of c.local_step.new.state in
@@ -43,10 +43,10 @@ loop-preserved g c =
     ]
 
 pub returns-in_default : goal.returns-in_default
-returns-in_default g c =
-    let r = c.args.job.now.run.program.now in
+returns-in_default c =
+    let r = c.args.job.now.program.now in
     let p = c.args.pid in
-    let discipline = c.args.job.now.run.limits.discipline in
+    let discipline = c.args.job.now.limits.discipline in
     let n = machine_of c.step-event.new.state in
     let none : c.local_step.result ≡ false = search in
     let same = c.local_step.ensures.same none in
@@ -57,33 +57,33 @@ returns-in_default g c =
     }
 
 pub returns-then-is_some-clause-kept : goal.returns-then-is_some-clause-kept
-returns-then-is_some-clause-kept g c = λ moved before k this.
-    (let r = c.args.job.now.run.program.now in
+returns-then-is_some-clause-kept c = λ moved before k this.
+    (let r = c.args.job.now.program.now in
     let p = c.args.pid in
     let none : c.local_step.result ≡ false = search in
     let same = c.local_step.ensures.same none in
     kept_by r moved before (machine_of c.loop.state) (machine_of c.step-event.new.state) p Local (c.loop.invariant.kept moved before k this) this (ap (λ x. step_at r x p) (sym same) ∙ c.in-Local.ensures.after))
 
 pub local_step-requires-clause-own : goal.local_step-requires-clause-own
-local_step-requires-clause-own g c = c.loop.invariant.own
+local_step-requires-clause-own c = c.loop.invariant.own
 
 pub local_step-requires-clause-still : goal.local_step-requires-clause-still
-local_step-requires-clause-still g c = c.loop.invariant.free
+local_step-requires-clause-still c = c.loop.invariant.free
 
 pub step-event-requires-clause-own : goal.step-event-requires-clause-own
-step-event-requires-clause-own g c = c.local_step.ensures.own
+step-event-requires-clause-own c = c.local_step.ensures.own
 
 pub step-event-requires-clause-still : goal.step-event-requires-clause-still
-step-event-requires-clause-still g c = c.local_step.ensures.still
+step-event-requires-clause-still c = c.local_step.ensures.still
 
 pub returns-then-is_some-clause-own : goal.returns-then-is_some-clause-own
-returns-then-is_some-clause-own g c = c.step-event.ensures.own
+returns-then-is_some-clause-own c = c.step-event.ensures.own
 
 pub returns-clause-own : goal.returns-clause-own
-returns-clause-own g c = c.loop.invariant.own
+returns-clause-own c = c.loop.invariant.own
 
 pub returns-clause-leg : goal.returns-clause-leg
-returns-clause-leg g c = λ quiet. absurd (false≢true quiet)
+returns-clause-leg c = λ quiet. absurd (false≢true quiet)
 
 pub returns-clause-kept : goal.returns-clause-kept
-returns-clause-kept g c = c.loop.invariant.kept
+returns-clause-kept c = c.loop.invariant.kept

@@ -3,7 +3,7 @@ use Rattle.cp_machine.specs.System.{Machine, machine_of, is_ready, is_pending, o
 use Rattle.cp_at_once.proofs.leg.take_leg.Given as goal
 
 abbrev pub invariant-loop : goal.invariant-loop
-invariant-loop g l =
+invariant-loop l =
     record {
       own : IsStateOf l.job.program.now l.state;
       ready : is_ready (machine_of l.state) l.pid ≡ true;

@@ -7,9 +7,9 @@ use Rattle.cp_at_once.proofs.search.search_with.Goals as goal
 pub visit_all-requires-clause-begun : goal.visit_all-requires-clause-begun
 visit_all-requires-clause-begun g c =
     let job = c.args.job.now in
-    let r = job.program.now in
-    let gr = slot_graph r job.limits.discipline job.limits.steps in
-    let Leg = HasLeg r job.limits.discipline in
+    let r = job.run.program.now in
+    let gr = slot_graph r job.run.limits.discipline job.run.limits.steps in
+    let Leg = HasLeg r job.run.limits.discipline in
     let f = c.in_ok-found.found in
     let h = c.follow.new.self.found in
     let room : c.in_ok-is_room.is_room ≡ true = search in (
@@ -24,9 +24,9 @@ visit_all-requires-clause-begun g c =
 pub returns-then-not-is_room : goal.returns-then-not-is_room
 returns-then-not-is_room g c =
     let job = c.args.job.now in
-    let r = job.program.now in
-    let gr = slot_graph r job.limits.discipline job.limits.steps in
-    let Leg = HasLeg r job.limits.discipline in
+    let r = job.run.program.now in
+    let gr = slot_graph r job.run.limits.discipline job.run.limits.steps in
+    let Leg = HasLeg r job.run.limits.discipline in
     let f = c.in_ok-found.found in
     let h = c.follow.new.self.found in
     let none : c.in_ok-is_room.is_room ≡ false = search in
@@ -39,8 +39,8 @@ returns-then-not-is_room g c =
 pub returns : goal.returns
 returns g c =
     let job = c.args.job.now in
-    let r = job.program.now in
-    answers_told r (slot_graph r job.limits.discipline job.limits.steps) (HasLeg r job.limits.discipline) job.most c.visit_all.new.visit.found c.in_ok-stopped.stopped c.is_none-search.result c.is_none-search.ensures c.in_ok-stopped.ensures.searched
+    let r = job.run.program.now in
+    answers_told r (slot_graph r job.run.limits.discipline job.run.limits.steps) (HasLeg r job.run.limits.discipline) job.most c.visit_all.new.visit.found c.in_ok-stopped.stopped c.is_none-search.result c.is_none-search.ensures c.in_ok-stopped.ensures.searched
 
 pub follow-requires-clause-ahead : goal.follow-requires-clause-ahead
 follow-requires-clause-ahead g c = c.in_ok-copy.ensures.own c.args.job.now.run.program.now c.in_ok-state.ensures.own

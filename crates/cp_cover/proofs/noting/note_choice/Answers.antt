@@ -7,8 +7,8 @@ use Rattle.cp_cover.proofs.noting.note_choice.Goals as goal
 
 pub returns-clause-marks : goal.returns-clause-marks
 returns-clause-marks g c =
-    let sys = slots c.args.job.now.run.program.now c.args.job.now.run.limits.discipline in
+    let sys = slots c.args.job.now.program.now c.args.job.now.limits.discipline in
     let m = machine_of c.args.state.now in
     let before = c.args.marks.now.known.keys in
     let after = c.observe_choice.new.observer.known.keys in
-    adds_behind before (chosen_marks sys c.args.job.now.run.limits.steps m c.args.process) after (subst (λ l. Adds [] l after) (notes_choice sys c.args.job.now.run.limits.steps m c.args.process before) (c.in_ok-turn.ensures.seen before (adds_itself before)))
+    adds_behind before (chosen_marks sys c.args.job.now.limits.steps m c.args.process) after (subst (λ l. Adds [] l after) (notes_choice sys c.args.job.now.limits.steps m c.args.process before) (c.in_ok-turn.ensures.seen before (adds_itself before)))

@@ -18,11 +18,11 @@ Told = (List Shown × Bool) × (List Machine × List (Moment Machine))
 
 pub arrive-requires-clause-quiet : goal.arrive-requires-clause-quiet
 arrive-requires-clause-quiet g c =
-    let r = c.args.job.now.run.program.now in
-    let discipline = c.args.job.now.run.limits.discipline in
+    let r = c.args.job.now.program.now in
+    let discipline = c.args.job.now.limits.discipline in
     let sys = slots r discipline in
     let quiet = silent_slots r discipline in
-    let steps = c.args.job.now.run.limits.steps in
+    let steps = c.args.job.now.limits.steps in
     let s = machine_of c.args.state.now in
     let p = c.args.process in
     let before : Told = ((c.args.told.now.values.items, c.args.told.now.is_called), (s ∷ [], [])) in
@@ -31,11 +31,11 @@ arrive-requires-clause-quiet g c =
 
 pub returns-clause-goal : goal.returns-clause-goal
 returns-clause-goal g c =
-    let r = c.args.job.now.run.program.now in
-    let discipline = c.args.job.now.run.limits.discipline in
+    let r = c.args.job.now.program.now in
+    let discipline = c.args.job.now.limits.discipline in
     let sys = slots r discipline in
     let quiet = silent_slots r discipline in
-    let steps = c.args.job.now.run.limits.steps in
+    let steps = c.args.job.now.limits.steps in
     let s = machine_of c.args.state.now in
     let p = c.args.process in
     let before : Told = ((c.args.told.now.values.items, c.args.told.now.is_called), (s ∷ [], [])) in
@@ -47,11 +47,11 @@ returns-clause-goal g c =
 
 pub returns-clause-shown : goal.returns-clause-shown
 returns-clause-shown g c =
-    let r = c.args.job.now.run.program.now in
-    let discipline = c.args.job.now.run.limits.discipline in
+    let r = c.args.job.now.program.now in
+    let discipline = c.args.job.now.limits.discipline in
     let sys = slots r discipline in
     let quiet = silent_slots r discipline in
-    let steps = c.args.job.now.run.limits.steps in
+    let steps = c.args.job.now.limits.steps in
     let s = machine_of c.args.state.now in
     let p = c.args.process in
     let before : Told = ((c.args.told.now.values.items, c.args.told.now.is_called), (s ∷ [], [])) in
@@ -63,11 +63,11 @@ returns-clause-shown g c =
 
 pub returns-clause-leg : goal.returns-clause-leg
 returns-clause-leg g c =
-    let r = c.args.job.now.run.program.now in
-    let discipline = c.args.job.now.run.limits.discipline in
+    let r = c.args.job.now.program.now in
+    let discipline = c.args.job.now.limits.discipline in
     let sys = slots r discipline in
     let quiet = silent_slots r discipline in
-    let steps = c.args.job.now.run.limits.steps in
+    let steps = c.args.job.now.limits.steps in
     let s = machine_of c.args.state.now in
     let p = c.args.process in
     let before : Told = ((c.args.told.now.values.items, c.args.told.now.is_called), (s ∷ [], [])) in
@@ -81,11 +81,11 @@ returns-clause-leg g c =
 
 pub returns-clause-kept : goal.returns-clause-kept
 returns-clause-kept g c =
-    let r = c.args.job.now.run.program.now in
-    let discipline = c.args.job.now.run.limits.discipline in
+    let r = c.args.job.now.program.now in
+    let discipline = c.args.job.now.limits.discipline in
     let sys = slots r discipline in
     let quiet = silent_slots r discipline in
-    let steps = c.args.job.now.run.limits.steps in
+    let steps = c.args.job.now.limits.steps in
     let s = machine_of c.args.state.now in
     let p = c.args.process in
     let before : Told = ((c.args.told.now.values.items, c.args.told.now.is_called), (s ∷ [], [])) in

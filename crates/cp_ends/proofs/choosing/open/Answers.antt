@@ -14,22 +14,22 @@ Told = (List Shown × Bool) × (List Machine × List (Moment Machine))
 
 pub arrive-requires-clause-quiet : goal.arrive-requires-clause-quiet
 arrive-requires-clause-quiet g c =
-    let r = c.args.job.now.run.program.now in
-    let discipline = c.args.job.now.run.limits.discipline in
+    let r = c.args.job.now.program.now in
+    let discipline = c.args.job.now.limits.discipline in
     let sys = slots r discipline in
     let quiet = silent_slots r discipline in
-    let steps = c.args.job.now.run.limits.steps in
+    let steps = c.args.job.now.limits.steps in
     let before : Told = ((c.args.told.now.values.items, c.args.told.now.is_called), ([], [])) in
     let now = c.in_ok-turn.ensures.seen before (refl, refl, ap output_of c.requires.start, c.begin-told.ensures discipline, none_due _ _) in
     now.2
 
 pub returns-clause-goal : goal.returns-clause-goal
 returns-clause-goal g c =
-    let r = c.args.job.now.run.program.now in
-    let discipline = c.args.job.now.run.limits.discipline in
+    let r = c.args.job.now.program.now in
+    let discipline = c.args.job.now.limits.discipline in
     let sys = slots r discipline in
     let quiet = silent_slots r discipline in
-    let steps = c.args.job.now.run.limits.steps in
+    let steps = c.args.job.now.limits.steps in
     let before : Told = ((c.args.told.now.values.items, c.args.told.now.is_called), ([], [])) in
     let now = c.in_ok-turn.ensures.seen before (refl, refl, ap output_of c.requires.start, c.begin-told.ensures discipline, none_due _ _) in
     let told = now.0 ∙ ap (λ (y : Told). y.0.0) (sees_opening quiet (teller sys) steps before) in
@@ -39,11 +39,11 @@ returns-clause-goal g c =
 
 pub returns-clause-shown : goal.returns-clause-shown
 returns-clause-shown g c =
-    let r = c.args.job.now.run.program.now in
-    let discipline = c.args.job.now.run.limits.discipline in
+    let r = c.args.job.now.program.now in
+    let discipline = c.args.job.now.limits.discipline in
     let sys = slots r discipline in
     let quiet = silent_slots r discipline in
-    let steps = c.args.job.now.run.limits.steps in
+    let steps = c.args.job.now.limits.steps in
     let before : Told = ((c.args.told.now.values.items, c.args.told.now.is_called), ([], [])) in
     let now = c.in_ok-turn.ensures.seen before (refl, refl, ap output_of c.requires.start, c.begin-told.ensures discipline, none_due _ _) in
     let told = now.0 ∙ ap (λ (y : Told). y.0.0) (sees_opening quiet (teller sys) steps before) in
@@ -53,11 +53,11 @@ returns-clause-shown g c =
 
 pub returns-clause-leg : goal.returns-clause-leg
 returns-clause-leg g c =
-    let r = c.args.job.now.run.program.now in
-    let discipline = c.args.job.now.run.limits.discipline in
+    let r = c.args.job.now.program.now in
+    let discipline = c.args.job.now.limits.discipline in
     let sys = slots r discipline in
     let quiet = silent_slots r discipline in
-    let steps = c.args.job.now.run.limits.steps in
+    let steps = c.args.job.now.limits.steps in
     let before : Told = ((c.args.told.now.values.items, c.args.told.now.is_called), ([], [])) in
     let now = c.in_ok-turn.ensures.seen before (refl, refl, ap output_of c.requires.start, c.begin-told.ensures discipline, none_due _ _) in
     let observer = c.observe_opening.new.observer in

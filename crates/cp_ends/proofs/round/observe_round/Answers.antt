@@ -10,7 +10,7 @@ use Rattle.cp_ends.proofs.round.observe_round.Goals.{else-going-pid-via-then-goi
 
 pub loop-init : goal.loop-init
 loop-init g c =
-    let quiet = silent_slots c.args.job.now.run.program.now c.args.job.now.run.limits.discipline in
+    let quiet = silent_slots c.args.job.now.program.now c.args.job.now.limits.discipline in
     let s = machine_of c.args.state.now in
     record {
       own = c.requires.own;
@@ -18,15 +18,15 @@ loop-init g c =
       free = c.requires.free;
       quiet = c.requires.quiet;
       spot = spot_before quiet s c.args.pid;
-      seen = λ x h. subst (g.O.Observe.holds c.args.observer.now c.args.job.now.run.program.now c.args.job.now.run.limits.discipline s) (sym (fold_none quiet (g.O.Observe.fold c.args.job.now.run.program.now c.args.job.now.run.limits.discipline) s c.args.pid x)) h;
+      seen = λ x h. subst (g.O.Observe.holds c.args.observer.now c.args.job.now.program.now c.args.job.now.limits.discipline s) (sym (fold_none quiet (g.O.Observe.fold c.args.job.now.program.now c.args.job.now.limits.discipline) s c.args.pid x)) h;
       none = none_yet quiet same_key s c.args.pid;
       first = c.in_ok-take_from.ensures;
     }
 
 pub returns-in_default : goal.returns-in_default
 returns-in_default g c =
-    let r = c.args.job.now.run.program.now in
-    let discipline = c.args.job.now.run.limits.discipline in
+    let r = c.args.job.now.program.now in
+    let discipline = c.args.job.now.limits.discipline in
     let quiet = silent_slots r discipline in
     let fold = g.O.Observe.fold r discipline in
     let s = machine_of c.args.state.now in
@@ -36,19 +36,19 @@ returns-in_default g c =
     let u = machine_of c.take_step.new.state in
     let i = c.loop.invariant in
     let x = c.in_ok-turn.ensures in
-    let lt : n < c.args.job.now.run.limits.steps = omega arith in
+    let lt : n < c.args.job.now.limits.steps = omega arith in
     record {
       own = x.own;
       quiet = ap (λ y. y.output) x.state;
       round = λ e. absurd (cc);
-      none = λ e. never_back quiet same_key s p n c.args.job.now.run.limits.steps lt i.none (spot_none quiet s p n t u c.loop.going c.in_ok-turn.turn i.spot x.state x.turn (stops c.in_ok-turn.turn c.in_default.not-Goes));
+      none = λ e. never_back quiet same_key s p n c.args.job.now.limits.steps lt i.none (spot_none quiet s p n t u c.loop.going c.in_ok-turn.turn i.spot x.state x.turn (stops c.in_ok-turn.turn c.in_default.not-Goes));
       seen = (n + 1, λ y h. subst (g.O.Observe.holds c.take_step.new.observer r discipline u) (fold_next quiet fold n s p t u c.loop.going y i.spot x.state) (x.seen (fold_stretch quiet fold n s p y) (i.seen y h)));
     }
 
 pub returns-then-branch : goal.returns-then-branch
 returns-then-branch g c =
-    let r = c.args.job.now.run.program.now in
-    let discipline = c.args.job.now.run.limits.discipline in
+    let r = c.args.job.now.program.now in
+    let discipline = c.args.job.now.limits.discipline in
     let quiet = silent_slots r discipline in
     let fold = g.O.Observe.fold r discipline in
     let s = machine_of c.args.state.now in
@@ -59,7 +59,7 @@ returns-then-branch g c =
     let q = c.in-Goes.next in
     let i = c.loop.invariant in
     let x = c.in_ok-turn.ensures in
-    let lt : n < c.args.job.now.run.limits.steps = omega arith in
+    let lt : n < c.args.job.now.limits.steps = omega arith in
     let plus : n + 1 ≡ suc n = omega arith in
     let spot = spot_next quiet n s p t u c.loop.going q i.spot x.state (sym c.in-Goes.is ∙ x.turn) in
     let same : same_key u s ≡ true = sym (c.in_ok-is_at.ensures s i.first) ∙ c.if-branch.true in
@@ -71,7 +71,7 @@ returns-then-branch g c =
       round = λ e. (
         n,
         lt,
-        is_back quiet same_key s p n c.args.job.now.run.limits.steps u q lt i.none spot back,
+        is_back quiet same_key s p n c.args.job.now.limits.steps u q lt i.none spot back,
         ap (λ k. spot_after quiet k s p) (sym plus) ∙ spot ∙ next_place u q p c.if-going-pid.true,
         same,
         λ y h. subst (λ k. g.O.Observe.holds c.take_step.new.observer r discipline u (fold_stretch quiet fold k s p y)) plus (seen y h),
@@ -82,8 +82,8 @@ returns-then-branch g c =
 
 pub loop-preserved : goal.loop-preserved
 loop-preserved g c =
-    let r = c.args.job.now.run.program.now in
-    let discipline = c.args.job.now.run.limits.discipline in
+    let r = c.args.job.now.program.now in
+    let discipline = c.args.job.now.limits.discipline in
     let quiet = silent_slots r discipline in
     let fold = g.O.Observe.fold r discipline in
     let s = machine_of c.args.state.now in
@@ -113,11 +113,11 @@ loop-preserved g c =
 
 pub returns : goal.returns
 returns g c =
-    let quiet = silent_slots c.args.job.now.run.program.now c.args.job.now.run.limits.discipline in
+    let quiet = silent_slots c.args.job.now.program.now c.args.job.now.limits.discipline in
     let s = machine_of c.args.state.now in
     let n = c.loop.counter in
     let i = c.loop.invariant in
-    let all : n ≡ c.args.job.now.run.limits.steps = omega arith in
+    let all : n ≡ c.args.job.now.limits.steps = omega arith in
     record {
       own = i.own;
       quiet = i.quiet;

@@ -8,8 +8,8 @@ open-requires-clause-nothing g c = c.new-visit.ensures c.args.job.now.run.progra
 pub returns : goal.returns
 returns g c =
     let job = c.args.job.now in
-    let r = job.program.now in
-    let gr = slot_graph r job.limits.discipline job.limits.steps in
+    let r = job.run.program.now in
+    let gr = slot_graph r job.run.limits.discipline job.run.limits.steps in
     let found = c.visit_all.new.visit.found in
     let stopped = c.in_ok-visit.field-0 in
     stop_noted r gr job.most found stopped stopped (search_answer r gr job.most found stopped c.in_ok-visit.ensures.searched)

@@ -5,7 +5,7 @@ use Rattle.cp_page.proofs.data.lay_words.Given as goal
 abbrev pub invariant-loop-word : goal.invariant-loop-word
 invariant-loop-word g l =
     record {
-      own : IsStateOf l.job.program.now l.state;
-      next : IsStateOf l.job.program.now l.next;
-      states : All (IsStateOf l.job.program.now) l.graph.states.items;
+      own : IsStateOf l.job.run.program.now l.state;
+      next : IsStateOf l.job.run.program.now l.next;
+      states : All (IsStateOf l.job.run.program.now) l.graph.states.items;
     }

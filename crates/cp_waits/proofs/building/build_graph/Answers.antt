@@ -10,9 +10,9 @@ open-requires-clause-nothing g c = c.new.ensures c.args.job.now.run.program.now
 pub visit_all-requires-clause-begun : goal.visit_all-requires-clause-begun
 visit_all-requires-clause-begun g c =
     let job = c.args.job.now in
-    let r = job.program.now in
-    let discipline = job.limits.discipline in
-    let steps = job.limits.steps in
+    let r = job.run.program.now in
+    let discipline = job.run.limits.discipline in
+    let steps = job.run.limits.steps in
     let quiet = silent_slots r discipline in
     let told = c.open.new.self.told in
     let last = machine_of c.open.new.state in
@@ -28,4 +28,4 @@ pub returns : goal.returns
 returns g c =
     let job = c.args.job.now in
     let stopped = c.in_ok-stopped.stopped in
-    graph_noted job.program.now job.limits.discipline job.limits.steps job.most c.visit_all.new.visit.graph c.visit_all.new.visit.ends.found stopped stopped c.in_ok-stopped.ensures.searched
+    graph_noted job.run.program.now job.run.limits.discipline job.run.limits.steps job.most c.visit_all.new.visit.graph c.visit_all.new.visit.ends.found stopped stopped c.in_ok-stopped.ensures.searched

@@ -8,9 +8,9 @@ use Rattle.cp_waits.proofs.building.search_graph.Goals.{then-most-eq0, else-most
 
 pub returns : goal.returns
 returns g c =
-    let r = c.args.job.now.run.program.now in
-    let discipline = c.args.job.now.run.limits.discipline in
-    let steps = c.args.job.now.run.limits.steps in
+    let r = c.args.job.now.program.now in
+    let discipline = c.args.job.now.limits.discipline in
+    let steps = c.args.job.now.limits.steps in
     let most = c.if-most-eq0.states in
     record {
       answer = λ some. ok_to c.build_graph.result _ _ c.build_graph.ensures (λ x h. subst (λ n. IsAnswer r discipline steps n x.found) (elim c.if-most-eq0.branch [

@@ -24,4 +24,4 @@ pub returns-clause-waits : goal.returns-clause-waits
 returns-clause-waits g c =
     let found = c.in_ok-found-2.field-0.found in
     let whole = none_there found.stopped c.is_some.result c.is_some.ensures c.if-is_some.false in
-    (c.if-not-asks_waits.false, whole, told_of_all c.args.job.now.run.program.now c.args.job.now.run.limits.discipline c.args.job.now.run.limits.steps found c.in_ok-found-2.field-0.graph (c.in_ok-found-2.ensures.graph whole) c.in_ok-waits.waits c.in_ok-waits.ensures)
+    (c.if-not-asks_waits.false, whole, told_of_all c.args.job.now.program.now c.args.job.now.limits.discipline c.args.job.now.limits.steps found c.in_ok-found-2.field-0.graph (c.in_ok-found-2.ensures.graph whole) c.in_ok-waits.waits c.in_ok-waits.ensures)

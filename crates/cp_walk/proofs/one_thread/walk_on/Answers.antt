@@ -38,4 +38,4 @@ returns-clause-calls g c =
     let n = length c.as_mut_slice.result.now in
     let count = ap length c.as_mut_slice.ensures.value ∙ c.in-Ok.ensures.count in
     let deep : n ≡ limits.choices - length c.args.word.now = omega (arith, count, c.requires.room) in
-    subst (λ k. c.walk_from.new.calls + 1 ≤ c.args.calls.now + beginnings (words_in (walk sys limits.steps k node))) deep c.in_ok-walk_from.ensures.calls
+    subst (λ k. (g.C.Count.count c.walk_from.new.calls) + 1 ≤ (g.C.Count.count c.args.calls.now) + beginnings (words_in (walk sys limits.steps k node))) deep c.in_ok-walk_from.ensures.calls

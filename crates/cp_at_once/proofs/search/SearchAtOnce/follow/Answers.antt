@@ -5,7 +5,7 @@ use Rattle.cp_at_once.proofs.Keeping.{word_longer}
 use Rattle.cp_at_once.proofs.search.SearchAtOnce.follow.Goals as goal
 
 pub loop-made-init : goal.loop-made-init
-loop-made-init g c =
+loop-made-init c =
     let r = c.args.job.now.run.program.now in
     let gr = slot_graph r c.args.job.now.run.limits.discipline c.args.job.now.run.limits.steps in
     record {
@@ -17,10 +17,10 @@ loop-made-init g c =
     }
 
 pub push-requires : goal.push-requires
-push-requires g c = let few = c.loop-made.invariant.numbers in omega (arith, few)
+push-requires c = let few = c.loop-made.invariant.numbers in omega (arith, few)
 
 pub loop-made-preserved : goal.loop-made-preserved
-loop-made-preserved g c =
+loop-made-preserved c =
     let r = c.args.job.now.run.program.now in
     let gr = slot_graph r c.args.job.now.run.limits.discipline c.args.job.now.run.limits.steps in
     let Leg = HasLeg r c.args.job.now.run.limits.discipline in
@@ -40,7 +40,7 @@ loop-made-preserved g c =
     }
 
 pub returns-in-Ended-clause-found : goal.returns-in-Ended-clause-found
-returns-in-Ended-clause-found g c = λ states word a h is arrives to shown.
+returns-in-Ended-clause-found c = λ states word a h is arrives to shown.
     (let r = c.args.job.now.run.program.now in
     let gr = slot_graph r c.args.job.now.run.limits.discipline c.args.job.now.run.limits.steps in
     let m = machine_of c.loop-made.state in
@@ -49,7 +49,7 @@ returns-in-Ended-clause-found g c = λ states word a h is arrives to shown.
     at_end r gr (HasLeg r c.args.job.now.run.limits.discipline) c.args.job.now.most c.args.self.now.found states c.loop-made.self.found c.note.new.self.found a (goal_at c.loop-made.arrival m) c.loop-made.self.told.values.items c.loop-made.origin c.loop-made.made x n _ (ap (λ v. goal_at v m) c.in-Ended.is))
 
 pub returns-in_default-clause-found : goal.returns-in_default-clause-found
-returns-in_default-clause-found g c =
+returns-in_default-clause-found c =
     ok_to c.keep.result _ _ c.keep.ensures.found (λ is_room on states word a h is arrives to shown.
     (let r = c.args.job.now.run.program.now in
     let gr = slot_graph r c.args.job.now.run.limits.discipline c.args.job.now.run.limits.steps in
@@ -61,7 +61,7 @@ returns-in_default-clause-found g c =
     (on gr x.more x.word n.0 x.is_word (leads_to r gr (HasLeg r c.args.job.now.run.limits.discipline) c.args.job.now.most c.args.self.now.found states c.loop-made.self.found a (goal_at c.loop-made.arrival m) c.loop-made.self.told.values.items c.loop-made.origin c.loop-made.made x m place))))
 
 pub returns-in-Choice-arrival-clause-found : goal.returns-in-Choice-arrival-clause-found
-returns-in-Choice-arrival-clause-found g c =
+returns-in-Choice-arrival-clause-found c =
     ok_to c.keep-in-Choice-arrival.result _ _ c.keep-in-Choice-arrival.ensures.found (λ is_room on states word a h is arrives to shown.
     (let r = c.args.job.now.run.program.now in
     let gr = slot_graph r c.args.job.now.run.limits.discipline c.args.job.now.run.limits.steps in
@@ -73,7 +73,7 @@ returns-in-Choice-arrival-clause-found g c =
     (on gr x.more x.word n.0 x.is_word (leads_to r gr (HasLeg r c.args.job.now.run.limits.discipline) c.args.job.now.most c.args.self.now.found states c.loop-made.self.found a (goal_at c.loop-made.arrival m) c.loop-made.self.told.values.items c.loop-made.origin c.loop-made.made x m place))))
 
 pub returns-in-Ended-arrival-clause-found : goal.returns-in-Ended-arrival-clause-found
-returns-in-Ended-arrival-clause-found g c = λ states word a h is arrives to shown.
+returns-in-Ended-arrival-clause-found c = λ states word a h is arrives to shown.
     (let r = c.args.job.now.run.program.now in
     let gr = slot_graph r c.args.job.now.run.limits.discipline c.args.job.now.run.limits.steps in
     let m = machine_of c.loop-made.state in
@@ -82,76 +82,76 @@ returns-in-Ended-arrival-clause-found g c = λ states word a h is arrives to sho
     at_end r gr (HasLeg r c.args.job.now.run.limits.discipline) c.args.job.now.most c.args.self.now.found states c.loop-made.self.found c.note-2.new.self.found a (goal_at c.loop-made.arrival m) c.loop-made.self.told.values.items c.loop-made.origin c.loop-made.made x n _ (ap (λ v. goal_at v m) c.in-Ended-arrival.is))
 
 pub returns-in_err-note-clause-own : goal.returns-in_err-note-clause-own
-returns-in_err-note-clause-own g c = c.loop-made.invariant.own
+returns-in_err-note-clause-own c = c.loop-made.invariant.own
 
 pub returns-in_err-note-clause-found : goal.returns-in_err-note-clause-found
-returns-in_err-note-clause-found g c = none_well c.from_residual.result _ _ c.from_residual.ensures.1
+returns-in_err-note-clause-found c = none_well c.from_residual.result _ _ c.from_residual.ensures.1
 
 pub returns-in_err-note-clause-ahead : goal.returns-in_err-note-clause-ahead
-returns-in_err-note-clause-ahead g c = subst (IsStateOf c.args.job.now.run.program.now) (sym c.note.ensures.ahead) c.loop-made.invariant.ahead
+returns-in_err-note-clause-ahead c = subst (IsStateOf c.args.job.now.run.program.now) (sym c.note.ensures.ahead) c.loop-made.invariant.ahead
 
 pub returns-in-Ended-clause-own : goal.returns-in-Ended-clause-own
-returns-in-Ended-clause-own g c = c.loop-made.invariant.own
+returns-in-Ended-clause-own c = c.loop-made.invariant.own
 
 pub returns-in-Ended-clause-ahead : goal.returns-in-Ended-clause-ahead
-returns-in-Ended-clause-ahead g c = subst (IsStateOf c.args.job.now.run.program.now) (sym c.note.ensures.ahead) c.loop-made.invariant.ahead
+returns-in-Ended-clause-ahead c = subst (IsStateOf c.args.job.now.run.program.now) (sym c.note.ensures.ahead) c.loop-made.invariant.ahead
 
 pub process_at_once-requires-clause-own : goal.process_at_once-requires-clause-own
-process_at_once-requires-clause-own g c = c.loop-made.invariant.own
+process_at_once-requires-clause-own c = c.loop-made.invariant.own
 
 pub process_at_once-requires-clause-quiet : goal.process_at_once-requires-clause-quiet
-process_at_once-requires-clause-quiet g c = c.loop-made.invariant.quiet
+process_at_once-requires-clause-quiet c = c.loop-made.invariant.quiet
 
 pub process_at_once-requires-clause-ahead : goal.process_at_once-requires-clause-ahead
-process_at_once-requires-clause-ahead g c = subst (IsStateOf c.args.job.now.run.program.now) (sym c.note.ensures.ahead) c.loop-made.invariant.ahead
+process_at_once-requires-clause-ahead c = subst (IsStateOf c.args.job.now.run.program.now) (sym c.note.ensures.ahead) c.loop-made.invariant.ahead
 
 pub keep-requires-clause-own : goal.keep-requires-clause-own
-keep-requires-clause-own g c = c.loop-made.invariant.own
+keep-requires-clause-own c = c.loop-made.invariant.own
 
 pub keep-requires-clause-quiet : goal.keep-requires-clause-quiet
-keep-requires-clause-quiet g c = c.loop-made.invariant.quiet
+keep-requires-clause-quiet c = c.loop-made.invariant.quiet
 
 pub returns-in_default-clause-own : goal.returns-in_default-clause-own
-returns-in_default-clause-own g c = c.loop-made.invariant.own
+returns-in_default-clause-own c = c.loop-made.invariant.own
 
 pub returns-in_default-clause-ahead : goal.returns-in_default-clause-ahead
-returns-in_default-clause-ahead g c = subst (IsStateOf c.args.job.now.run.program.now) (sym c.keep.ensures.ahead) c.process_at_once.ensures.ahead
+returns-in_default-clause-ahead c = subst (IsStateOf c.args.job.now.run.program.now) (sym c.keep.ensures.ahead) c.process_at_once.ensures.ahead
 
 pub choose-requires-clause-own : goal.choose-requires-clause-own
-choose-requires-clause-own g c = c.loop-made.invariant.own
+choose-requires-clause-own c = c.loop-made.invariant.own
 
 pub choose-requires-clause-quiet : goal.choose-requires-clause-quiet
-choose-requires-clause-quiet g c = c.loop-made.invariant.quiet
+choose-requires-clause-quiet c = c.loop-made.invariant.quiet
 
 pub returns-in_err-arrival-clause-own : goal.returns-in_err-arrival-clause-own
-returns-in_err-arrival-clause-own g c = c.choose.ensures.own
+returns-in_err-arrival-clause-own c = c.choose.ensures.own
 
 pub returns-in_err-arrival-clause-found : goal.returns-in_err-arrival-clause-found
-returns-in_err-arrival-clause-found g c = none_well c.from_residual-in_err-arrival.result _ _ c.from_residual-in_err-arrival.ensures.1
+returns-in_err-arrival-clause-found c = none_well c.from_residual-in_err-arrival.result _ _ c.from_residual-in_err-arrival.ensures.1
 
 pub returns-in_err-arrival-clause-ahead : goal.returns-in_err-arrival-clause-ahead
-returns-in_err-arrival-clause-ahead g c = c.process_at_once.ensures.ahead
+returns-in_err-arrival-clause-ahead c = c.process_at_once.ensures.ahead
 
 pub returns-in_err-note-2-clause-own : goal.returns-in_err-note-2-clause-own
-returns-in_err-note-2-clause-own g c = c.loop-made.invariant.own
+returns-in_err-note-2-clause-own c = c.loop-made.invariant.own
 
 pub returns-in_err-note-2-clause-found : goal.returns-in_err-note-2-clause-found
-returns-in_err-note-2-clause-found g c = none_well c.from_residual-in_err-note-2.result _ _ c.from_residual-in_err-note-2.ensures.1
+returns-in_err-note-2-clause-found c = none_well c.from_residual-in_err-note-2.result _ _ c.from_residual-in_err-note-2.ensures.1
 
 pub keep-requires-in-Choice-arrival-clause-own : goal.keep-requires-in-Choice-arrival-clause-own
-keep-requires-in-Choice-arrival-clause-own g c = c.loop-made.invariant.own
+keep-requires-in-Choice-arrival-clause-own c = c.loop-made.invariant.own
 
 pub keep-requires-in-Choice-arrival-clause-quiet : goal.keep-requires-in-Choice-arrival-clause-quiet
-keep-requires-in-Choice-arrival-clause-quiet g c = c.loop-made.invariant.quiet
+keep-requires-in-Choice-arrival-clause-quiet c = c.loop-made.invariant.quiet
 
 pub returns-in-Ended-arrival-clause-own : goal.returns-in-Ended-arrival-clause-own
-returns-in-Ended-arrival-clause-own g c = c.loop-made.invariant.own
+returns-in-Ended-arrival-clause-own c = c.loop-made.invariant.own
 
 pub returns-in-Choice-arrival-clause-own : goal.returns-in-Choice-arrival-clause-own
-returns-in-Choice-arrival-clause-own g c = c.loop-made.invariant.own
+returns-in-Choice-arrival-clause-own c = c.loop-made.invariant.own
 
 pub returns-in_err-note-2-clause-ahead : goal.returns-in_err-note-2-clause-ahead
-returns-in_err-note-2-clause-ahead g c = subst (IsStateOf c.args.job.now.run.program.now) (sym c.note-2.ensures.ahead) c.loop-made.invariant.ahead
+returns-in_err-note-2-clause-ahead c = subst (IsStateOf c.args.job.now.run.program.now) (sym c.note-2.ensures.ahead) c.loop-made.invariant.ahead
 
 pub returns-in-Ended-arrival-clause-ahead : goal.returns-in-Ended-arrival-clause-ahead
-returns-in-Ended-arrival-clause-ahead g c = subst (IsStateOf c.args.job.now.run.program.now) (sym c.note-2.ensures.ahead) c.loop-made.invariant.ahead
+returns-in-Ended-arrival-clause-ahead c = subst (IsStateOf c.args.job.now.run.program.now) (sym c.note-2.ensures.ahead) c.loop-made.invariant.ahead

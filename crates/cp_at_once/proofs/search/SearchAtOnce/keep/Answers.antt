@@ -4,7 +4,7 @@ use Rattle.cp_at_once.proofs.Following.{known_again, one_more, one_too_many}
 use Rattle.cp_at_once.proofs.search.SearchAtOnce.keep.Goals as goal
 
 pub returns-then-contains-clause-found : goal.returns-then-contains-clause-found
-returns-then-contains-clause-found g c = λ g states word h is leads.
+returns-then-contains-clause-found c = λ g states word h is leads.
     (let r = c.args.job.now.run.program.now in
     let m = machine_of c.args.state.now in
     let present : c.contains.result ≡ true = search in
@@ -13,7 +13,7 @@ returns-then-contains-clause-found g c = λ g states word h is leads.
     known_again r g c.args.job.now.most c.args.self.now.found states m h c.row_of.new.self are known)
 
 pub returns-then-len-job-clause-found : goal.returns-then-len-job-clause-found
-returns-then-len-job-clause-found g c = λ g states word h is leads.
+returns-then-len-job-clause-found c = λ g states word h is leads.
     (let r = c.args.job.now.run.program.now in
     let m = machine_of c.args.state.now in
     let absent : c.contains.result ≡ false = search in
@@ -24,7 +24,7 @@ returns-then-len-job-clause-found g c = λ g states word h is leads.
     one_too_many r g c.args.job.now.most c.args.self.now.found states h m word leads new many c.row_of.new.self are)
 
 pub returns-clause-found : goal.returns-clause-found
-returns-clause-found g c = λ g states word h is leads.
+returns-clause-found c = λ g states word h is leads.
     (let r = c.args.job.now.run.program.now in
     let m = machine_of c.args.state.now in
     let own = machine_own r c.args.state.now c.requires.own in
@@ -37,22 +37,22 @@ returns-clause-found g c = λ g states word h is leads.
     one_more r g c.args.job.now.most c.args.self.now.found states h m word leads new (key_self m) room c.add.new.self (c.in_ok-add.ensures r states m word are new own c.requires.quiet row is))
 
 pub returns-in_err-row-clause-found : goal.returns-in_err-row-clause-found
-returns-in_err-row-clause-found g c = none_well c.from_residual.result _ _ c.from_residual.ensures.1
+returns-in_err-row-clause-found c = none_well c.from_residual.result _ _ c.from_residual.ensures.1
 
 pub returns-in_err-add-clause-found : goal.returns-in_err-add-clause-found
-returns-in_err-add-clause-found g c = none_well c.from_residual-in_err-add.result _ _ c.from_residual-in_err-add.ensures.1
+returns-in_err-add-clause-found c = none_well c.from_residual-in_err-add.result _ _ c.from_residual-in_err-add.ensures.1
 
 pub returns-in_err-row-clause-ahead : goal.returns-in_err-row-clause-ahead
-returns-in_err-row-clause-ahead g c = refl
+returns-in_err-row-clause-ahead c = refl
 
 pub returns-then-contains-clause-ahead : goal.returns-then-contains-clause-ahead
-returns-then-contains-clause-ahead g c = refl
+returns-then-contains-clause-ahead c = refl
 
 pub returns-then-len-job-clause-ahead : goal.returns-then-len-job-clause-ahead
-returns-then-len-job-clause-ahead g c = refl
+returns-then-len-job-clause-ahead c = refl
 
 pub returns-in_err-add-clause-ahead : goal.returns-in_err-add-clause-ahead
-returns-in_err-add-clause-ahead g c = refl
+returns-in_err-add-clause-ahead c = refl
 
 pub returns-clause-ahead : goal.returns-clause-ahead
-returns-clause-ahead g c = refl
+returns-clause-ahead c = refl

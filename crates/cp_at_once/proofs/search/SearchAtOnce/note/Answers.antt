@@ -3,7 +3,7 @@ use Rattle.cp_at_once.proofs.Arriving.{ends_so, noted_choice, noted_end, shows_a
 use Rattle.cp_at_once.proofs.search.SearchAtOnce.note.Goals as goal
 
 pub returns-in-Ended-clause-found : goal.returns-in-Ended-clause-found
-returns-in-Ended-clause-found g c =
+returns-in-Ended-clause-found c =
     ok_to c.add_end.result _ _ c.add_end.ensures (λ _ on r g most states word a m h is arrives to shown.
     (let vs = c.as_slice.result.now in
     let same : vs ≡ a.shown = c.as_slice.ensures.value ∙ shown in
@@ -13,7 +13,7 @@ returns-in-Ended-clause-found g c =
     noted_end r g most c.args.self.now.found states word a vs same c.add_values.new.self n c.add_end.new.self d goes (on r g most states word n.0 is (ends_so g word a d arrives goes))))
 
 pub returns-in-Choice-clause-found : goal.returns-in-Choice-clause-found
-returns-in-Choice-clause-found g c = λ r g most states word a m h is arrives to shown.
+returns-in-Choice-clause-found c = λ r g most states word a m h is arrives to shown.
     (let vs = c.as_slice.result.now in
     let same : vs ≡ a.shown = c.as_slice.ensures.value ∙ shown in
     let n = c.in_ok-add_values.ensures r g most states word h is (shows_all r g most c.args.self.now.found states word a vs same arrives) in

@@ -6,19 +6,19 @@ use Rattle.cp_at_once.proofs.Choices.{choice_taken, stops_here, within_more}
 use Rattle.cp_at_once.proofs.search.SearchAtOnceVisit.take.Goals as goal
 
 pub choose-requires-clause-quiet : goal.choose-requires-clause-quiet
-choose-requires-clause-quiet g c =
+choose-requires-clause-quiet c =
     let x = c.requires.within.1 in
     ap output_of c.requires.copied ∙ all_at (λ y. y.0.output ≡ []) x.states c.args.at (machine_of c.args.state.now, x.word) x.holds.kept.entries.quiet x.is
 
 pub choose-requires-clause-may : goal.choose-requires-clause-may
-choose-requires-clause-may g c = ap (λ m. may (slots c.args.job.now.run.program.now c.args.job.now.run.limits.discipline) m c.args.process) c.requires.copied ∙ c.requires.may
+choose-requires-clause-may c = ap (λ m. may (slots c.args.job.now.run.program.now c.args.job.now.run.limits.discipline) m c.args.process) c.requires.copied ∙ c.requires.may
 
 pub returns-clause-within : goal.returns-clause-within
-returns-clause-within g c =
+returns-clause-within c =
     let job = c.args.job.now in
-    let r = job.program.now in
-    let gr = slot_graph r job.limits.discipline job.limits.steps in
-    let Leg = HasLeg r job.limits.discipline in
+    let r = job.run.program.now in
+    let gr = slot_graph r job.run.limits.discipline job.run.limits.steps in
+    let Leg = HasLeg r job.run.limits.discipline in
     let f = c.args.self.now.found in
     let h = c.follow.new.self.found in
     let m = machine_of c.args.state.now in
@@ -31,11 +31,11 @@ returns-clause-within g c =
     ))
 
 pub returns-clause-stops : goal.returns-clause-stops
-returns-clause-stops g c =
+returns-clause-stops c =
     let job = c.args.job.now in
-    let r = job.program.now in
-    let gr = slot_graph r job.limits.discipline job.limits.steps in
-    let Leg = HasLeg r job.limits.discipline in
+    let r = job.run.program.now in
+    let gr = slot_graph r job.run.limits.discipline job.run.limits.steps in
+    let Leg = HasLeg r job.run.limits.discipline in
     let f = c.args.self.now.found in
     let h = c.follow.new.self.found in
     let m = machine_of c.args.state.now in
@@ -46,4 +46,4 @@ returns-clause-stops g c =
     (choice_taken r gr Leg job.most f h c.args.at m (those_below p (gr.may m)) p c.requires.within.1 c.requires.may o c.choice.ensures.state c.choice.ensures.numbers _ _ (c.in_ok-arrival.ensures.goal ∙ ap (λ k. (gr.on k p).goal) c.requires.copied) (c.in_ok-arrival.ensures.shown ∙ ap (λ l. l ++ (gr.on (machine_of c.args.next.now) p).shown) c.clear.ensures.items ∙ ap (λ k. (gr.on k p).shown) c.requires.copied) c.in_ok-is_room.is_room c.in_ok-is_room.ensures.found))
 
 pub returns-clause-next : goal.returns-clause-next
-returns-clause-next g c = c.take_from.ensures.own c.args.job.now.run.program.now c.follow.ensures.own c.requires.own
+returns-clause-next c = c.take_from.ensures.own c.args.job.now.run.program.now c.follow.ensures.own c.requires.own

@@ -7,4 +7,4 @@ use Rattle.cp_cover.proofs.search.CoverVisit.begin_layer.Goals as goal
 pub returns : goal.returns
 returns g c =
     let job = c.args.job.now in
-    begun_first job.program.now (slots job.program.now job.limits.discipline) job.limits.steps job.most job.limits.choices c.replace.result.known.keys c.args.self.now.next.known.keys c.replace.new.dest.known.keys c.args.self.now.marks.known.keys (ap (λ (l : Layer). l.known.keys) c.replace.ensures.value) (ap (λ (l : Layer). l.known.keys) c.replace.ensures.after ∙ c.new.ensures) c.requires
+    begun_first job.run.program.now (slots job.run.program.now job.run.limits.discipline) job.run.limits.steps job.most job.run.limits.choices c.replace.result.known.keys c.args.self.now.next.known.keys c.replace.new.dest.known.keys c.args.self.now.marks.known.keys (ap (λ (l : Layer). l.known.keys) c.replace.ensures.value) (ap (λ (l : Layer). l.known.keys) c.replace.ensures.after ∙ c.new.ensures) c.requires

@@ -11,17 +11,17 @@ use Rattle.cp_cover.proofs.search.CoverVisitVisit.take.Goals as goal
 pub returns-clause-within : goal.returns-clause-within
 returns-clause-within g c = λ room.
     (let job = c.args.job.now in
-    let r = job.program.now in
-    let sys = slots r job.limits.discipline in
+    let r = job.run.program.now in
+    let sys = slots r job.run.limits.discipline in
     let m = machine_of c.args.state.now in
     let p = c.args.process in
     let next = c.arrive.new.self.known.keys in
-    let node = subst (λ k. AddsNode r c.args.self.now.next.known.keys (chosen sys job.limits.steps k p) next) c.requires.copied (subst (λ (n : Node Machine). AddsNode r c.args.self.now.next.known.keys n next) (sym c.in_ok-halt.ensures.node) c.in_ok-arrive.ensures) in
-    let marks = subst (λ k. Adds c.args.self.now.marks.known.keys (chosen_marks sys job.limits.steps k p) c.note_choice.new.marks.known.keys) c.requires.copied c.in_ok-halt.ensures.marks in
+    let node = subst (λ k. AddsNode r c.args.self.now.next.known.keys (chosen sys job.run.limits.steps k p) next) c.requires.copied (subst (λ (n : Node Machine). AddsNode r c.args.self.now.next.known.keys n next) (sym c.in_ok-halt.ensures.node) c.in_ok-arrive.ensures) in
+    let marks = subst (λ k. Adds c.args.self.now.marks.known.keys (chosen_marks sys job.run.limits.steps k p) c.note_choice.new.marks.known.keys) c.requires.copied c.in_ok-halt.ensures.marks in
     let len = c.len.ensures in
     let below = leb-true c.len.result job.most room in
     let few : length next ≤ job.most = omega (arith, len, below) in
-    within_more r sys job.limits.steps job.most job.limits.choices c.args.self.now.layer.known.keys c.args._at m (those_below p (may sys m)) p c.args.self.now.marks.known.keys c.note_choice.new.marks.known.keys c.args.self.now.next.known.keys next c.requires.within marks node few)
+    within_more r sys job.run.limits.steps job.most job.run.limits.choices c.args.self.now.layer.known.keys c.args._at m (those_below p (may sys m)) p c.args.self.now.marks.known.keys c.note_choice.new.marks.known.keys c.args.self.now.next.known.keys next c.requires.within marks node few)
 
 pub note_choice-requires-clause-may : goal.note_choice-requires-clause-may
 note_choice-requires-clause-may g c = ap (λ m. may (slots c.args.job.now.run.program.now c.args.job.now.run.limits.discipline) m c.args.process) c.requires.copied ∙ c.requires.may

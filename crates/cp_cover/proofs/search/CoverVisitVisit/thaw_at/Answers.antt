@@ -6,18 +6,18 @@ use Rattle.cp_cover.proofs.search.CoverVisitVisit.thaw_at.Goals as goal
 pub thaw_at-requires : goal.thaw_at-requires
 thaw_at-requires g c =
     let job = c.args._job.now in
-    (job.program.now, c.requires.own, own_keys job.program.now (slots job.program.now job.limits.discipline) job.limits.steps job.limits.choices c.args.self.now.layer.known.keys c.requires.before.layer)
+    (job.run.program.now, c.requires.own, own_keys job.run.program.now (slots job.run.program.now job.run.limits.discipline) job.run.limits.steps job.run.limits.choices c.args.self.now.layer.known.keys c.requires.before.layer)
 
 pub returns-clause-own : goal.returns-clause-own
 returns-clause-own g c =
     let job = c.args._job.now in
-    c.thaw_at.ensures.own job.program.now c.requires.own (own_keys job.program.now (slots job.program.now job.limits.discipline) job.limits.steps job.limits.choices c.args.self.now.layer.known.keys c.requires.before.layer)
+    c.thaw_at.ensures.own job.run.program.now c.requires.own (own_keys job.run.program.now (slots job.run.program.now job.run.limits.discipline) job.run.limits.steps job.run.limits.choices c.args.self.now.layer.known.keys c.requires.before.layer)
 
 pub returns-clause-within : goal.returns-clause-within
 returns-clause-within g c = λ found.
     (let job = c.args._job.now in
     let k = c.thaw_at.ensures.key found in
-    within_first job.program.now (slots job.program.now job.limits.discipline) job.limits.steps job.most job.limits.choices c.args.self.now.layer.known.keys c.args.number k.0 (machine_of c.thaw_at.new.state) c.args.self.now.marks.known.keys c.args.self.now.next.known.keys k.1 k.2 c.requires.before)
+    within_first job.run.program.now (slots job.run.program.now job.run.limits.discipline) job.run.limits.steps job.most job.run.limits.choices c.args.self.now.layer.known.keys c.args.number k.0 (machine_of c.thaw_at.new.state) c.args.self.now.marks.known.keys c.args.self.now.next.known.keys k.1 k.2 c.requires.before)
 
 pub returns-clause-over : goal.returns-clause-over
 returns-clause-over g c = λ none. record { count = c.args.number; begun = c.requires.before; all = c.thaw_at.ensures.none none }

@@ -11,18 +11,18 @@ pub returns-clause-begun : goal.returns-clause-begun
 unfolding searched
 returns-clause-begun g c =
     let job = c.args.job.now in
-    let r = job.program.now in
-    let a : SlotArrival = (slot_graph r job.limits.discipline job.limits.steps).start in
+    let r = job.run.program.now in
+    let a : SlotArrival = (slot_graph r job.run.limits.discipline job.run.limits.steps).start in
     ok_to c.arrive.result _ _ c.arrive.ensures.arrives (λ b on. start_found r job.most c.arrive.new.self a b c.requires.most (on nothing [] a (record { holds = c.requires.nothing; few = omega arith }) refl tt c.in_ok-halt.ensures.goal (c.as_slice-values.ensures.value ∙ c.in_ok-halt.ensures.shown ∙ ap (λ l. l ++ a.shown) c.clear.ensures.items)))
 
 pub returns-clause-leg : goal.returns-clause-leg
 returns-clause-leg g c =
     let job = c.args.job.now in
-    let r = job.program.now in
-    let discipline = job.limits.discipline in
+    let r = job.run.program.now in
+    let discipline = job.run.limits.discipline in
     let quiet = silent_slots r discipline in
     let told = c.open.new.told in
-    ok_to c.arrive.result _ _ c.arrive.ensures.halt (λ b halts. subst (λ (h : Halt End). ComesTo quiet (λ w. g.P.Sight.sees w r discipline) job.limits.steps (first_leg quiet job.limits.steps) [] told.seen (with_round told.again h) (machine_of c.open.new.state)) (sym halts) c.in_ok-halt.ensures.leg)
+    ok_to c.arrive.result _ _ c.arrive.ensures.halt (λ b halts. subst (λ (h : Halt End). ComesTo quiet (λ w. g.P.Sight.sees w r discipline) job.run.limits.steps (first_leg quiet job.run.limits.steps) [] told.seen (with_round told.again h) (machine_of c.open.new.state)) (sym halts) c.in_ok-halt.ensures.leg)
 
 pub arrive-requires-clause-moved : goal.arrive-requires-clause-moved
 arrive-requires-clause-moved g c = λ due. tt

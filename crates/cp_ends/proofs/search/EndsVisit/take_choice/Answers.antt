@@ -20,8 +20,8 @@ pub arrive-requires-clause-moved : goal.arrive-requires-clause-moved
 arrive-requires-clause-moved g c = λ due.
     (let job = c.args.job.now in
     let m = machine_of c.args.state.now in
-    let gr = slot_graph job.program.now job.limits.discipline job.limits.steps in (
-      row_within job.program.now gr job.most c.args.self.now.found c.args.at m (those_below c.args.process (gr.may m)) c.requires.within,
+    let gr = slot_graph job.run.program.now job.run.limits.discipline job.run.limits.steps in (
+      row_within job.run.program.now gr job.most c.args.self.now.found c.args.at m (those_below c.args.process (gr.may m)) c.requires.within,
       subst (λ k. KeepBodies (has_moved c.choose.new.told.moved) k (machine_of c.choose.new.state)) c.requires.copied (c.in_ok-halt.ensures.kept due),
     ))
 
@@ -32,8 +32,8 @@ returns-clause-kept g c =
 pub returns-clause-within : goal.returns-clause-within
 returns-clause-within g c =
     let job = c.args.job.now in
-    let r = job.program.now in
-    let gr = slot_graph r job.limits.discipline job.limits.steps in
+    let r = job.run.program.now in
+    let gr = slot_graph r job.run.limits.discipline job.run.limits.steps in
     let m = machine_of c.args.state.now in
     let p = c.args.process in
     let n = machine_of c.args.next.now in
@@ -45,8 +45,8 @@ returns-clause-within g c =
 pub returns-clause-stops : goal.returns-clause-stops
 returns-clause-stops g c =
     let job = c.args.job.now in
-    let r = job.program.now in
-    let gr = slot_graph r job.limits.discipline job.limits.steps in
+    let r = job.run.program.now in
+    let gr = slot_graph r job.run.limits.discipline job.run.limits.steps in
     let m = machine_of c.args.state.now in
     let p = c.args.process in
     let n = machine_of c.args.next.now in
@@ -58,8 +58,8 @@ returns-clause-stops g c =
 pub returns-clause-number : goal.returns-clause-number
 returns-clause-number g c =
     let job = c.args.job.now in
-    let r = job.program.now in
-    let gr = slot_graph r job.limits.discipline job.limits.steps in
+    let r = job.run.program.now in
+    let gr = slot_graph r job.run.limits.discipline job.run.limits.steps in
     let m = machine_of c.args.state.now in
     let p = c.args.process in
     let n = machine_of c.args.next.now in
@@ -75,10 +75,10 @@ returns-clause-number g c =
 pub returns-clause-leg : goal.returns-clause-leg
 returns-clause-leg g c =
     let job = c.args.job.now in
-    let r = job.program.now in
-    let discipline = job.limits.discipline in
+    let r = job.run.program.now in
+    let discipline = job.run.limits.discipline in
     let quiet = silent_slots r discipline in
     let m = machine_of c.args.state.now in
     let told = c.choose.new.told in
-    ok_to c.arrive.result _ _ c.arrive.ensures.halt (λ b halts. subst (λ (h : Halt End). ComesTo quiet (λ w. g.P.Sight.sees w r discipline) job.limits.steps (choice_leg quiet job.limits.steps m c.args.process) (m ∷ []) told.seen (with_round told.again h) (machine_of c.choose.new.state)) (sym halts)
-    (subst (λ k. ComesTo quiet (λ w. g.P.Sight.sees w r discipline) job.limits.steps (choice_leg quiet job.limits.steps k c.args.process) (k ∷ []) told.seen (with_round told.again c.in_ok-halt.halt) (machine_of c.choose.new.state)) c.requires.copied c.in_ok-halt.ensures.leg))
+    ok_to c.arrive.result _ _ c.arrive.ensures.halt (λ b halts. subst (λ (h : Halt End). ComesTo quiet (λ w. g.P.Sight.sees w r discipline) job.run.limits.steps (choice_leg quiet job.run.limits.steps m c.args.process) (m ∷ []) told.seen (with_round told.again h) (machine_of c.choose.new.state)) (sym halts)
+    (subst (λ k. ComesTo quiet (λ w. g.P.Sight.sees w r discipline) job.run.limits.steps (choice_leg quiet job.run.limits.steps k c.args.process) (k ∷ []) told.seen (with_round told.again c.in_ok-halt.halt) (machine_of c.choose.new.state)) c.requires.copied c.in_ok-halt.ensures.leg))

@@ -5,8 +5,8 @@ use Rattle.cp_ends.proofs.search.EndsVisitVisit.end_state.Goals as goal
 pub returns : goal.returns
 returns g c =
     let job = c.args._job.now in
-    let r = job.program.now in
-    let gr = slot_graph r job.limits.discipline job.limits.steps in
+    let r = job.run.program.now in
+    let gr = slot_graph r job.run.limits.discipline job.run.limits.steps in
     let found = c.args.self.now.found in
     let at = c.args._at in
     let next : suc at ≡ at + 1 = omega arith in

@@ -7,5 +7,5 @@ abbrev pub invariant-loop-key : goal.invariant-loop-key
 invariant-loop-key g l =
     record {
       room : MOST_SHOWN ≤ vec_capacity l.self.here.state.output;
-      ending : Ending l.job.program.now l.job.limits.discipline l.job.limits.steps l.job.limits.choices l.self.frontier.store l.self.frontier.ended.entries l.key-iterator;
+      ending : Ending l.job.run.program.now l.job.run.limits.discipline l.job.run.limits.steps l.job.run.limits.choices l.self.frontier.store l.self.frontier.ended.entries l.key-iterator;
     }

@@ -11,8 +11,8 @@ arrive-requires-clause-quiet g c = c.in_ok-turn.ensures.seen tt (λ on. ap outpu
 
 pub returns-clause-node : goal.returns-clause-node
 returns-clause-node g c =
-    ok_as c.arrive.result _ _ c.arrive.ensures.node (λ h halts. opening_halts g.K.Schedules.IS_SILENT c.args.job.now.run.program.now c.args.job.now.run.limits.discipline c.args.job.now.run.limits.steps h (machine_of c.arrive.new.state) (node_of (halt_at c.in_ok-turn.turn) (machine_of c.observe_opening.new.state)) c.in_ok-turn.ensures.node halts)
+    ok_as c.arrive.result _ _ c.arrive.ensures.node (λ h halts. opening_halts g.K.Schedules.IS_SILENT c.args.job.now.program.now c.args.job.now.limits.discipline c.args.job.now.limits.steps h (machine_of c.arrive.new.state) (node_of (halt_at c.in_ok-turn.turn) (machine_of c.observe_opening.new.state)) c.in_ok-turn.ensures.node halts)
 
 pub returns-clause-goal : goal.returns-clause-goal
 returns-clause-goal g c =
-    ok_as c.arrive.result _ _ c.arrive.ensures.goal (λ h leads. opening_leads g.K.Schedules.IS_SILENT c.args.job.now.run.program.now c.args.job.now.run.limits.discipline c.args.job.now.run.limits.steps (goal_at h (machine_of c.arrive.new.state)) (machine_of c.observe_opening.new.state) c.in_ok-turn.turn c.in_ok-turn.ensures.walked leads)
+    ok_as c.arrive.result _ _ c.arrive.ensures.goal (λ h leads. opening_leads g.K.Schedules.IS_SILENT c.args.job.now.program.now c.args.job.now.limits.discipline c.args.job.now.limits.steps (goal_at h (machine_of c.arrive.new.state)) (machine_of c.observe_opening.new.state) c.in_ok-turn.turn c.in_ok-turn.ensures.walked leads)

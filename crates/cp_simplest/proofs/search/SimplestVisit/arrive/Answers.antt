@@ -5,7 +5,7 @@ use Rattle.cp_simplest.proofs.search.SimplestVisit.arrive.Goals as goal
 use Rattle.cp_simplest.proofs.search.SimplestVisit.arrive.Goals.{in-Ended+in_ok-target-in-Ended, in-Choice+in_ok-target-in-Choice, in-Choice-2+in_ok-add_state-in-Choice-2, in-Some+in_ok-insert, in_default}
 
 pub returns : goal.returns
-returns g c =
+returns c =
     let r = c.args.job.now.run.program.now in
     let noted : AreOwn r c.match-halt.self.states = elim c.match-halt.branch [
       | in-Ended+in_ok-target-in-Ended w ↦ subst (λ v. AreOwn r v.states) (sym w.self-is) c.requires.states

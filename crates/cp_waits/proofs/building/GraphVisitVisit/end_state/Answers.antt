@@ -12,14 +12,14 @@ use Rattle.cp_waits.proofs.Numbers.{quiet_may}
 use Rattle.cp_waits.proofs.building.GraphVisitVisit.end_state.Goals as goal
 
 pub end_state-requires : goal.end_state-requires
-end_state-requires g c = (c.requires.0, c.requires.1.ends)
+end_state-requires c = (c.requires.0, c.requires.1.ends)
 
 pub returns : goal.returns
-returns g c = ok_to c.end_state-2.result _ _ c.end_state-2.ensures.ends (λ a ends.
+returns c = ok_to c.end_state-2.result _ _ c.end_state-2.ensures.ends (λ a ends.
     (let job = c.args.job.now in
-    let r = job.program.now in
-    let discipline = job.limits.discipline in
-    let steps = job.limits.steps in
+    let r = job.run.program.now in
+    let discipline = job.run.limits.discipline in
+    let steps = job.run.limits.steps in
     let quiet = silent_slots r discipline in
     let gr = slot_graph r discipline steps in
     let n = c.args.at in

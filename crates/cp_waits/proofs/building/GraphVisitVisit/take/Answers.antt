@@ -15,11 +15,11 @@ use Rattle.cp_waits.proofs.Visiting.{from_same}
 use Rattle.cp_waits.proofs.building.GraphVisitVisit.take.Goals as goal
 
 pub returns-clause-within : goal.returns-clause-within
-returns-clause-within g c = λ room.
+returns-clause-within c = λ room.
     (let job = c.args.job.now in
-    let r = job.program.now in
-    let discipline = job.limits.discipline in
-    let steps = job.limits.steps in
+    let r = job.run.program.now in
+    let discipline = job.run.limits.discipline in
+    let steps = job.run.limits.steps in
     let quiet = silent_slots r discipline in
     let gr = slot_graph r discipline steps in
     let state = c.args.state.now in
@@ -63,10 +63,10 @@ returns-clause-within g c = λ room.
     })
 
 pub returns-clause-stops : goal.returns-clause-stops
-returns-clause-stops g c = λ full. absurd (cc)
+returns-clause-stops c = λ full. absurd (cc)
 
 pub returns-then-not-has_room-clause-within : goal.returns-then-not-has_room-clause-within
-returns-then-not-has_room-clause-within g c = λ room. absurd (cc)
+returns-then-not-has_room-clause-within c = λ room. absurd (cc)
 
 pub returns-then-not-has_room-clause-stops : goal.returns-then-not-has_room-clause-stops
-returns-then-not-has_room-clause-stops g c = λ full. c.in_ok-arrived.ensures.stops (sym c.has_room.ensures ∙ c.if-not-has_room.true)
+returns-then-not-has_room-clause-stops c = λ full. c.in_ok-arrived.ensures.stops (sym c.has_room.ensures ∙ c.if-not-has_room.true)

@@ -34,7 +34,7 @@ walk_from-returns-in-Ended g t c =
       walked = leaf_walked r limits c.args.self.now.word.items n (node_of c.args.halt s) c.args.self.now.found c.add_row.new.self.found outcome c.add_row.result leaf c.add_row.ensures.walked c.requires.found c.add_row.ensures.row c.add_row.ensures.few;
       word = if_ok _ c.add_row.result c.add_row.ensures.word;
       many = err_more c.add_row.result (length c.args.self.now.found.rows.items) _ (ap length leaf) c.add_row.ensures.many;
-      calls = if_ok _ c.add_row.result (calls_leaf (walk sys steps n (node_of c.args.halt s)) (record { word = []; outcome = outcome }) c.args.calls.now leaf refl);
+      calls = if_ok _ c.add_row.result (calls_leaf (walk sys steps n (node_of c.args.halt s)) (record { word = []; outcome = outcome }) (g.C.Count.count c.args.calls.now) leaf refl);
     }
 
 pub walk_from-returns-in_default-split_first_mut : goal.walk_from-returns-in_default-split_first_mut
@@ -53,7 +53,7 @@ walk_from-returns-in_default-split_first_mut g t c =
       walked = leaf_walked r limits c.args.self.now.word.items n (node_of c.args.halt s) c.args.self.now.found c.add_row-in_default-split_first_mut.new.self.found outcome c.add_row-in_default-split_first_mut.result leaf c.add_row-in_default-split_first_mut.ensures.walked c.requires.found c.add_row-in_default-split_first_mut.ensures.row c.add_row-in_default-split_first_mut.ensures.few;
       word = if_ok _ c.add_row-in_default-split_first_mut.result c.add_row-in_default-split_first_mut.ensures.word;
       many = err_more c.add_row-in_default-split_first_mut.result (length c.args.self.now.found.rows.items) _ (ap length leaf) c.add_row-in_default-split_first_mut.ensures.many;
-      calls = if_ok _ c.add_row-in_default-split_first_mut.result (calls_leaf (walk sys steps n (node_of c.args.halt s)) (record { word = []; outcome = outcome }) c.args.calls.now leaf refl);
+      calls = if_ok _ c.add_row-in_default-split_first_mut.result (calls_leaf (walk sys steps n (node_of c.args.halt s)) (record { word = []; outcome = outcome }) (g.C.Count.count c.args.calls.now) leaf refl);
     }
 
 pub walk_from-unreachable-requires : goal.walk_from-unreachable-requires
@@ -116,14 +116,14 @@ walk_from-loop-process-preserved g t c =
     let lt : i < length others = omega arith in
     let more : length c.walk_child.new.deeper ≡ n = c.walk_child.auto.deeper in
     let grown : new ≡ rows ++ map (behind (word ++ p ∷ [])) (walk sys steps n (chosen sys steps s p)) = c.in_ok-walk_child.ensures.walked.rows ∙ ap (λ w. rows ++ map (behind (w ++ p ∷ [])) (walk sys steps n (chosen sys steps (machine_of c.take_from.new.self) p))) c.loop-process.invariant.word ∙ ap (λ m. rows ++ map (behind (word ++ p ∷ [])) (walk sys steps n (chosen sys steps m p))) c.take_from.ensures.same in
-    let called : c.walk_child.new.calls ≤ c.loop-process.calls + beginnings (words_in (walk sys steps n (chosen sys steps s p))) = subst (λ m. c.walk_child.new.calls ≤ c.loop-process.calls + beginnings (words_in (walk sys steps n (chosen sys steps m p)))) c.take_from.ensures.same c.in_ok-walk_child.ensures.calls in
+    let called : (g.C.Count.count c.walk_child.new.calls) ≤ (g.C.Count.count c.loop-process.calls) + beginnings (words_in (walk sys steps n (chosen sys steps s p))) = subst (λ m. (g.C.Count.count c.walk_child.new.calls) ≤ (g.C.Count.count c.loop-process.calls) + beginnings (words_in (walk sys steps n (chosen sys steps m p)))) c.take_from.ensures.same c.in_ok-walk_child.ensures.calls in
     record {
       rows = subst (λ (k : ℕ). new ≡ old ++ map (behind word) (behind_each sys steps k s (take (i + 1) others))) (sym more) (rows_other sys steps n s others last listed i p lt refl word old rows new c.loop-process.invariant.rows grown);
       word = c.in_ok-walk_child.ensures.word ∙ c.loop-process.invariant.word;
       found = c.in_ok-walk_child.ensures.walked.found;
       next = c.walk_child.ensures.own;
       deeper = c.walk_child.ensures.deeper;
-      calls = subst (λ (k : ℕ). c.walk_child.new.calls ≤ c.args.calls.now + added [] (words_in (behind_each sys steps k s (take (i + 1) others)))) (sym more) (calls_other sys steps n s others last listed i p lt refl c.args.calls.now c.loop-process.calls c.walk_child.new.calls c.loop-process.invariant.calls called);
+      calls = subst (λ (k : ℕ). (g.C.Count.count c.walk_child.new.calls) ≤ (g.C.Count.count c.args.calls.now) + added [] (words_in (behind_each sys steps k s (take (i + 1) others)))) (sym more) (calls_other sys steps n s others last listed i p lt refl (g.C.Count.count c.args.calls.now) (g.C.Count.count c.loop-process.calls) (g.C.Count.count c.walk_child.new.calls) c.loop-process.invariant.calls called);
     }
 
 pub walk_from-returns-in_err-walk_child : goal.walk_from-returns-in_err-walk_child
@@ -190,7 +190,7 @@ walk_from-returns g t c =
     let deep : left ≡ n + 1 = sym c.in-Some.ensures.cases.1 ∙ ap (λ k. k + 1) (sym c.loop-process.auto.deeper) in
     let whole : take c.loop-process.process-index others ≡ others = take_all c.loop-process.process-index others (omega arith) in
     let so_far : rows ≡ old ++ map (behind word) (behind_each sys steps n s others) = c.loop-process.invariant.rows ∙ ap (λ ps. old ++ map (behind word) (behind_each sys steps n s ps)) whole in
-    let called : c.loop-process.calls ≤ c.args.calls.now + added [] (words_in (behind_each sys steps n s others)) = subst (λ ps. c.loop-process.calls ≤ c.args.calls.now + added [] (words_in (behind_each sys steps n s ps))) whole c.loop-process.invariant.calls in
+    let called : (g.C.Count.count c.loop-process.calls) ≤ (g.C.Count.count c.args.calls.now) + added [] (words_in (behind_each sys steps n s others)) = subst (λ ps. (g.C.Count.count c.loop-process.calls) ≤ (g.C.Count.count c.args.calls.now) + added [] (words_in (behind_each sys steps n s ps))) whole c.loop-process.invariant.calls in
     let due = not_ended c.args.halt c.in_default.not-Ended in
     let bound = many_last sys steps n s others last listed left deep word old rows so_far in
     let same = ap (λ h. length (walk sys steps left (node_of h s))) due in
@@ -206,7 +206,7 @@ walk_from-returns g t c =
       });
       word = ok_as c.walk_child-2.result _ (λ _. c.walk_child-2.new.self.word.items ≡ word) c.walk_child-2.ensures.word (λ a h. h ∙ c.loop-process.invariant.word);
       many = err_then c.walk_child-2.result _ (λ e. IsTooMany e → 50000 < length c.args.self.now.found.rows.items + length (walk sys steps left (node_of c.args.halt s))) c.walk_child-2.ensures.many (λ e h many. let more = h many in omega (arith, bound, same, a, b, more));
-      calls = ok_both c.walk_child-2.result _ _ (λ _. c.walk_child-2.new.calls + 1 ≤ c.args.calls.now + beginnings (words_in (walk sys steps left (node_of c.args.halt s)))) c.walk_child-2.ensures.calls c.walk_child-2.ensures.walked (λ a h walked. subst (λ k. c.walk_child-2.new.calls + 1 ≤ c.args.calls.now + beginnings (words_in (walk sys steps left (node_of k s)))) (sym due) (calls_last sys steps n s others last listed left deep c.args.calls.now c.loop-process.calls c.walk_child-2.new.calls called h walked.some));
+      calls = ok_both c.walk_child-2.result _ _ (λ _. (g.C.Count.count c.walk_child-2.new.calls) + 1 ≤ (g.C.Count.count c.args.calls.now) + beginnings (words_in (walk sys steps left (node_of c.args.halt s)))) c.walk_child-2.ensures.calls c.walk_child-2.ensures.walked (λ a h walked. subst (λ k. (g.C.Count.count c.walk_child-2.new.calls) + 1 ≤ (g.C.Count.count c.args.calls.now) + beginnings (words_in (walk sys steps left (node_of k s)))) (sym due) (calls_last sys steps n s others last listed left deep (g.C.Count.count c.args.calls.now) (g.C.Count.count c.loop-process.calls) (g.C.Count.count c.walk_child-2.new.calls) called h walked.some));
     }
 
 pub walk_child-walk_once-requires : goal.walk_child-walk_once-requires

@@ -21,5 +21,5 @@ invariant-walk_from-loop-process g l =
       found : AreFound l.job.program.now l.job.limits l.self.found;
       next : IsStateOf l.job.program.now l.next;
       deeper : All (IsStateOf l.job.program.now) l.deeper;
-      calls : l.calls ≤ l.fn.calls + added [] (words_in (behind_each (slots l.job.program.now l.job.limits.discipline) l.job.limits.steps (length l.deeper) (machine_of l.state) (take l.process-index l.others)));
+      calls : g.C.Count.count l.calls ≤ g.C.Count.count l.fn.calls + added [] (words_in (behind_each (slots l.job.program.now l.job.limits.discipline) l.job.limits.steps (length l.deeper) (machine_of l.state) (take l.process-index l.others)));
     }

@@ -15,7 +15,7 @@ use Rattle.cp_ways.proofs.counting.Counting.+add_ways.Goals as goal
 -- ---- one choice
 
 pub add_choice-add_end-requires : goal.add_choice-add_end-requires
-add_choice-add_end-requires g t c =
+add_choice-add_end-requires t c =
     let sys = slots c.args.job.now.program.now c.args.job.now.limits.discipline in
     let steps = c.args.job.now.limits.steps in
     let next = machine_of c.choose-halt.new.state in
@@ -25,7 +25,7 @@ add_choice-add_end-requires g t c =
     record { small = omega (arith, one, small) }
 
 pub add_choice-returns-in-Ended-clause-added : goal.add_choice-returns-in-Ended-clause-added
-add_choice-returns-in-Ended-clause-added g t c = λ f.
+add_choice-returns-in-Ended-clause-added t c = λ f.
     (let sys = slots c.args.job.now.program.now c.args.job.now.limits.discipline in
     let steps = c.args.job.now.limits.steps in
     let s = machine_of c.args.state.now in
@@ -35,7 +35,7 @@ add_choice-returns-in-Ended-clause-added g t c = λ f.
     ∙ ap (λ n. weight f c.args.ways.now.list.entries + n) (sym (over_told sys steps c.args.left (chosen sys steps s c.args.process) c.in-Ended.kind (length s.output) next c.shown_since-shown.result.now f node c.shown_since-shown.ensures)))
 
 pub add_choice-returns-clause-added : goal.add_choice-returns-clause-added
-add_choice-returns-clause-added g t c =
+add_choice-returns-clause-added t c =
     let r = c.args.job.now.program.now in
     let discipline = c.args.job.now.limits.discipline in
     let sys = slots r discipline in
@@ -51,14 +51,14 @@ add_choice-returns-clause-added g t c =
 -- ---- all choices of a state
 
 pub count-loop-process-init : goal.count-loop-process-init
-count-loop-process-init g t c =
+count-loop-process-init t c =
     record {
       known = c.requires.known;
       ways = λ f. ap (weight f) c.new-ways.ensures;
     }
 
 pub count-add_choice-requires : goal.count-add_choice-requires
-count-add_choice-requires g t c =
+count-add_choice-requires t c =
     let sys = slots c.args.job.now.program.now c.args.job.now.limits.discipline in
     let steps = c.args.job.now.limits.steps in
     let s = machine_of c.args.state.now in
@@ -74,7 +74,7 @@ count-add_choice-requires g t c =
     search (rules, on, fits)
 
 pub count-loop-process-preserved : goal.count-loop-process-preserved
-count-loop-process-preserved g t c =
+count-loop-process-preserved t c =
     let sys = slots c.args.job.now.program.now c.args.job.now.limits.discipline in
     let steps = c.args.job.now.limits.steps in
     let s = machine_of c.args.state.now in
@@ -91,7 +91,7 @@ count-loop-process-preserved g t c =
     }
 
 pub count-returns : goal.count-returns
-count-returns g t c =
+count-returns t c =
     let sys = slots c.args.job.now.program.now c.args.job.now.limits.discipline in
     let steps = c.args.job.now.limits.steps in
     let s = machine_of c.args.state.now in
@@ -111,7 +111,7 @@ count-returns g t c =
 -- ---- a state
 
 pub add_ways-add_end-requires : goal.add_ways-add_end-requires
-add_ways-add_end-requires g t c =
+add_ways-add_end-requires t c =
     let sys = slots c.args.job.now.program.now c.args.job.now.limits.discipline in
     let none : c.args.left ≡ 0 = omega arith in
     let one = limit_one sys c.args.job.now.limits.steps c.args.left (machine_of c.args.state.now) none in
@@ -119,14 +119,14 @@ add_ways-add_end-requires g t c =
     record { small = omega (arith, one, small) }
 
 pub add_ways-returns-then-left-eq0-clause-added : goal.add_ways-returns-then-left-eq0-clause-added
-add_ways-returns-then-left-eq0-clause-added g t c = λ f.
+add_ways-returns-then-left-eq0-clause-added t c = λ f.
     (let sys = slots c.args.job.now.program.now c.args.job.now.limits.discipline in
     let none : c.args.left ≡ 0 = omega arith in
     c.in_ok-add_end.ensures.added f
     ∙ ap (λ n. weight f c.args.sum.now.list.entries + n) (sym (limit_told sys c.args.job.now.limits.steps c.args.left (machine_of c.args.state.now) c.args.shown.now f none)))
 
 pub add_ways-add_behind-requires : goal.add_ways-add_behind-requires
-add_ways-add_behind-requires g t c =
+add_ways-add_behind-requires t c =
     let r = c.args.job.now.program.now in
     let discipline = c.args.job.now.limits.discipline in
     let steps = c.args.job.now.limits.steps in
@@ -138,7 +138,7 @@ add_ways-add_behind-requires g t c =
     record { small = omega (arith, count, small) }
 
 pub add_ways-returns-in-Some-clause-added : goal.add_ways-returns-in-Some-clause-added
-add_ways-returns-in-Some-clause-added g t c = λ f.
+add_ways-returns-in-Some-clause-added t c = λ f.
     (let r = c.args.job.now.program.now in
     let discipline = c.args.job.now.limits.discipline in
     let steps = c.args.job.now.limits.steps in
@@ -148,7 +148,7 @@ add_ways-returns-in-Some-clause-added g t c = λ f.
     ∙ ap (λ n. weight f c.args.sum.now.list.entries + n) (h (λ o. f (after c.args.shown.now o))))
 
 pub add_ways-add_behind-requires-2 : goal.add_ways-add_behind-requires-2
-add_ways-add_behind-requires-2 g t c =
+add_ways-add_behind-requires-2 t c =
     let sys = slots c.args.job.now.program.now c.args.job.now.limits.discipline in
     let steps = c.args.job.now.limits.steps in
     let s = machine_of c.args.state.now in
@@ -160,7 +160,7 @@ add_ways-add_behind-requires-2 g t c =
     record { small = omega (arith, count, small) }
 
 pub add_ways-returns-clause-known : goal.add_ways-returns-clause-known
-add_ways-returns-clause-known g t c =
+add_ways-returns-clause-known t c =
     let sys = slots c.args.job.now.program.now c.args.job.now.limits.discipline in
     let steps = c.args.job.now.limits.steps in
     let s = machine_of c.args.state.now in
@@ -172,7 +172,7 @@ add_ways-returns-clause-known g t c =
     remembered sys steps c.count.new.self.known.entries c.remember.new.self.known.entries key ways c.count.ensures.known is c.remember.ensures.known
 
 pub add_ways-returns-in_err-remember-clause-known : goal.add_ways-returns-in_err-remember-clause-known
-add_ways-returns-in_err-remember-clause-known g t c =
+add_ways-returns-in_err-remember-clause-known t c =
     let sys = slots c.args.job.now.program.now c.args.job.now.limits.discipline in
     let steps = c.args.job.now.limits.steps in
     let s = machine_of c.args.state.now in

@@ -8,16 +8,16 @@ use Rattle.cp_ways.specs.Weights.{AreKnown, weight, weight_of}
 use Rattle.cp_ways.proofs.counting.Counting.+add_ways.Given as goal
 
 abbrev pub decreases-add_ways : goal.decreases-add_ways
-decreases-add_ways g l = 3 * l.left
+decreases-add_ways l = 3 * l.left
 
 abbrev pub decreases-add_choice : goal.decreases-add_choice
-decreases-add_choice g l = 3 * l.left + 1
+decreases-add_choice l = 3 * l.left + 1
 
 abbrev pub decreases-count : goal.decreases-count
-decreases-count g l = 3 * l.left + 2
+decreases-count l = 3 * l.left + 2
 
 abbrev pub invariant-count-loop-process : goal.invariant-count-loop-process
-invariant-count-loop-process g l =
+invariant-count-loop-process l =
     record {
       known : AreKnown (slots l.job.program.now l.job.limits.discipline) l.job.limits.steps l.self.known.entries;
       ways : (f : Outcome → ℕ) → weight f l.ways.list.entries ≡ sum_by (λ p. weight_of (λ o. f (since (length (output_of (machine_of l.state))) o)) (walk (slots l.job.program.now l.job.limits.discipline) l.job.limits.steps l.left (chosen (slots l.job.program.now l.job.limits.discipline) l.job.limits.steps (machine_of l.state) p))) (take l.process-index l.process-items);

@@ -9,7 +9,7 @@ use Rattle.cp_ways.proofs.Told.{are_ways}
 use Rattle.cp_ways.proofs.counting.Counting.ways_on.Goals as goal
 
 pub add_ways-requires-clause-small : goal.add_ways-requires-clause-small
-add_ways-requires-clause-small g c =
+add_ways-requires-clause-small c =
     let sys = slots c.args.job.now.program.now c.args.job.now.limits.discipline in
     let few = all_few sys c.requires.own.sound.few c.args.job.now.limits.steps c.args.left (Choosing (machine_of c.args.state.now)) c.requires.few in
     let none = ap total c.new-ways.ensures in
@@ -19,7 +19,7 @@ none_before : (a : ℕ) → 0 + a ≡ a
 none_before a = omega arith
 
 pub returns-in-Ok-clause-ways : goal.returns-in-Ok-clause-ways
-returns-in-Ok-clause-ways g c =
+returns-in-Ok-clause-ways c =
     let r = c.args.job.now.program.now in
     let discipline = c.args.job.now.limits.discipline in
     let steps = c.args.job.now.limits.steps in

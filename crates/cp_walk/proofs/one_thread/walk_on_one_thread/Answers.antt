@@ -4,7 +4,7 @@ use Rattle.cp_walk.proofs.Counted.{rows_words}
 use Rattle.cp_walk.proofs.Errors.{err_as}
 use Rattle.cp_walk.proofs.Leading.{due_opened}
 use Rattle.cp_walk.proofs.Whole.{behind_none, whole_walk}
-use Rattle.cp_walk.proofs.one_thread.explore_counted.Goals as goal
+use Rattle.cp_walk.proofs.one_thread.walk_on_one_thread.Goals as goal
 
 pub returns-clause-table : goal.returns-clause-table
 returns-clause-table g c =
