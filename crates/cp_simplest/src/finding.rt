@@ -69,11 +69,12 @@ pub fn is_schedule_of(
     requires { length word.now ≤ 100 }
     ensures { IfOk result (λ is. is ≡ true → spec.IsScheduleOf (slots job.now.program.now job.now.limits.discipline) job.now.limits.choices job.now.limits.steps word.now outcome.now) }
 {
-    match run(alloc, job, word, &mut Uncounted)? {
-        RunEnd::Ended {
-            outcome: found,
-            used,
-        } => Ok(used == word.len() && is_same(&found, outcome)),
-        RunEnd::Wants { .. } | RunEnd::NotReady { .. } => Ok(false),
-    }
+    let RunEnd::Ended {
+        outcome: found,
+        used,
+    } = run(alloc, job, word, &mut Uncounted)?
+    else {
+        return Ok(false);
+    };
+    Ok(used == word.len() && is_same(&found, outcome))
 }

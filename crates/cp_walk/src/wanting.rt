@@ -19,8 +19,8 @@ pub fn numbers_wanted_after(
     requires { length word.now ≤ 20 }
     ensures { IfOk result (λ o. option_map (λ r. r.items) o ≡ wanted_in (run (slots job.now.program.now job.now.limits.discipline) job.now.limits.choices job.now.limits.steps word.now)) }
 {
-    match run(alloc, job, word, &mut Uncounted)? {
-        RunEnd::Wants { ready } => Ok(Some(ready)),
-        RunEnd::Ended { .. } | RunEnd::NotReady { .. } => Ok(None),
-    }
+    let RunEnd::Wants { ready } = run(alloc, job, word, &mut Uncounted)? else {
+        return Ok(None);
+    };
+    Ok(Some(ready))
 }
