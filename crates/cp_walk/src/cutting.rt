@@ -54,7 +54,8 @@ impl<'a> Cutting<'a> {
         ensures unchanged { IfErr result (λ e. self.new.words.items ≡ self.old.words.items) }
         ensures fault { IfErr result (λ e. IsSplitFault e → split_of (slots self.old.job.program.now self.old.job.limits.discipline) self.old.job.limits.choices self.old.job.limits.steps (words_of self.old.words.items) i ≡ Err e) }
     {
-        let ready = match numbers_wanted_after(alloc, &self.job, self.words[i].as_slice()) {
+        let job = self.job;
+        let ready = match numbers_wanted_after(alloc, &job, self.words[i].as_slice()) {
             Ok(Some(ready)) => ready,
             Ok(None) => return Err(SplitFault::Leaf),
             Err(_) => return Err(SplitFault::Memory),
