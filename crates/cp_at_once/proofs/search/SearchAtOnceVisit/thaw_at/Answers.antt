@@ -9,12 +9,12 @@ use Rattle.cp_at_once.proofs.search.SearchAtOnceVisit.thaw_at.Goals as goal
 pub thaw_at-requires : goal.thaw_at-requires
 thaw_at-requires c =
     let x = c.requires.before.1 in
-    (c.args._job.now.program.now, x.0, c.requires.own, x.1.kept)
+    (c.args._job.now.run.program.now, x.0, c.requires.own, x.1.kept)
 
 pub returns-clause-own : goal.returns-clause-own
 returns-clause-own c =
     let x = c.requires.before.1 in
-    c.thaw_at.ensures.own c.args._job.now.program.now x.0 c.requires.own x.1.kept
+    c.thaw_at.ensures.own c.args._job.now.run.program.now x.0 c.requires.own x.1.kept
 
 pub returns-clause-within : goal.returns-clause-within
 returns-clause-within c = λ found.
