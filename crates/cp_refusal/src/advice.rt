@@ -1,9 +1,10 @@
 //! What may have been meant by a token that can't stand in its place.
 
-use crate::extent::{is_adding, is_multiplying, is_relation};
+use crate::extent::{closing, is_adding, is_multiplying, is_relation};
 use crate::foreign::{foreign_advice, is_start, is_type};
 use crate::further_up::{
-    CLOSING, OPENING, is_last_semicolon, is_real, is_statement, open_before, open_parenthesis,
+    CLOSING, OPENING, is_last_semicolon, is_real, is_statement, last_branch, open_before,
+    open_parenthesis,
 };
 use crate::place::{Sought, find, has_comment_before};
 use crate::rules::{is_mark_of, mark_before};
@@ -55,6 +56,7 @@ fn sign_advice(teller: &mut Teller) -> &'static str {
         (Some(Mark::Times), Some(Mark::Times), _) => ": there are no powers",
         (Some(Mark::Period), Some(Mark::Init), _) =>
             ": init stands before the component, as in init a",
+        (_, Some(Mark::Minus), Some(Mark::Greater)) => ": write a period in place of ->",
         (_, Some(Mark::Plus | Mark::Minus), next) if teller.takes(":=") => step_advice(
             teller, next,
         ),
@@ -141,6 +143,9 @@ fn mark_advice(teller: &mut Teller, mark: Mark) -> &'static str {
     if is_constant_operator(teller, mark) {
         return ": a constant is a number, a name or a character";
     }
+    if is_wrong_counting(teller, mark) {
+        return ": a for goes from one value to another, as in for i := 1 to 5 do";
+    }
     if is_relation(Some(mark)) {
         return relation_advice(teller);
     }
@@ -154,7 +159,11 @@ fn mark_advice(teller: &mut Teller, mark: Mark) -> &'static str {
         return ": constants, types and variables are declared before begin";
     }
     if mark == Mark::Comma && teller.takes("]") {
-        return ": where two indices are meant, write a[1][2], and array [1..2] of array [1..2] of ..";
+        return if is_in_init(teller) {
+            ": arguments stand in parentheses behind the index, as in init a[1](b), and two indices are written as in a[1][2]"
+        } else {
+            ": where two indices are meant, write a[1][2], and array [1..2] of array [1..2] of .."
+        };
     }
     if mark == Mark::Assert {
         return assertion_advice(teller);
@@ -208,13 +217,16 @@ fn inner_advice(teller: &Teller, mark: Mark) -> &'static str {
 fn place_advice(teller: &mut Teller, mark: Mark) -> &'static str {
     match mark {
         Mark::Else => else_advice(teller),
+        Mark::Becomes | Mark::Period | Mark::OpenParenthesis | Mark::OpenBracket
+            if is_behind_last_end(teller) && teller.takes("=") =>
+            ": the end before % closes a body, so that an end is too many or a begin is missing",
         Mark::Var if is_system_parameter(teller) =>
             ": parameters of a class, a monitor or a process have no var",
         Mark::Var if is_in_parentheses(teller) => ": a function has no var parameters",
         Mark::Const | Mark::Type | Mark::Var if teller.back(1) == Some(Mark::Closes) =>
             ": constants, types and variables are declared before the invariants",
         Mark::Const | Mark::Type | Mark::Var =>
-            ": constants, types and variables are declared before the routines, or an end is missing further up",
+            ": constants, types and variables are declared before the routines, or an end is missing further up, or begin and end before it",
         Mark::Invariant =>
             ": invariants stand in a class or a monitor, behind its declarations and before its routines",
         Mark::Array | Mark::Record | Mark::Set if is_type_of_parameter(teller) =>
@@ -235,13 +247,19 @@ fn place_advice(teller: &mut Teller, mark: Mark) -> &'static str {
         Mark::Until if teller.takes("end") => until_advice(teller),
         Mark::Entry if teller.takes("procedure") =>
             ": entry stands behind procedure or function, as in procedure entry p",
+        Mark::Entry if matches!(teller.back(2), Some(Mark::Procedure | Mark::Function)) =>
+            ": entry stands before %",
+        Mark::Set if teller.takes("while") && teller.ahead(1).is_none() =>
+            ": an assignment is written as in x := 2",
         Mark::End if teller.takes("begin") =>
             ": begin is missing before it, also where there is no statement",
         Mark::Semicolon => semicolon_advice(teller),
         Mark::Colon => colon_advice(teller),
         Mark::Comma => comma_advice(teller),
-        Mark::OpenBracket | Mark::CloseBracket if teller.takes("..") =>
+        Mark::OpenBracket | Mark::CloseBracket | Mark::Array if teller.takes("..") =>
             ": an array has a first and a last index, as in array [1..10] of integer",
+        Mark::CloseParenthesis if is_in_parentheses(teller) && teller.takes(":") =>
+            ": the type is missing before it, as in x: integer",
         Mark::CloseParenthesis if teller.takes("]") => ": ] is missing before it",
         Mark::CloseBracket if teller.takes(")") => ": ) is missing before it",
         Mark::CloseParenthesis if !is_in_parentheses(teller) => ": no ( is open before it",
@@ -249,15 +267,32 @@ fn place_advice(teller: &mut Teller, mark: Mark) -> &'static str {
             ": a name has letters, digits and _ alone",
         Mark::Becomes if teller.back(1) == Some(Mark::CloseParenthesis) =>
             ": a call can't be assigned; an element of an array is written with brackets, as in a[1]",
-        Mark::End if teller.takes("until") => ": a repeat ends in until and a condition",
+        Mark::End | Mark::While if teller.takes("until") =>
+            ": a repeat ends in until and a condition",
+        Mark::DoublePeriod if teller.takes("]") && teller.takes(",") =>
+            ": a set names its elements one by one, as in [1, 2]",
+        Mark::DoublePeriod if teller.takes("]") => ": an index is one value, as in a[1]",
+        Mark::Becomes if teller.takes("=") => ": = stands behind the name of a constant or a type",
         Mark::DoublePeriod if is_in_case(teller) && teller.takes(":") =>
             ": a label is one constant, and labels stand one by one, as in 0, 1, 2:",
         Mark::Begin => missing_word(teller),
         _ if is_statement(teller.tokens, teller.at) && teller.takes("begin") =>
             ": begin is missing before #",
-        _ if is_statement(teller.tokens, teller.at) => missing_word(teller),
+        _ if is_statement(teller.tokens, teller.at) => match missing_word(teller) {
+            "" if teller.takes(";") => ": a semicolon may be missing before it",
+            said => said,
+        },
         _ => "",
     }
+}
+
+// Whether the name before the token stands behind an `end` after which another one closes nothing.
+fn is_behind_last_end(teller: &Teller) -> bool {
+    let next = closing(teller.tokens, teller.at, &OPENING, &CLOSING);
+    teller.back(2) == Some(Mark::Semicolon)
+        && teller.back(3) == Some(Mark::End)
+        && next < teller.tokens.count()
+        && open_before(teller.tokens, next, &OPENING, &CLOSING).is_none()
 }
 
 // Of an `until` before which something else is open.
@@ -292,6 +327,8 @@ fn is_behind_procedure(teller: &mut Teller) -> bool {
 fn colon_advice(teller: &mut Teller) -> &'static str {
     if teller.ahead(1) == Some(Mark::Equal) && teller.takes(":=") {
         ": := is one sign, without a blank in it"
+    } else if is_adding(teller.ahead(1)) && teller.takes(":=") {
+        ": an assignment is written with :="
     } else if is_behind_word(teller) {
         ": no colon stands behind %"
     } else if is_behind_procedure(teller) {
@@ -315,10 +352,14 @@ fn comma_advice(teller: &mut Teller) -> &'static str {
         ": a set stands in brackets, as in [1, 2]"
     } else if !teller.takes(";") {
         ""
+    } else if teller.ahead(2) == Some(Mark::Colon) {
+        ": a semicolon is wanted here"
     } else if teller.takes("..") {
         ": the constants of an enumeration stand in parentheses, as in (red, green)"
     } else if teller.takes("else") || teller.takes("until") || is_in_body(teller) {
         ": statements are separated by semicolons, and only what one init starts by commas"
+    } else if is_in_parentheses(teller) {
+        ": the type of parameters is one name, and a semicolon stands behind it"
     } else {
         ": a semicolon is wanted here"
     }
@@ -369,32 +410,27 @@ fn is_in_case(teller: &Teller) -> bool {
 
 // Of an `else` to which there is no `then`.
 fn else_advice(teller: &Teller) -> &'static str {
-    if is_in_case(teller) && !is_behind_then(teller) {
-        ": a case has no else: each value that may come has a label"
-    } else if teller.back(1) == Some(Mark::Semicolon) {
-        ": no semicolon stands before else"
-    } else {
-        ""
+    let is_behind_semicolon = teller.back(1) == Some(Mark::Semicolon);
+    let end = teller
+        .at
+        .saturating_sub(if is_behind_semicolon { 1 } else { 0 });
+    match last_branch(teller.tokens, end) {
+        Some(Mark::Else) => ": the if before it has an else already",
+        Some(_) if is_behind_semicolon => ": no semicolon stands before else",
+        Some(_) => "",
+        None if is_in_case(teller) => ": a case has no else: each value that may come has a label",
+        None if is_in_branch(teller) => ": end is missing before it",
+        None =>
+            ": the statement before it is no if; several statements behind then stand between begin and end",
     }
 }
 
-// Whether the statement before the token, to which a semicolon may belong, has a `then`.
-fn is_behind_then(teller: &Teller) -> bool {
-    let mut closed: usize = 0;
-    for place in (0..teller.at.saturating_sub(1)).rev() {
-        if is_mark_of(teller.tokens, place, &CLOSING) {
-            closed = closed.saturating_add(1);
-        } else if is_mark_of(teller.tokens, place, &OPENING) {
-            closed = closed.saturating_sub(1);
-        } else if closed == 0 {
-            match teller.mark_at(place) {
-                Some(Mark::Then) => return true,
-                Some(Mark::Semicolon | Mark::Of) => return false,
-                _ => {}
-            }
-        }
+// Whether the innermost word that is open is a `begin` behind `then`.
+fn is_in_branch(teller: &Teller) -> bool {
+    match open_before(teller.tokens, teller.at, &OPENING, &CLOSING) {
+        Some(open) => mark_before(teller.tokens, open) == Some(Mark::Then),
+        None => false,
     }
-    false
 }
 
 // Whether it is an operator after the value of a constant's declaration.
@@ -414,6 +450,25 @@ fn is_in_constant(teller: &Teller) -> bool {
         sign,
         Some(Mark::Equal | Mark::DoublePeriod | Mark::OpenBracket)
     )
+}
+
+// Whether a `for` is written as other languages have it.
+fn is_wrong_counting(teller: &mut Teller, mark: Mark) -> bool {
+    let is_behind_variable = teller.back(2) == Some(Mark::For) && mark != Mark::Equal;
+    let is_sign = matches!(mark, Mark::Comma | Mark::Semicolon | Mark::DoublePeriod);
+    is_behind_variable || is_sign && teller.takes("to")
+}
+
+// Whether the bracket in which the token stands belongs to what an `init` starts.
+fn is_in_init(teller: &Teller) -> bool {
+    for place in (0..teller.at).rev() {
+        match teller.mark_at(place) {
+            Some(Mark::Init) => return true,
+            Some(Mark::Semicolon | Mark::Becomes | Mark::Begin | Mark::End) => return false,
+            _ => {}
+        }
+    }
+    false
 }
 
 // Whether it stands after the type of a variable, as if to give it a value.
@@ -441,9 +496,6 @@ fn is_system_parameter(teller: &Teller) -> bool {
 
 // Of a sign that compares.
 fn relation_advice(teller: &mut Teller) -> &'static str {
-    if teller.mark() == Some(Mark::In) && teller.back(2) == Some(Mark::For) {
-        return ": a for goes from one value to another, as in for i := 1 to 5 do";
-    }
     if teller.takes(":=") {
         return ": an assignment is written with :=";
     }
@@ -481,9 +533,12 @@ fn untyped_advice(teller: &mut Teller) -> &'static str {
     if matches!(teller.back(2), Some(Mark::Function | Mark::Entry)) {
         return ": the type of a function's result stands behind a colon, as in function f: integer";
     }
+    let is_declared = matches!(teller.ahead(1), Some(Mark::Colon | Mark::Comma));
     match (is_type(teller.name_before()), is_in_parentheses(teller)) {
         (true, true) => ": a parameter is declared as in #: %",
         (true, false) => ": a variable is declared as in var #: %",
+        (false, _) if is_declared && !teller.name().is_empty() && teller.takes(",") =>
+            ": two names have a comma between them, and one name has no blank in it, as in %_#",
         (false, true) => ": a parameter is declared as in x: integer",
         (false, false) if teller.takes(",") => ": a colon or a comma may be missing before it",
         _ => ": a colon may be missing before it",
@@ -569,7 +624,7 @@ fn is_reserved_name(teller: &mut Teller) -> bool {
         && !is_mark_of(
             teller.tokens,
             teller.at,
-            &[Mark::Class, Mark::Monitor, Mark::Process],
+            &[Mark::Class, Mark::Monitor, Mark::Process, Mark::Else],
         )
         && teller.takes("x")
         && (is_declared || !teller.takes_one_of(&["not", "while", "begin"]))

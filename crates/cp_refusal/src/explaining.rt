@@ -8,7 +8,7 @@ use cp_check::name::{element_of, member_of, name_meaning};
 use cp_check::operand::Named;
 use cp_check::operation::{product_of, sum_of, with_sign};
 use cp_scope::{Predeclared, Rule};
-use cp_tree::{Designator, Expression, Factor, FactorKind, Selector, Sum, Term};
+use cp_tree::{Designator, Expression, Factor, FactorKind, Relation, Selector, Sum, Term};
 
 /// The name with its selectors that an expression is, and no more.
 fn name_alone(node: &Expression) -> Option<&Designator> {
@@ -25,17 +25,15 @@ fn name_alone(node: &Expression) -> Option<&Designator> {
 impl<'a> Judging<'a> {
     /// The value of an expression; none where it is refused, which is told.
     pub fn value(&mut self, is_var: bool, node: &'a Expression) -> Option<Value> {
-        if let Some(refused) = self.refused_in(is_var, node) {
-            let _ = self.explain(refused);
-        }
+        let found = self.look_in(is_var, node);
+        self.explain(found);
         self.expression(is_var, node).ok()
     }
 
     /// A name with its selectors; none where it is refused, which is told.
     pub fn name(&mut self, node: &'a Designator) -> Option<Designated<'a>> {
-        if let Some(refused) = self.refused_in_designator(node) {
-            let _ = self.explain(refused);
-        }
+        let found = self.look_in_designator(node);
+        self.explain(found);
         self.designator(node).ok()
     }
 
@@ -60,19 +58,34 @@ impl<'a> Judging<'a> {
         }
     }
 
-    fn explain(&mut self, refused: Refused<'a>) -> Option<()> {
-        match refused {
-            Refused::Relation(relation, left, right) => {
-                let left = self.sum(false, left).ok()?;
-                let right = self.sum(false, right).ok()?;
-                self.put_relation(relation, left, right);
-                Some(())
+    // What is wrong in the part that is refused, if there is one.
+    fn explain(&mut self, found: Result<(), Refused<'a>>) {
+        let _ = match found {
+            Ok(()) => None,
+            Err(Refused::Relation(relation, left, right)) => {
+                self.explain_relation(relation, left, right)
             }
-            Refused::Sum(node) => self.explain_sum(node),
-            Refused::Term(node) => self.explain_term(node),
-            Refused::Factor(node) => self.explain_factor(node),
-            Refused::Designator(node) => self.explain_designator(node),
-        }
+            Err(Refused::Sum(node)) => self.explain_sum(node),
+            Err(Refused::Term(node)) => self.explain_term(node),
+            Err(Refused::Factor(node)) => self.explain_factor(node),
+            Err(Refused::Designator(node)) => self.explain_designator(node),
+            Err(Refused::Memory) => {
+                self.teller.text.refuse();
+                None
+            }
+        };
+    }
+
+    fn explain_relation(
+        &mut self,
+        relation: Relation,
+        left: &'a Sum,
+        right: &'a Sum,
+    ) -> Option<()> {
+        let left = self.sum(false, left).ok()?;
+        let right = self.sum(false, right).ok()?;
+        self.put_relation(relation, left, right);
+        Some(())
     }
 
     fn explain_sum(&mut self, node: &'a Sum) -> Option<()> {

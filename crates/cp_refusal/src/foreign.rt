@@ -86,7 +86,7 @@ static WORDS: [(&[&str], &str); 26] = [
 ];
 
 /// Words of other languages where the parser stops at them or behind them, and what is said of them.
-static STOPS: [(&[&str], &str); 17] = [
+static STOPS: [(&[&str], &str); 18] = [
     (&["elsif", "elif", "elseif"], ": write else if"),
     (
         &["loop", "forever"],
@@ -95,6 +95,10 @@ static STOPS: [(&[&str], &str); 17] = [
     (
         &["return"],
         ": a function gives its result by an assignment to its own name",
+    ),
+    (
+        &["call"],
+        ": a routine is called by its name, without a word before it",
     ),
     (&["label", "goto"], ": there are no labels and no goto"),
     (
@@ -160,7 +164,8 @@ pub fn foreign_advice(teller: &Teller) -> &'static str {
         }
     }
     let before = teller.name_before();
-    if is_declared(teller, before) || teller.back(2) == Some(Mark::Period) {
+    let is_called = teller.mark() == Some(Mark::OpenParenthesis) && is_type(before);
+    if is_called || is_declared(teller, before) || teller.back(2) == Some(Mark::Period) {
         ""
     } else {
         instead_of(before)
@@ -204,26 +209,14 @@ pub fn is_start(name: &str) -> bool {
     STARTS.contains(&name)
 }
 
-/// Whether statements seem to stand in braces.
-fn is_block(text: &[u8]) -> bool {
-    for byte in text {
-        match byte {
-            b';' => return true,
-            b'}' => return false,
-            _ => {}
-        }
-    }
-    false
-}
-
 /// What is said of a sign that begins no lexeme, and stands at the front of a text.
 pub fn sign_sentence(text: &[u8]) -> &'static str {
     match text {
         [0xEF, 0xBB, 0xBF, ..] =>
             "the file begins with a byte order mark, which is no part of a program: save it without one",
-        [b'{', ..] if is_block(text) =>
+        [b'{' | b'}', ..] =>
             "this sign is none of the language: a block stands between begin and end, and a comment between double quotes",
-        [b'{' | b'}', ..] | [b'/', b'/' | b'*', ..] =>
+        [b'/', b'/' | b'*', ..] =>
             "this sign is none of the language: comments stand between double quotes",
         [b'/', ..] =>
             "this sign is none of the language: integers are divided by div, and there are no real numbers",

@@ -4,7 +4,7 @@ use crate::extent::closing;
 use crate::foreign::foreign_advice;
 use crate::layout::open_by_layout;
 use crate::page::are_on_one_line;
-use crate::rules::is_mark_of;
+use crate::rules::{is_mark_of, mark_at};
 use crate::spelling::misspelt_word;
 use crate::teller::Teller;
 use cp_text::{Kind, Mark, Tokens};
@@ -209,6 +209,23 @@ pub fn open_before(
     None
 }
 
+/// What the last branch of the statement before a token begins with: `then` or `else`; none where it is no `if`.
+pub fn last_branch(tokens: &Tokens, at: usize) -> Option<Mark> {
+    let mut closed: usize = 0;
+    for place in (0..at).rev() {
+        if is_mark_of(tokens, place, &CLOSING) {
+            closed = closed.saturating_add(1);
+        } else if is_mark_of(tokens, place, &OPENING) {
+            closed = closed.checked_sub(1)?;
+        } else if closed == 0 && is_mark_of(tokens, place, &[Mark::Then, Mark::Else]) {
+            return mark_at(tokens, place);
+        } else if closed == 0 && is_mark_of(tokens, place, &[Mark::Semicolon]) {
+            return None;
+        }
+    }
+    None
+}
+
 /// The parenthesis in which a token stands.
 pub fn open_parenthesis(tokens: &Tokens, at: usize) -> Option<usize> {
     open_before(
@@ -289,7 +306,8 @@ fn is_closed_behind(teller: &Teller) -> bool {
     false
 }
 
-// What the `end` before the token closes, where the program is whole with it and does not end, or another `end` follows that closes nothing.
+// What the `end` before the token closes, where the program is whole with it and does not end, or another `end` follows that closes nothing, or an `else` that may
+// belong to what it closes.
 fn closed_too_often(teller: &mut Teller) -> Option<usize> {
     let before = teller.at.checked_sub(1)?;
     if teller.mark_at(before) != Some(Mark::End)
@@ -300,7 +318,9 @@ fn closed_too_often(teller: &mut Teller) -> Option<usize> {
         return None;
     }
     let is_twice = teller.mark() == Some(Mark::End) && teller.takes(";");
-    if !is_twice && !teller.takes(".") {
+    let is_torn = teller.mark() == Some(Mark::Else)
+        && last_branch(teller.tokens, before) == Some(Mark::Then);
+    if !is_twice && !is_torn && !teller.takes(".") {
         return None;
     }
     open_before(teller.tokens, before, &OPENING, &CLOSING)

@@ -35,18 +35,6 @@ impl<'a> Judging<'a> {
         self.teller.at == at && self.rule == rule
     }
 
-    /// Something, where a part is refused for the fault that is told of.
-    pub fn told<T: Drop>(&mut self, answer: Result<T, CheckFault>) -> Option<()> {
-        match answer {
-            Err(CheckFault::Rule { at, rule }) if self.is_broken(at, rule) => Some(()),
-            Err(CheckFault::Memory) => {
-                self.teller.text.refuse();
-                None
-            }
-            _ => None,
-        }
-    }
-
     // -- what the checker says of parts
 
     pub fn expression(&self, is_var: bool, node: &Expression) -> Result<Value, CheckFault> {

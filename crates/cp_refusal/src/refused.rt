@@ -1,6 +1,7 @@
 //! Which part of a statement is refused: the innermost one that the checker refuses for this very fault.
 
 use crate::judging::Judging;
+use cp_scope::CheckFault;
 use cp_tree::{Designator, Expression, Factor, FactorKind, Relation, Selector, Sum, Term};
 
 /// A part that is refused, and none of whose own parts is.
@@ -11,93 +12,97 @@ pub enum Refused<'a> {
     Term(&'a Term),
     Factor(&'a Factor),
     Designator(&'a Designator),
+    /// Memory is refused, so that no part is known.
+    Memory,
 }
 
-// Each looks into what is refused alone.
+// Each looks into what is refused alone, and ends with the first part that is found.
 impl<'a> Judging<'a> {
-    /// What is refused in an expression, which may stand in the place of a `var` argument.
+    // Whether a part is refused for the fault that is told of.
+    fn is_refused<T: Drop>(&self, answer: Result<T, CheckFault>) -> Result<bool, Refused<'a>> {
+        match answer {
+            Err(CheckFault::Rule { at, rule }) => Ok(self.is_broken(at, rule)),
+            Err(CheckFault::Memory) => Err(Refused::Memory),
+            Ok(_) => Ok(false),
+        }
+    }
+
+    /// Looks into an expression, which may stand in the place of a `var` argument.
     #[cycle(expression)]
-    pub fn refused_in(&mut self, is_var: bool, node: &'a Expression) -> Option<Refused<'a>> {
-        let answer = self.expression(is_var, node);
-        self.told(answer)?;
+    pub fn look_in(&self, is_var: bool, node: &'a Expression) -> Result<(), Refused<'a>> {
+        if !self.is_refused(self.expression(is_var, node))? {
+            return Ok(());
+        }
+        self.look_in_sum(is_var && node.right.is_none(), &node.left)?;
         let Some((relation, right)) = &node.right else {
-            return self.refused_in_sum(is_var, &node.left);
+            return Ok(());
         };
-        let inner = match self.refused_in_sum(false, &node.left) {
-            None => self.refused_in_sum(false, right),
-            found => found,
-        };
-        inner.or(Some(Refused::Relation(*relation, &node.left, right)))
+        self.look_in_sum(false, right)?;
+        Err(Refused::Relation(*relation, &node.left, right))
     }
 
     #[cycle(expression)]
-    fn refused_in_sum(&mut self, is_var: bool, node: &'a Sum) -> Option<Refused<'a>> {
-        let answer = self.sum(is_var, node);
-        self.told(answer)?;
+    fn look_in_sum(&self, is_var: bool, node: &'a Sum) -> Result<(), Refused<'a>> {
+        if !self.is_refused(self.sum(is_var, node))? {
+            return Ok(());
+        }
         let is_alone = is_var && node.sign.is_none() && node.more.is_empty();
-        let mut inner = self.refused_in_term(is_alone, &node.first);
+        self.look_in_term(is_alone, &node.first)?;
         for (_, more) in &node.more {
-            if inner.is_none() {
-                inner = self.refused_in_term(false, more);
-            }
+            self.look_in_term(false, more)?;
         }
-        inner.or(Some(Refused::Sum(node)))
+        Err(Refused::Sum(node))
     }
 
     #[cycle(expression)]
-    fn refused_in_term(&mut self, is_var: bool, node: &'a Term) -> Option<Refused<'a>> {
-        let answer = self.term(is_var, node);
-        self.told(answer)?;
-        let mut inner = self.refused_in_factor(is_var && node.more.is_empty(), &node.first);
+    fn look_in_term(&self, is_var: bool, node: &'a Term) -> Result<(), Refused<'a>> {
+        if !self.is_refused(self.term(is_var, node))? {
+            return Ok(());
+        }
+        self.look_in_factor(is_var && node.more.is_empty(), &node.first)?;
         for (_, more) in &node.more {
-            if inner.is_none() {
-                inner = self.refused_in_factor(false, more);
-            }
+            self.look_in_factor(false, more)?;
         }
-        inner.or(Some(Refused::Term(node)))
+        Err(Refused::Term(node))
     }
 
     #[cycle(expression)]
-    fn refused_in_factor(&mut self, is_var: bool, node: &'a Factor) -> Option<Refused<'a>> {
-        let answer = self.factor(is_var, node);
-        self.told(answer)?;
-        let inner = match &node.kind {
-            FactorKind::Number(_) | FactorKind::Character(_) => None,
-            FactorKind::Named(name, nodes) => match self.refused_in_designator(name) {
-                None => self.refused_in_all(nodes),
-                found => found,
-            },
-            FactorKind::Group(inner) => self.refused_in(false, inner),
-            FactorKind::Not(inner) => self.refused_in_factor(false, inner),
-            FactorKind::Set(nodes) => self.refused_in_all(nodes),
-        };
-        inner.or(Some(Refused::Factor(node)))
+    fn look_in_factor(&self, is_var: bool, node: &'a Factor) -> Result<(), Refused<'a>> {
+        if !self.is_refused(self.factor(is_var, node))? {
+            return Ok(());
+        }
+        match &node.kind {
+            FactorKind::Number(_) | FactorKind::Character(_) => {}
+            FactorKind::Named(name, nodes) => {
+                self.look_in_designator(name)?;
+                self.look_in_all(nodes)?;
+            }
+            FactorKind::Group(inner) => self.look_in(false, inner)?,
+            FactorKind::Not(inner) => self.look_in_factor(false, inner)?,
+            FactorKind::Set(nodes) => self.look_in_all(nodes)?,
+        }
+        Err(Refused::Factor(node))
     }
 
     #[cycle(expression)]
-    fn refused_in_all(&mut self, nodes: &'a [Expression]) -> Option<Refused<'a>> {
-        let mut inner = None;
+    fn look_in_all(&self, nodes: &'a [Expression]) -> Result<(), Refused<'a>> {
         for node in nodes {
-            if inner.is_none() {
-                inner = self.refused_in(false, node);
-            }
+            self.look_in(false, node)?;
         }
-        inner
+        Ok(())
     }
 
-    /// What is refused in a name with its selectors.
+    /// Looks into a name with its selectors.
     #[cycle(expression)]
-    pub fn refused_in_designator(&mut self, node: &'a Designator) -> Option<Refused<'a>> {
-        let answer = self.designator(node);
-        self.told(answer)?;
-        let mut inner = None;
+    pub fn look_in_designator(&self, node: &'a Designator) -> Result<(), Refused<'a>> {
+        if !self.is_refused(self.designator(node))? {
+            return Ok(());
+        }
         for selector in &node.selectors {
-            if let Selector::Index(index) = selector
-                && inner.is_none()
-            {
-                inner = self.refused_in(false, index);
+            if let Selector::Index(index) = selector {
+                self.look_in(false, index)?;
             }
         }
-        inner.or(Some(Refused::Designator(node)))
+        Err(Refused::Designator(node))
     }
 }

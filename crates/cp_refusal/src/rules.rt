@@ -218,7 +218,7 @@ fn put_particular(judging: &mut Judging, rule: Rule) -> bool {
         }
         Rule::C9 | Rule::C10 | Rule::C22 => put_own_name(&mut judging.teller),
         Rule::C1 | Rule::C5 | Rule::C6 | Rule::C7 | Rule::C8 | Rule::C17 | Rule::C21 => {
-            judging.tell();
+            let _ = judging.tell();
             judging.teller.text.len() > 0
         }
         _ => false,

@@ -11,124 +11,104 @@ use cp_tree::{
     Arm, AssertionKind, Designator, Expression, Identifier, Start, Statement, StatementKind,
 };
 
+// Of statements the last one that begins before the fault or at it.
+fn last_begun(nodes: &[Statement], fault: usize) -> Option<&Statement> {
+    for node in nodes.iter().rev() {
+        if node.at <= fault {
+            return Some(node);
+        }
+    }
+    None
+}
+
+// Of arms the same.
+fn last_arm(nodes: &[Arm], fault: usize) -> Option<&Statement> {
+    for node in nodes.iter().rev() {
+        if node.body.at <= fault {
+            return Some(&node.body);
+        }
+    }
+    None
+}
+
+// The statement within another one in which the fault stands.
+fn statement_within(node: &Statement, fault: usize) -> Option<&Statement> {
+    let inner: &Statement = match &node.kind {
+        StatementKind::Block(inner) | StatementKind::Cycle(inner) => last_begun(inner, fault)?,
+        StatementKind::Repeat(inner, test) if node.at < fault && fault < test.at => {
+            last_begun(inner, fault)?
+        }
+        StatementKind::If(_, _, Some(second)) if fault >= second.at => second,
+        StatementKind::Case(_, nodes, _) => last_arm(nodes, fault)?,
+        StatementKind::If(_, inner, _)
+        | StatementKind::While(_, inner)
+        | StatementKind::For(_, _, _, _, inner)
+        | StatementKind::Asserted(_, _, inner) => inner,
+        _ => return None,
+    };
+    if fault >= inner.at { Some(inner) } else { None }
+}
+
+// The innermost statement in which the fault stands; each begins behind the one around it.
+fn innermost(nodes: &[Statement], fault: usize) -> Option<&Statement> {
+    let mut node = last_begun(nodes, fault)?;
+    for _ in node.at..fault.saturating_add(1) {
+        match statement_within(node, fault) {
+            Some(inner) => node = inner,
+            None => return Some(node),
+        }
+    }
+    Some(node)
+}
+
 impl<'a> Judging<'a> {
     /// Says what is wrong, where that is in a body.
-    pub fn tell(&mut self) {
-        if let Some(found) = self.declarations.body_before(self.teller.at)
-            && self.teller.at < body_extent(self.teller.tokens, found.body).to
-        {
-            self.context = found.context;
-            self.statements(&found.body.statements);
+    pub fn tell(&mut self) -> Option<()> {
+        let fault = self.teller.at;
+        let found = self.declarations.body_before(fault)?;
+        if fault >= body_extent(self.teller.tokens, found.body).to {
+            return None;
         }
+        self.context = found.context;
+        self.statement(innermost(&found.body.statements, fault)?)
     }
 
-    // Of statements the last one that begins before the fault or at it.
-    #[cycle(statement)]
-    fn statements(&mut self, nodes: &'a [Statement]) {
-        for number in 0..nodes.len() {
-            let is_last = match nodes.get(number.saturating_add(1)) {
-                Some(next) => next.at > self.teller.at,
-                None => true,
-            };
-            if is_last {
-                self.statement(&nodes[number]);
-                return;
-            }
-        }
-    }
-
-    #[cycle(statement)]
-    fn statement(&mut self, node: &'a Statement) {
-        let (at, fault) = (node.at, self.teller.at);
+    // What is wrong in a statement, and in none within it.
+    fn statement(&mut self, node: &'a Statement) -> Option<()> {
         match &node.kind {
-            StatementKind::Empty => {}
-            StatementKind::Assign(left, right) => {
-                let _ = self.assignment(left, right);
-            }
-            StatementKind::Call(target, nodes) => {
-                let _ = self.call(target, nodes);
-            }
-            StatementKind::Block(inner) | StatementKind::Cycle(inner) => self.statements(inner),
-            StatementKind::If(test, first, second) => match second {
-                Some(second) if fault >= second.at => self.statement(second),
-                _ if fault >= first.at => self.statement(first),
-                _ => self.test(at, "if", test),
-            },
-            StatementKind::While(test, inner) => {
-                if fault >= inner.at {
-                    self.statement(inner);
-                } else {
-                    self.test(at, "while", test);
-                }
-            }
-            StatementKind::Repeat(inner, test) => {
-                if at < fault && fault < test.at {
-                    self.statements(inner);
-                } else {
-                    self.test(at, "until", test);
-                }
-            }
-            StatementKind::For(name, from, _, to, inner) => {
-                if fault >= inner.at {
-                    self.statement(inner);
-                } else {
-                    let _ = self.counting(at, name, from, to);
-                }
-            }
-            StatementKind::Init(nodes) => {
-                let _ = self.starts(nodes);
-            }
-            StatementKind::Case(selector, nodes, _) => {
-                if !self.arms(nodes) {
-                    let _ = self.selector(at, selector);
-                }
-            }
-            StatementKind::Asserted(kind, tests, inner) => {
-                if fault >= inner.at {
-                    self.statement(inner);
-                } else {
-                    self.said(*kind, tests);
-                }
-            }
+            StatementKind::Assign(left, right) => self.assignment(left, right),
+            StatementKind::Call(target, nodes) => self.call(target, nodes),
+            StatementKind::If(test, _, _) => self.test(node.at, "if", test),
+            StatementKind::While(test, _) => self.test(node.at, "while", test),
+            StatementKind::Repeat(_, test) => self.test(node.at, "until", test),
+            StatementKind::For(name, from, _, to, _) => self.counting(node.at, name, from, to),
+            StatementKind::Init(nodes) => self.starts(nodes),
+            StatementKind::Case(selector, _, _) => self.selector(node.at, selector),
+            StatementKind::Asserted(kind, tests, _) => self.said(*kind, tests),
+            StatementKind::Empty | StatementKind::Block(_) | StatementKind::Cycle(_) => None,
         }
-    }
-
-    // Of arms the last one that begins before the fault; whether there is one.
-    #[cycle(statement)]
-    fn arms(&mut self, nodes: &'a [Arm]) -> bool {
-        for number in 0..nodes.len() {
-            let is_last = match nodes.get(number.saturating_add(1)) {
-                Some(next) => next.body.at > self.teller.at,
-                None => true,
-            };
-            if is_last && nodes[number].body.at <= self.teller.at {
-                self.statement(&nodes[number].body);
-                return true;
-            }
-        }
-        false
     }
 
     // The condition of a statement that begins at a token.
-    fn test(&mut self, at: usize, taker: &str, test: &'a Expression) {
-        if let Some(found) = self.value(false, test)
-            && !found.value_type().is_of(Base::Boolean)
-            && self.is_broken(at, Rule::C5)
-        {
+    fn test(&mut self, at: usize, taker: &str, test: &'a Expression) -> Option<()> {
+        let found = self.value(false, test)?;
+        if !found.value_type().is_of(Base::Boolean) && self.is_broken(at, Rule::C5) {
             self.put_wanted(taker, "a boolean", found);
         }
+        Some(())
     }
 
     // What annotations say.
-    fn said(&mut self, kind: AssertionKind, tests: &'a [Expression]) {
+    fn said(&mut self, kind: AssertionKind, tests: &'a [Expression]) -> Option<()> {
         let taker = match kind {
             AssertionKind::Assertion => "assert",
             AssertionKind::Invariant => "invariant",
         };
         self.context = self.context.quiet();
         for test in tests {
-            self.test(test.at, taker, test);
+            self.test(test.at, taker, test)?;
         }
+        None
     }
 
     fn assignment(&mut self, left: &'a Designator, right: &'a Expression) -> Option<()> {

@@ -1,0 +1,2 @@
+var x: integer array;
+begin end.

@@ -1,0 +1,2 @@
+var n: integer, done: boolean;
+begin end.

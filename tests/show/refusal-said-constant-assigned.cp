@@ -1,0 +1,2 @@
+const tracks := 10;
+begin end.

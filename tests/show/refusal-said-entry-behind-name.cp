@@ -1,0 +1,5 @@
+type door = monitor;
+procedure visit entry(n: integer);
+begin display(n) end;
+begin end;
+begin end.

@@ -1,0 +1,3 @@
+type smoker = process(kind: tobacco, paper, matches);
+begin display(1) end;
+begin end.

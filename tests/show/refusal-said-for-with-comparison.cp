@@ -1,0 +1,4 @@
+var i: integer;
+begin
+  for i < 3 do display(i)
+end.

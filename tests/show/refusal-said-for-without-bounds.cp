@@ -1,0 +1,4 @@
+var i: integer;
+begin
+  for i do display(i)
+end.

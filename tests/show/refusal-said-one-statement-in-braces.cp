@@ -1,0 +1,5 @@
+var i: integer;
+begin
+  i := 0;
+  if (i = 0) { display(i) }
+end.

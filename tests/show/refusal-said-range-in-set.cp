@@ -1,0 +1,4 @@
+var free: set of 1..5;
+begin
+  free := [1..5]
+end.

@@ -1,0 +1,4 @@
+var x: integer;
+begin
+  set x to 3
+end.

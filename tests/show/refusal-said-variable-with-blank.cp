@@ -1,0 +1,2 @@
+var next ticket: integer;
+begin end.
