@@ -154,10 +154,10 @@ fn answers_to_runs_and_traces<L: Ledger>(
 {
     let mut ticks: Ticks<L> = Ticks::new(blank);
     [
-        run_answer(alloc, &Job { program, limits }, &WORD, &mut ticks),
-        trace_answer(alloc, &Job { program, limits }, &WORD, &mut ticks),
-        run_answer(alloc, &Job { program, limits }, &WORD, &mut ticks),
-        trace_answer(alloc, &Job { program, limits }, &WORD, &mut ticks),
+        run_answer(alloc, job, &WORD, &mut ticks),
+        trace_answer(alloc, job, &WORD, &mut ticks),
+        run_answer(alloc, job, &WORD, &mut ticks),
+        trace_answer(alloc, job, &WORD, &mut ticks),
     ]
 }
 
