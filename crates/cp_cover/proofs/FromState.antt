@@ -10,7 +10,7 @@ use Rattle.indexmap.specs.IndexSet.{insert_key}
 use Rattle.cp_key.specs.Room.{IsMachineOf}
 use Rattle.cp_run.specs.declared.outcome.OutcomeKind.{OutcomeKind}
 use Rattle.cp_run.specs.Run.{Node, Halted, Choosing, chosen}
-use Rattle.cp_ends.specs.contracts.state_key.ReachedKeyPartialEq.TheImpl as key_eq
+use Rattle.cp_key.specs.contracts.state_key.StateKeyPartialEq.TheImpl as key_eq
 use Rattle.cp_cover.specs.Layers.{IsKeyOf, HasKey, AddsState, AddsNode, FromState}
 
 abbrev pub same_key : StateKey → StateKey → Bool
