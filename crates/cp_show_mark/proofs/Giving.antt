@@ -16,10 +16,10 @@ use Rattle.cp_machine_laws.specs.Named.{named_discipline}
 use Rattle.cp_tool.specs.declared.options.Options.{Options}
 use Rattle.cp_legend.specs.Names.{Named}
 use Rattle.cp_walk.specs.Text.{Spellings}
-use Rattle.cp_verdict.specs.Plain as plain
-use Rattle.cp_verdict.specs.Spelling.{SpellsJoined, SpellsOne, Words}
-use Rattle.cp_verdict.specs.Words.{words_behind, words_of}
-use Rattle.cp_verdict.specs.declared.expectation.Expectation.{Expectation}
+use Rattle.cp_expectation.specs.Plain as plain
+use Rattle.cp_expectation.specs.Spelling.{SpellsJoined, SpellsOne, Words}
+use Rattle.cp_expectation.specs.Words.{words_behind, words_of}
+use Rattle.cp_expectation.specs.declared.expectation.Expectation.{Expectation}
 use Rattle.cp_verdict.specs.endless.AtOnce.{at_any_limit}
 use Rattle.cp_verdict.specs.endless.Behaviour.{on_names}
 use Rattle.cp_verdict.specs.endless.Marked.{IsTrueMark}

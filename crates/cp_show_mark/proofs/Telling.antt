@@ -8,7 +8,7 @@ use Rattle.cp_run.specs.Slots.{slots}
 use Rattle.cp_run.specs.Table.{table}
 use Rattle.cp_run.specs.declared.limits.Limits.{Limits}
 use Rattle.cp_tool.specs.declared.options.Options.{Options}
-use Rattle.cp_verdict.specs.declared.expectation.Expectation.{Expectation}
+use Rattle.cp_expectation.specs.declared.expectation.Expectation.{Expectation}
 use Rattle.cp_verdict.specs.endless.AtOnce.{IsMarkAtOnce, IsMarkInTurn, can_be_at_once}
 use Rattle.cp_verdict.specs.endless.Marked.{can_be_asked}
 use Rattle.cp_verdict.specs.declared.endless.expectation.EndsExpectation as ends_expectation

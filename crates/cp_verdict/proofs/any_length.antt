@@ -8,10 +8,6 @@ pub mod MarkSo
 pub mod Meant
 pub mod MeantAtOnce
 pub mod MeantMarks
-pub mod Processes
-pub mod Read
-pub mod Spelled
-pub mod Stopping
 pub mod Telling
 pub mod Verdicts
 pub mod Vocabulary

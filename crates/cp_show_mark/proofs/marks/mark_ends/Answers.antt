@@ -1,7 +1,7 @@
 use Rattle.std.proofs.Common.{List, inl, map, subst}
 use Rattle.std.proofs.lemmas.Result.{IfOk-weaker}
 use Rattle.cp_legend.specs.Names.{component_seen}
-use Rattle.cp_verdict.specs.Words.{words_of}
+use Rattle.cp_expectation.specs.Words.{words_of}
 use Rattle.cp_verdict.specs.endless.Plain as ends_plain
 use Rattle.cp_verdict.specs.endless.Reading.{IsReading}
 use Rattle.cp_verdict.specs.endless.Spelling.{process_of}

@@ -5,7 +5,7 @@ use Rattle.cp_resolved.specs.Enumerations.{constant_names}
 use Rattle.cp_machine_laws.specs.Named.{named, named_discipline}
 use Rattle.cp_run.specs.Slots.{slots}
 use Rattle.cp_run.specs.Table.{table}
-use Rattle.cp_verdict.specs.Words.{words_of}
+use Rattle.cp_expectation.specs.Words.{words_of}
 use Rattle.cp_show_mark.specs.Given.{MeansEnds, MeansGiven, TellsEnds, TellsGiven, TellsGivenText}
 use Rattle.cp_show_mark.specs.MarkText.{setting_of}
 use Rattle.cp_show_mark.specs.Showing.{TellsMark}
