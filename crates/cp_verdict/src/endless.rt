@@ -10,6 +10,7 @@ pub mod matching;
 pub mod process;
 pub mod saying;
 pub mod verdict;
+pub mod waiting;
 pub mod words;
 
 pub use at_once::{mark_at_once, mark_in_turn};
@@ -17,3 +18,4 @@ pub use marking::MarkSubject;
 pub use process::unknown_in;
 pub use saying::{MarkedEnds, Said};
 pub use verdict::EndsMark;
+pub use waiting::mark_named;

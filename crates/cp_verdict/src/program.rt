@@ -74,7 +74,8 @@ impl Stops {
     }
 }
 
-fn stops_of(seen: &[Seen]) -> Stops
+/// The limits at which some of these ended.
+pub fn stops_of(seen: &[Seen]) -> Stops
     ensures { AreStopsOf (map line_of seen.now) result }
 {
     let mut stops = Stops {
@@ -89,7 +90,7 @@ fn stops_of(seen: &[Seen]) -> Stops
 }
 
 /// The outcomes of a table, each with its first schedule.
-fn seen_of<'a>(alloc: Global, tallies: &'a [Tally]) -> Result<Vec<Seen<'a>>, AllocError>
+pub fn seen_of<'a>(alloc: Global, tallies: &'a [Tally]) -> Result<Vec<Seen<'a>>, AllocError>
     ensures { IfOk result (λ v. map line_of v.items ≡ map (λ t. t.first) (map tally_of tallies.entry.now)) }
 {
     let mut seen = Vec::new(alloc);
@@ -103,7 +104,7 @@ fn seen_of<'a>(alloc: Global, tallies: &'a [Tally]) -> Result<Vec<Seen<'a>>, All
 }
 
 /// The outcomes of a job, or what there is too much of. A layer may have so many states.
-fn outcomes_of<O: ObserveProgress>(
+pub fn outcomes_of<O: ObserveProgress>(
     alloc: Global,
     job: Job,
     states: u32,

@@ -103,5 +103,5 @@ pub fn mark_at_once<O: ObserveProgress>(
     let found = search_at_once_with(alloc, &Job { program, limits }, most, observer)?;
     let known = knowledge_at_once(alloc, program, &found)?;
     let verdict = verdict_on(subject.legend, &known, list);
-    tell(alloc, subject, &known, list, verdict, true)
+    tell(alloc, subject, &known, &[], list, verdict, true)
 }

@@ -49,7 +49,8 @@ fn numbers_looked_at(alloc: Global, found: &Found) -> Result<Option<usize>, Allo
     Ok(Some(word.len()))
 }
 
-fn is_within(looked: Option<usize>, word: &[u8]) -> bool
+/// Whether a word was looked at.
+pub fn is_within(looked: Option<usize>, word: &[u8]) -> bool
     ensures { result ≡ spec.is_looked_at looked word.now }
 {
     match looked {

@@ -15,6 +15,7 @@ use crate::endless::knowing::knowledge_of;
 use crate::endless::known::KnownEnds;
 use crate::endless::saying::{MarkedEnds, note_on, open_words, sayings_of};
 use crate::endless::verdict::{EndsVerdict, mark_of, verdict_on};
+use crate::endless::waiting::KnownWaitingEnd;
 use cp_expectation::{Expectation, Topic};
 use cp_legend::Legend;
 use cp_machine::{Discipline, Gates};
@@ -50,7 +51,7 @@ pub fn mark_list<O: ObserveProgress>(
     }
     let known = knowledge(alloc, subject, asks, observer)?;
     let verdict = verdict_on(subject.legend, &known, list);
-    tell(alloc, subject, &known, list, verdict, false)
+    tell(alloc, subject, &known, &[], list, verdict, false)
 }
 
 /// Whether anybody in line may go into a monitor that becomes free.
@@ -104,8 +105,8 @@ fn knowledge<O: ObserveProgress>(
     knowledge_of(alloc, program, &found, lines_of(waits))
 }
 
-// Who may wait for ever, where that was asked and is settled.
-fn lines_of(waits: Option<Waits>) -> Option<Vec<Waiting>>
+/// Who may wait for ever, where that was asked and is settled.
+pub fn lines_of(waits: Option<Waits>) -> Option<Vec<Waiting>>
     ensures { (r : Tables) (discipline : slot_discipline.Discipline) (steps most : ℕ) (asks : Bool) (found : Found) → most < 2 ^ 32 → IsAnswer r discipline steps most found → TellAsked r discipline steps asks found waits → KnowsWaits r discipline steps result }
 {
     let Some(told) = waits else {
@@ -122,6 +123,7 @@ pub fn tell(
     alloc: Global,
     subject: MarkSubject<'_>,
     known: &KnownEnds,
+    waiting: &[KnownWaitingEnd],
     list: &[Expectation],
     verdict: EndsVerdict<'_>,
     at_once: bool,
@@ -136,7 +138,15 @@ pub fn tell(
         "first against it: "
     };
     let open = open_words(alloc, known, at_once)?;
-    let each = sayings_of(alloc, subject.legend, known, list, before, open.as_str())?;
+    let each = sayings_of(
+        alloc,
+        subject.legend,
+        known,
+        waiting,
+        list,
+        before,
+        open.as_str(),
+    )?;
     Ok(MarkedEnds {
         mark,
         note,

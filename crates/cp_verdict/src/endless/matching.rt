@@ -22,7 +22,8 @@ fn is_of(legend: &Legend, pattern: &EndPattern, end: End) -> bool
     }
 }
 
-fn names_end(legend: &Legend, topic: &Topic, end: End) -> bool
+/// Whether a topic speaks of an end.
+pub fn names_end(legend: &Legend, topic: &Topic, end: End) -> bool
     ensures { result ≡ spec.names_end (processes_of legend.now) topic.now end }
 {
     match topic {

@@ -45,7 +45,7 @@ pub enum EndsVerdict<'a> {
 }
 
 /// The verdict on some expectations and one more.
-fn join<'a>(
+pub fn join<'a>(
     verdict: EndsVerdict<'a>,
     expectation: &'a Expectation,
     judgement: EndsJudgement<'a>,

@@ -1,0 +1,5 @@
+pub mod Adding
+pub mod FromLayer
+pub mod FromState
+mod Visiting
+mod Words

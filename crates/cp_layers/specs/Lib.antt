@@ -1,0 +1,5 @@
+pub mod Adding
+pub mod Layers
+pub mod Marking
+pub mod Reached
+pub mod Visited

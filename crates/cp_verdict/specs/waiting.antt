@@ -1,0 +1,4 @@
+pub mod Asking
+pub mod Judged
+pub mod Matching
+pub mod Rows
