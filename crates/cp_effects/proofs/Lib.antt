@@ -1,0 +1,4 @@
+pub mod Statuses
+pub mod Touching
+pub mod Watching
+pub mod Wider

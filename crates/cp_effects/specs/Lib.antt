@@ -1,0 +1,4 @@
+pub mod Noting
+pub mod Lying
+pub mod Touching
+pub mod Watching
