@@ -1,12 +1,11 @@
 //! The simplest schedules, beside the first ones.
 
-ghost use Rattle.std.specs.Prelude.{◌≡◌, ◌≤◌, IfOk, IfSome, length, true};
+ghost use Rattle.std.specs.Prelude.{IfOk, IfSome};
 ghost use Rattle.cp_run.specs.Slots.{slots};
 ghost use Rattle.cp_simplest.specs.Simple.{IsScheduleOf};
 
 use cp_merged::{Tallies, Tally};
 use cp_progress::ObserveProgress;
-use cp_run::Outcome;
 use cp_simplest::{Searched, SimplestSchedule, is_schedule_of, simplest};
 use cp_walk::Job;
 use std::alloc::{AllocError, Global};

@@ -242,6 +242,13 @@ fn place_advice(teller: &mut Teller, mark: Mark) -> &'static str {
             ": a system type is defined in a type part, as in type ~ = #",
         Mark::Class | Mark::Monitor | Mark::Process =>
             ": a system type is defined in a type part of the program alone, and used by its name",
+        _ => further_place_advice(teller, mark),
+    }
+}
+
+// The same of the marks within declarations and statements.
+fn further_place_advice(teller: &mut Teller, mark: Mark) -> &'static str {
+    match mark {
         Mark::OpenParenthesis if teller.back(2) == Some(Mark::Colon) && teller.takes("..") =>
             ": a component is given its arguments by init",
         Mark::Until if teller.takes("end") => until_advice(teller),
