@@ -24,7 +24,7 @@ def read(program, asked, expectation):
             return
         if not answer.text:
             raise Refused(answer.said.strip().splitlines()[-1])
-        why = json.loads(answer.text)["misread"]
+        why = json.loads(answer.text)["misread"].removeprefix(f"{expectation}: ")
         # A name that is not known may be one that the solutions have.
         named = [it for it in expectation.split() if NAME.match(it) and (f'"{it}"' in why or why.endswith(f" {it}"))]
         names = [it for it in named if meanings.get(it) != MEANINGS[-1]]

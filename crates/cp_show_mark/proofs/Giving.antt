@@ -1,9 +1,10 @@
 -- What is told of the expectations that are given for a program.
-use Rattle.std.proofs.Common.{◌≡◌, ◌∙◌, ◌⊎◌, ℕ, Bool, true, false, List, [], ◌∷◌, ◌++◌, ◌==◌, None, Some, ap, codes, if◌then◌else◌, inl, inr, length, map, subst, sym, true≢false}
+use Rattle.std.proofs.Common.{◌≡◌, ◌∙◌, ◌⊎◌, ℕ, Bool, true, false, List, [], ◌∷◌, ◌++◌, ◌==◌, None, Some, ap, codes, if◌then◌else◌, inl, inr, length, map, refl, subst, sym, true≢false}
 use Rattle.std.proofs.Math.Logic.{∥∥₁_map}
 use Rattle.std.proofs.lemmas.Bool.{eqb-true}
 use Rattle.std.proofs.lemmas.List.{nil_from_length}
 use Rattle.std.proofs.lemmas.Str.{chars-nil}
+use Rattle.std.specs.Prelude.{Option, is_some, not}
 use Rattle.std.specs.Str.{encode_utf8_all}
 use Rattle.cp_tree.specs.Read.{IsRead}
 use Rattle.cp_tree.specs.Syntax.{Tree}
@@ -14,44 +15,76 @@ use Rattle.cp_resolved.specs.Enumerations.{constant_names}
 use Rattle.cp_resolved.specs.Resolving.{IsProgramOf}
 use Rattle.cp_machine_laws.specs.Named.{named_discipline}
 use Rattle.cp_tool.specs.declared.options.Options.{Options}
-use Rattle.cp_legend.specs.Names.{Named}
 use Rattle.cp_walk.specs.Text.{Spellings}
-use Rattle.cp_verdict.specs.Plain as plain
-use Rattle.cp_verdict.specs.Spelling.{SpellsJoined, SpellsOne, Words}
-use Rattle.cp_verdict.specs.Words.{words_behind, words_of}
-use Rattle.cp_verdict.specs.declared.expectation.Expectation.{Expectation}
+use Rattle.cp_expectation.specs.Plain as plain
+use Rattle.cp_expectation.specs.Spelling.{SpellsJoined, SpellsOne, Words}
+use Rattle.cp_expectation.specs.Words.{words_behind, words_of}
+use Rattle.cp_expectation.specs.declared.expectation.Expectation.{Expectation}
 use Rattle.cp_verdict.specs.endless.AtOnce.{at_any_limit}
 use Rattle.cp_verdict.specs.endless.Behaviour.{on_names}
-use Rattle.cp_verdict.specs.endless.Marked.{IsTrueMark}
-use Rattle.cp_verdict.specs.endless.Plain as ends_plain
-use Rattle.cp_verdict.specs.endless.Spelling as ends_spelling
-use Rattle.cp_verdict.specs.declared.endless.expectation.EndsExpectation.{EndsExpectation}
+use Rattle.cp_verdict.specs.endless.Marked.{IsTrueMark, with_tables}
+use Rattle.cp_verdict.specs.endless.Naming.{Names, Processes}
 use Rattle.cp_verdict.specs.declared.endless.verdict.EndsMark.{EndsMark}
-use Rattle.cp_show_mark.specs.Given.{IsTrueBy, MeansEnds, Spells, SpellsEnds, TellsEnds, TellsEndsBy, TellsIf, TellsWords, and_own, can_be_judged}
+use Rattle.cp_show_mark.specs.Given.{IsTrueBy, MeansEnds, Spells, TellsAsked, TellsBy, TellsEnds, TellsEndsBy, TellsIf, TellsSpelled, and_own, are_asked, can_be_judged, names_with}
 use Rattle.cp_show_mark.specs.Showing.{ends_verdict_of}
 use Rattle.cp_show_mark.specs.declared.answer.ShowVerdict.{ShowVerdict}
 use Rattle.cp_show_mark.specs.declared.answer.ShowVerdict.TheVariants.{Misread}
 
 -- ---- on the program's own names
 
-true_of_names : (t : Tree) (o : Options) (names : Spellings) → names ≡ constant_names t.program → (es : List EndsExpectation) (m : EndsMark) → IsTrueMark names (on_names t (named_discipline o.discipline) o.steps) es m ⊎ IsTrueMark names (at_any_limit t) es m → IsTrueMark (constant_names t.program) (on_names t (named_discipline o.discipline) o.steps) es m ⊎ IsTrueMark (constant_names t.program) (at_any_limit t) es m
-true_of_names t o names same es m h = subst (λ (names : Spellings). IsTrueMark names (on_names t (named_discipline o.discipline) o.steps) es m ⊎ IsTrueMark names (at_any_limit t) es m) same h
+-- what is said by its names, or by those of its tables
+abbrev TrueBy : Options → Processes → Tree → List Expectation → EndsMark → Spellings → Type 0
+TrueBy o ps t es m values =
+    IsTrueMark (record { values = values; processes = ps }) (on_names t (named_discipline o.discipline) o.steps) es m ⊎ IsTrueMark (record { values = values; processes = ps }) (at_any_limit t) es m
 
-module _ (t : Tree) (r : Tables) (read : ∥ IsRead t.program ∥₁) (ok : IsAccepted t) (is : IsProgramOf t r) (o : Options) (es : List EndsExpectation) (verdict : ShowVerdict) where
+module _ (t : Tree) (r : Tables) (ps : Processes) (read : ∥ IsRead t.program ∥₁) (ok : IsAccepted t) (is : IsProgramOf t r) (o : Options) where
   names : r.names ≡ constant_names t.program
   names = read_names t r read ok is.laid
 
-  meant_by : (at_once : Bool) → TellsEndsBy at_once r o es verdict → (m : EndsMark) × (verdict ≡ ends_verdict_of m) × ∥ IsTrueBy at_once t o es m ∥₁
-  meant_by true (m, e, h) = (m, e, ∥∥₁_map read (λ it. subst (λ (names : Spellings). IsTrueMark names (at_any_limit t) es m) names (h.meaning t it ok is.laid)))
-  meant_by false (m, e, inl h) = (m, e, ∥∥₁_map read (λ it. true_of_names t o r.names names es m (inl (h.1 t it ok is.laid))))
-  meant_by false (m, e, inr h) = (m, e, ∥∥₁_map read (λ it. true_of_names t o r.names names es m (inr (h.2.meaning t it ok is.laid))))
+  pub same_asked : (es : List Expectation) → are_asked o (with_tables r ps) es ≡ are_asked o (names_with t ps) es
+  same_asked es = ap (λ (values : Spellings). are_asked o (record { values = values; processes = ps }) es) names
 
-  meant_if : (can at_once : Bool) → TellsIf can (TellsEndsBy at_once r o es verdict) verdict → TellsIf can ((m : EndsMark) × (verdict ≡ ends_verdict_of m) × ∥ IsTrueBy at_once t o es m ∥₁) verdict
-  meant_if true at_once h = meant_by at_once h
-  meant_if false at_once h = h
+  module _ (es : List Expectation) (verdict : ShowVerdict) where
+    meant_by : (at_once : Bool) → TellsEndsBy at_once r ps o es verdict → (m : EndsMark) × (verdict ≡ ends_verdict_of m) × ∥ IsTrueBy at_once t ps o es m ∥₁
+    meant_by true (m, e, h) = (m, e, ∥∥₁_map read (λ it. subst (λ (values : Spellings). IsTrueMark (record { values = values; processes = ps }) (at_any_limit t) es m) names (h.meaning t it ok is.laid)))
+    meant_by false (m, e, inl h) = (m, e, ∥∥₁_map read (λ it. subst (TrueBy o ps t es m) names (inl (h.1 t it ok is.laid))))
+    meant_by false (m, e, inr h) = (m, e, ∥∥₁_map read (λ it. subst (TrueBy o ps t es m) names (inr (h.2.meaning t it ok is.laid))))
 
-  pub ends_meant : TellsEnds r o es verdict → MeansEnds t o es verdict
-  ends_meant h = meant_if (can_be_judged o.at_once o.discipline es) o.at_once h
+    meant_if : (can at_once : Bool) → TellsIf can (TellsEndsBy at_once r ps o es verdict) verdict → TellsIf can ((m : EndsMark) × (verdict ≡ ends_verdict_of m) × ∥ IsTrueBy at_once t ps o es m ∥₁) verdict
+    meant_if true at_once h = meant_by at_once h
+    meant_if false at_once h = h
+
+    pub ends_meant : TellsEnds r ps o es verdict → MeansEnds t ps o es verdict
+    ends_meant h = meant_if (can_be_judged o.at_once o.discipline es) o.at_once h
+
+-- ---- what can be asked
+
+-- nothing is said against it, so it can
+pub is_asked_when : {A : Type 0} (said : Option A) (can : Bool) → said ≡ None → is_some said ≡ not can → can ≡ true
+is_asked_when said true none is = refl
+is_asked_when said false none is = absurd (cc (ap is_some none, is))
+
+pub is_refused_when : {A : Type 0} (said : Option A) (why : A) (can : Bool) → said ≡ Some why → is_some said ≡ not can → can ≡ false
+is_refused_when said why true some is = absurd (cc (ap is_some some, is))
+is_refused_when said why false some is = refl
+
+pub told_when : (can : Bool) (told : Type 0) (verdict : ShowVerdict) → can ≡ true → told → TellsIf can told verdict
+told_when can told verdict is h = subst (λ (b : Bool). TellsIf b told verdict) (sym is) h
+
+pub misread_when : (can : Bool) (told : Type 0) (verdict : ShowVerdict) → can ≡ false → verdict ≡ Misread → TellsIf can told verdict
+misread_when can told verdict is h = subst (λ (b : Bool). TellsIf b told verdict) (sym is) h
+
+-- what is told tells more
+pub told_more : (can : Bool) (told more : Type 0) (verdict : ShowVerdict) → (told → more) → TellsIf can told verdict → TellsIf can more verdict
+told_more true told more verdict f h = f h
+told_more false told more verdict f h = h
+
+-- by schedules of any length, or by those within the limits
+pub any_asked : (o : Options) (n : Names) (es : List Expectation) (within any : List Expectation → Type 0) (verdict : ShowVerdict) → are_asked o n es ≡ true → o.ends ≡ true → any es → TellsAsked o n es within any verdict
+any_asked o n es within any verdict can ends h = told_when (are_asked o n es) (TellsBy o.ends within any es) verdict can (subst (λ (b : Bool). TellsBy b within any es) (sym ends) h)
+
+pub within_asked : (o : Options) (n : Names) (es : List Expectation) (within any : List Expectation → Type 0) (verdict : ShowVerdict) → are_asked o n es ≡ true → o.ends ≡ false → within es → TellsAsked o n es within any verdict
+within_asked o n es within any verdict can ends h = told_when (are_asked o n es) (TellsBy o.ends within any es) verdict can (subst (λ (b : Bool). TellsBy b within any es) (sym ends) h)
 
 -- ---- no words spell nothing
 
@@ -74,33 +107,17 @@ joined_none spells none (e ∷ f ∷ es) (first, others, a, b, is) = no_middle f
 one_none : (e : plain.Expected) → ¬ (SpellsOne [] e)
 one_none e (after, is, h) = no_first is
 
-ends_none : (processes : ends_spelling.Processes) (e : ends_plain.Expected) → ¬ (ends_spelling.SpellsOne processes [] e)
-ends_none processes (ends_plain.Never (ends_plain.Ends ps)) (after, is, h) = no_first is
-ends_none processes (ends_plain.Never (ends_plain.Waiting None)) (after, is, h) = no_first is
-ends_none processes (ends_plain.Never (ends_plain.Waiting (Some q))) h = h
-ends_none processes (ends_plain.Never (ends_plain.Shown value)) (after, is, h) = no_first is
-ends_none processes (ends_plain.Sometimes t) (after, is, h) = no_first is
-ends_none processes (ends_plain.Only ps) (after, is, h) = no_first is
-
 nothing_spelled : (es : List plain.Expected) → ¬ (Spells [] es)
 nothing_spelled = joined_none SpellsOne one_none
-
-no_ends_spelled : (components : List Named) (es : List ends_plain.Expected) → ¬ (SpellsEnds components [] es)
-no_ends_spelled components = joined_none (ends_spelling.SpellsOne (ends_spelling.process_of components)) (ends_none (ends_spelling.process_of components))
 
 no_words : words_of [] ≡ []
 no_words = ap (λ cs. map encode_utf8_all (words_behind [] cs)) chars-nil
 
-misread_words : (ends : Bool) (components : List Named) (within : List Expectation → Type 0) (any : List EndsExpectation → Type 0) (verdict : ShowVerdict) → verdict ≡ Misread → TellsWords ends components [] within any verdict
-misread_words false components within any verdict e = inr (nothing_spelled, e)
-misread_words true components within any verdict e = inr (no_ends_spelled components, e)
-
-misread_text : (ends : Bool) (components : List Named) (within : List Expectation → Type 0) (any : List EndsExpectation → Type 0) (verdict : ShowVerdict) (text : List ℕ) → text ≡ [] → verdict ≡ Misread → TellsWords ends components (words_of text) within any verdict
-misread_text ends components within any verdict text is e = subst (λ (ws : Words). TellsWords ends components ws within any verdict) (sym (ap words_of is ∙ no_words)) (misread_words ends components within any verdict e)
-
 -- an empty text is misread
-pub empty_misread : (ends : Bool) (components : List Named) (within : List Expectation → Type 0) (any : List EndsExpectation → Type 0) (verdict : ShowVerdict) (text : List ℕ) → (length text == 0) ≡ true → verdict ≡ Misread → TellsWords ends components (words_of text) within any verdict
-empty_misread ends components within any verdict text none e = misread_text ends components within any verdict text (nil_from_length text (eqb-true (length text) 0 none)) e
+pub empty_misread : (told : List Expectation → Type 0) (verdict : ShowVerdict) (text : List ℕ) → (length text == 0) ≡ true → verdict ≡ Misread → TellsSpelled (Spells (words_of text)) plain.expected_of told verdict
+empty_misread told verdict text none e =
+    let empty : words_of text ≡ [] = ap words_of (nil_from_length text (eqb-true (length text) 0 none)) ∙ no_words in
+    subst (λ (ws : Words). TellsSpelled (Spells ws) plain.expected_of told verdict) (sym empty) (inr (nothing_spelled, e))
 
 -- ---- texts
 

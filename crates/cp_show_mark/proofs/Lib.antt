@@ -4,5 +4,6 @@ pub mod Giving
 pub mod MarkFloats
 pub mod Pairs
 pub mod Pieces
+pub mod Refusing
 pub mod StoryClauses
 pub mod Telling

@@ -12,8 +12,8 @@ use Rattle.cp_story.specs.Objects.{text_data}
 use Rattle.cp_story.specs.StoryData.{kind_members, wait_data}
 use Rattle.cp_story.specs.Waiting.{who_waits}
 use Rattle.cp_verdict.specs.Judged.{row_line}
-use Rattle.cp_verdict.specs.Written.{expectation_text}
-use Rattle.cp_verdict.specs.declared.expectation.Expectation.{Expectation}
+use Rattle.cp_expectation.specs.Written.{expectation_text}
+use Rattle.cp_expectation.specs.declared.expectation.Expectation.{Expectation}
 use Rattle.cp_verdict.specs.declared.judging.Judgement.{Judgement}
 use Rattle.cp_verdict.specs.declared.judging.Judgement.TheVariants as judgement
 use Rattle.cp_verdict.specs.declared.program.Marked.{Marked}

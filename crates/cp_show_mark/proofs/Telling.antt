@@ -8,10 +8,10 @@ use Rattle.cp_run.specs.Slots.{slots}
 use Rattle.cp_run.specs.Table.{table}
 use Rattle.cp_run.specs.declared.limits.Limits.{Limits}
 use Rattle.cp_tool.specs.declared.options.Options.{Options}
-use Rattle.cp_verdict.specs.declared.expectation.Expectation.{Expectation}
+use Rattle.cp_expectation.specs.declared.expectation.Expectation.{Expectation}
 use Rattle.cp_verdict.specs.endless.AtOnce.{IsMarkAtOnce, IsMarkInTurn, can_be_at_once}
 use Rattle.cp_verdict.specs.endless.Marked.{can_be_asked}
-use Rattle.cp_verdict.specs.declared.endless.expectation.EndsExpectation as ends_expectation
+use Rattle.cp_verdict.specs.endless.Naming.{Processes}
 use Rattle.cp_verdict.specs.declared.endless.verdict.EndsMark as ends_mark
 use Rattle.cp_verdict.specs.declared.endless.verdict.EndsMark.TheVariants as of_ends
 use Rattle.cp_legend.specs.Names.{Legend}
@@ -40,26 +40,26 @@ told_within o l r es verdict same h =
     let b = subst (λ (n : ℕ). TellsWithin o.choices n l.discipline r es verdict) same.1 a in
     subst (λ (g : Discipline). TellsWithin o.choices o.steps g r es verdict) same.2 b
 
-told_ends : (o : Options) (l : Limits) (r : Tables) (es : List ends_expectation.EndsExpectation) (verdict : ShowVerdict) {choices : ℕ} → (l.choices ≡ choices) × (l.steps ≡ o.steps) × (l.discipline ≡ o.discipline) → TellsEndsMark r l.discipline l.steps o.states es verdict → TellsEndsMark r o.discipline o.steps o.states es verdict
-told_ends o l r es verdict same h =
-    let a = subst (λ (n : ℕ). TellsEndsMark r l.discipline n o.states es verdict) same.1 h in
-    subst (λ (g : Discipline). TellsEndsMark r g o.steps o.states es verdict) same.2 a
+told_ends : (o : Options) (l : Limits) (r : Tables) (ps : Processes) (es : List Expectation) (verdict : ShowVerdict) {choices : ℕ} → (l.choices ≡ choices) × (l.steps ≡ o.steps) × (l.discipline ≡ o.discipline) → TellsEndsMark r ps l.discipline l.steps o.states es verdict → TellsEndsMark r ps o.discipline o.steps o.states es verdict
+told_ends o l r ps es verdict same h =
+    let a = subst (λ (n : ℕ). TellsEndsMark r ps l.discipline n o.states es verdict) same.1 h in
+    subst (λ (g : Discipline). TellsEndsMark r ps g o.steps o.states es verdict) same.2 a
 
-told_at_once : (o : Options) (l : Limits) (r : Tables) (es : List ends_expectation.EndsExpectation) (verdict : ShowVerdict) {choices : ℕ} → (l.choices ≡ choices) × (l.steps ≡ o.steps) × (l.discipline ≡ o.discipline) → TellsMarkAtOnce r l.steps es verdict → TellsMarkAtOnce r o.steps es verdict
-told_at_once o l r es verdict same h = subst (λ (n : ℕ). TellsMarkAtOnce r n es verdict) same.1 h
+told_at_once : (o : Options) (l : Limits) (r : Tables) (ps : Processes) (es : List Expectation) (verdict : ShowVerdict) {choices : ℕ} → (l.choices ≡ choices) × (l.steps ≡ o.steps) × (l.discipline ≡ o.discipline) → TellsMarkAtOnce r ps l.steps es verdict → TellsMarkAtOnce r ps o.steps es verdict
+told_at_once o l r ps es verdict same h = subst (λ (n : ℕ). TellsMarkAtOnce r ps n es verdict) same.1 h
 
 tells_if : (can : Bool) (told : Type 0) (verdict : ShowVerdict) → (can ≡ true → told) → (can ≡ false → verdict ≡ Misread) → TellsIf can told verdict
 tells_if true told verdict asked refused = asked refl
 tells_if false told verdict asked refused = refused refl
 
 -- a mark with calls at once, or without, as the options ask
-pub judged_at_once : (o : Options) (l : Limits) (r : Tables) (es : List ends_expectation.EndsExpectation) (m : ends_mark.EndsMark) (verdict : ShowVerdict) {choices : ℕ} → (l.choices ≡ choices) × (l.steps ≡ o.steps) × (l.discipline ≡ o.discipline) → o.at_once ≡ true → verdict ≡ ends_verdict_of m → (can_be_at_once l.discipline es ≡ true → IsMarkAtOnce r l.steps es m) → (can_be_at_once l.discipline es ≡ false → m ≡ of_ends.Misread) → TellsEnds r o es verdict
-judged_at_once o l r es m verdict same asked is mark refused =
-    subst (λ (b : Bool). TellsIf (can_be_judged b o.discipline es) (TellsEndsBy b r o es verdict) verdict) (sym asked) (tells_if (can_be_at_once o.discipline es) (TellsMarkAtOnce r o.steps es verdict) verdict (λ can. told_at_once o l r es verdict same (m, is, mark (subst (λ (g : Discipline). can_be_at_once g es ≡ true) (sym same.2) can))) (λ can. is ∙ ap ends_verdict_of (refused (subst (λ (g : Discipline). can_be_at_once g es ≡ false) (sym same.2) can))))
+pub judged_at_once : (o : Options) (l : Limits) (r : Tables) (ps : Processes) (es : List Expectation) (m : ends_mark.EndsMark) (verdict : ShowVerdict) {choices : ℕ} → (l.choices ≡ choices) × (l.steps ≡ o.steps) × (l.discipline ≡ o.discipline) → o.at_once ≡ true → verdict ≡ ends_verdict_of m → (can_be_at_once l.discipline es ≡ true → IsMarkAtOnce r ps l.steps es m) → (can_be_at_once l.discipline es ≡ false → m ≡ of_ends.Misread) → TellsEnds r ps o es verdict
+judged_at_once o l r ps es m verdict same asked is mark refused =
+    subst (λ (b : Bool). TellsIf (can_be_judged b o.discipline es) (TellsEndsBy b r ps o es verdict) verdict) (sym asked) (tells_if (can_be_at_once o.discipline es) (TellsMarkAtOnce r ps o.steps es verdict) verdict (λ can. told_at_once o l r ps es verdict same (m, is, mark (subst (λ (g : Discipline). can_be_at_once g es ≡ true) (sym same.2) can))) (λ can. is ∙ ap ends_verdict_of (refused (subst (λ (g : Discipline). can_be_at_once g es ≡ false) (sym same.2) can))))
 
-pub judged_in_turn : (o : Options) (l : Limits) (r : Tables) (es : List ends_expectation.EndsExpectation) (m : ends_mark.EndsMark) (verdict : ShowVerdict) {choices : ℕ} → (l.choices ≡ choices) × (l.steps ≡ o.steps) × (l.discipline ≡ o.discipline) → o.at_once ≡ false → verdict ≡ ends_verdict_of m → (can_be_asked l.discipline es ≡ true → IsMarkInTurn r l.discipline l.steps o.states es m) → (can_be_asked l.discipline es ≡ false → m ≡ of_ends.Misread) → TellsEnds r o es verdict
-judged_in_turn o l r es m verdict same asked is mark refused =
-    subst (λ (b : Bool). TellsIf (can_be_judged b o.discipline es) (TellsEndsBy b r o es verdict) verdict) (sym asked) (tells_if (can_be_asked o.discipline es) (TellsEndsMark r o.discipline o.steps o.states es verdict) verdict (λ can. told_ends o l r es verdict same (m, is, mark (subst (λ (g : Discipline). can_be_asked g es ≡ true) (sym same.2) can))) (λ can. is ∙ ap ends_verdict_of (refused (subst (λ (g : Discipline). can_be_asked g es ≡ false) (sym same.2) can))))
+pub judged_in_turn : (o : Options) (l : Limits) (r : Tables) (ps : Processes) (es : List Expectation) (m : ends_mark.EndsMark) (verdict : ShowVerdict) {choices : ℕ} → (l.choices ≡ choices) × (l.steps ≡ o.steps) × (l.discipline ≡ o.discipline) → o.at_once ≡ false → verdict ≡ ends_verdict_of m → (can_be_asked l.discipline es ≡ true → IsMarkInTurn r ps l.discipline l.steps o.states es m) → (can_be_asked l.discipline es ≡ false → m ≡ of_ends.Misread) → TellsEnds r ps o es verdict
+judged_in_turn o l r ps es m verdict same asked is mark refused =
+    subst (λ (b : Bool). TellsIf (can_be_judged b o.discipline es) (TellsEndsBy b r ps o es verdict) verdict) (sym asked) (tells_if (can_be_asked o.discipline es) (TellsEndsMark r ps o.discipline o.steps o.states es verdict) verdict (λ can. told_ends o l r ps es verdict same (m, is, mark (subst (λ (g : Discipline). can_be_asked g es ≡ true) (sym same.2) can))) (λ can. is ∙ ap ends_verdict_of (refused (subst (λ (g : Discipline). can_be_asked g es ≡ false) (sym same.2) can))))
 
 -- the same on the program's own names
 abbrev pub MeansWithin : ℕ → ℕ → Discipline → Tree → Spellings → List Expectation → ShowVerdict → Type 0

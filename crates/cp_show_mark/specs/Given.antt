@@ -1,27 +1,37 @@
 -- Which expectations are given for a program, and what is told of them.
-use Rattle.std.specs.Prelude.{◌≡◌, ◌⊎◌, ◌==◌, ◌&&◌, ℕ, not, if◌then◌else◌, Bool, true, false, List, [], ◌++◌, Option, codes, length, map}
+use Rattle.std.specs.Prelude.{◌≡◌, ◌⊎◌, ◌==◌, ◌&&◌, ◌||◌, ℕ, not, if◌then◌else◌, Bool, true, false, List, [], ◌++◌, Option, None, Some, is_none, codes, length, map, string_bytes}
+use Rattle.std.specs.List.{list_all}
+use Rattle.std.specs.Str.{bytes_eq}
 use Rattle.cp_text.specs.Reading.{AreCut, Part, joined}
 use Rattle.cp_tree.specs.Syntax.{Tree}
 use Rattle.cp_slots.specs.Tables.{Tables}
 use Rattle.cp_resolved.specs.Enumerations.{constant_names}
 use Rattle.cp_machine.specs.declared.discipline.Discipline.{Discipline}
+use Rattle.cp_machine.specs.declared.discipline.Gates.{Gates}
+use Rattle.cp_machine.specs.declared.discipline.Gates.TheVariants.{First, Any}
 use Rattle.cp_run.specs.Slots.{slots}
 use Rattle.cp_run.specs.Table.{table}
 use Rattle.cp_machine_laws.specs.Named.{named, named_discipline}
 use Rattle.cp_tool.specs.declared.options.Options.{Options}
-use Rattle.cp_legend.specs.Names.{Named}
+use Rattle.cp_walk.specs.Text.{Spellings}
+use Rattle.cp_expectation.specs.Objections.{objection_to}
+use Rattle.cp_expectation.specs.Plain as plain
+use Rattle.cp_expectation.specs.Spelling as spelling
+use Rattle.cp_expectation.specs.Values.{is_name}
+use Rattle.cp_expectation.specs.declared.expectation.Expectation.{Expectation}
+use Rattle.cp_expectation.specs.declared.expectation.OutputItem.{OutputItem}
+use Rattle.cp_expectation.specs.declared.expectation.OutputItem.TheVariants as item
+use Rattle.cp_expectation.specs.declared.expectation.Topic.{Topic}
+use Rattle.cp_expectation.specs.declared.expectation.Topic.TheVariants as topic
+use Rattle.cp_expectation.specs.declared.objection.Question.{Question}
+use Rattle.cp_expectation.specs.declared.objection.Question.TheVariants.{Rows, Ends, EndsAnyGates, EndsAtOnce}
 use Rattle.cp_verdict.specs.Comments.{AreHeld, and_text, comments_of}
-use Rattle.cp_verdict.specs.Plain as plain
-use Rattle.cp_verdict.specs.Spelling as spelling
-use Rattle.cp_verdict.specs.declared.expectation.Expectation.{Expectation}
 use Rattle.cp_verdict.specs.endless.AtOnce.{at_any_limit, can_be_at_once}
 use Rattle.cp_verdict.specs.endless.Behaviour.{on_names}
-use Rattle.cp_verdict.specs.endless.Marked.{IsTrueMark, can_be_asked}
-use Rattle.cp_verdict.specs.endless.Plain as ends_plain
-use Rattle.cp_verdict.specs.endless.Spelling as ends_spelling
-use Rattle.cp_verdict.specs.declared.endless.expectation.EndsExpectation.{EndsExpectation}
+use Rattle.cp_verdict.specs.endless.Marked.{IsTrueMark, can_be_asked, with_tables}
+use Rattle.cp_verdict.specs.endless.Naming.{Names, Processes, knows_processes}
 use Rattle.cp_verdict.specs.declared.endless.verdict.EndsMark.{EndsMark}
-use Rattle.cp_show_mark.specs.MarkText.{Setting}
+use Rattle.cp_show_mark.specs.MarkText.{Setting, is_declared}
 use Rattle.cp_show_mark.specs.Showing.{TellsEndsMark, TellsMark, TellsMarkAtOnce, ends_verdict_of}
 use Rattle.cp_show_mark.specs.Told.{TellsText}
 use Rattle.cp_show_mark.specs.declared.answer.ShowVerdict.{ShowVerdict}
@@ -59,57 +69,93 @@ IsGiven words with_own source text = IsGivenBy (are_alone words with_own) words 
 abbrev pub TellsSpelled : {E F : Type 0} → (spelled : List F → Type 0) → (seen : E → F) → (told : List E → Type 0) → ShowVerdict → Type 0
 TellsSpelled {E} {F} spelled seen told verdict = ((es : List E) × spelled (map seen es) × told es) ⊎ (((es : List F) → ¬ (spelled es)) × (verdict ≡ Misread))
 
-abbrev pub Spells : spelling.Words → List plain.Expected → Type 0
-Spells = spelling.Spells
+-- ---- what can be asked
 
--- by the names of these components
-abbrev pub SpellsEnds : List Named → spelling.Words → List ends_plain.Expected → Type 0
-SpellsEnds components = ends_spelling.Spells (ends_spelling.process_of components)
+abbrev pub ends_question : (at_once : Bool) → Gates → Question
+ends_question true gates = EndsAtOnce
+ends_question false Any = EndsAnyGates
+ends_question false First = Ends
 
--- They are read as expectations of schedules of any length where these are asked for, else of those within the limits.
-abbrev pub TellsWords : (ends : Bool) → List Named → spelling.Words → (List Expectation → Type 0) → (List EndsExpectation → Type 0) → ShowVerdict → Type 0
-TellsWords false components ws within any verdict = TellsSpelled (Spells ws) plain.expected_of within verdict
-TellsWords true components ws within any verdict = TellsSpelled (SpellsEnds components ws) ends_plain.expected_of any verdict
+-- by which schedules expectations are judged
+abbrev pub question_of : Options → Question
+question_of o = if o.ends then ends_question o.at_once o.discipline.gates else Rows
 
--- ---- schedules of any length
+-- a value that some display of the program can print: no name, or that of a truth value or of a constant
+abbrev pub can_be_shown : Spellings → List ℕ → Bool
+can_be_shown constants value = not (is_name value) || (bytes_eq value (codes "true") || (bytes_eq value (codes "false") || is_declared constants value))
 
--- what can be asked: not who waits where anybody in line may go into a monitor; and neither of the two where kernel calls are made at once
-abbrev pub can_be_judged : (at_once : Bool) → Discipline → List EndsExpectation → Bool
-can_be_judged false discipline es = can_be_asked discipline es
-can_be_judged true discipline es = can_be_at_once discipline es
+abbrev pub item_can_be_shown : Spellings → OutputItem → Bool
+item_can_be_shown constants (item.Value text) = can_be_shown constants (string_bytes text)
+item_can_be_shown constants item.Rest = true
+
+abbrev pub knows_values : Spellings → Topic → Bool
+knows_values constants (topic.End end (Some output)) = list_all (item_can_be_shown constants) output.items.items
+knows_values constants (topic.Shown text) = can_be_shown constants (string_bytes text)
+knows_values constants t = true
+
+-- it can be asked of the program: each of its topics can, and the program has its names
+abbrev pub is_asked : Question → Names → Expectation → Bool
+is_asked question names e = is_none (objection_to question e) && list_all (λ t. knows_processes names.processes t && knows_values names.values t) e.topics.items
+
+abbrev pub are_asked : Options → Names → List Expectation → Bool
+are_asked o names es = list_all (is_asked (question_of o) names) es
 
 -- what can't be asked is told to be misread
 abbrev pub TellsIf : (can : Bool) → (told : Type 0) → ShowVerdict → Type 0
 TellsIf true told verdict = told
 TellsIf false told verdict = verdict ≡ Misread
 
-abbrev pub TellsEndsBy : (at_once : Bool) → Tables → Options → List EndsExpectation → ShowVerdict → Type 0
-TellsEndsBy false r o es verdict = TellsEndsMark r o.discipline o.steps o.states es verdict
-TellsEndsBy true r o es verdict = TellsMarkAtOnce r o.steps es verdict
+abbrev pub Spells : spelling.Words → List plain.Expected → Type 0
+Spells = spelling.Spells
 
-abbrev pub TellsEnds : Tables → Options → List EndsExpectation → ShowVerdict → Type 0
-TellsEnds r o es verdict = TellsIf (can_be_judged o.at_once o.discipline es) (TellsEndsBy o.at_once r o es verdict) verdict
+-- They are asked of schedules of any length, or else of those within the limits.
+abbrev pub TellsBy : (ends : Bool) → (List Expectation → Type 0) → (List Expectation → Type 0) → List Expectation → Type 0
+TellsBy false within any es = within es
+TellsBy true within any es = any es
 
--- it is true of the program's own names: with this limit of steps, or, by kernel calls at once, with any
-abbrev pub IsTrueBy : (at_once : Bool) → Tree → Options → List EndsExpectation → EndsMark → Type 0
-IsTrueBy false t o es m = IsTrueMark (constant_names t.program) (on_names t (named_discipline o.discipline) o.steps) es m ⊎ IsTrueMark (constant_names t.program) (at_any_limit t) es m
-IsTrueBy true t o es m = IsTrueMark (constant_names t.program) (at_any_limit t) es m
+abbrev pub TellsAsked : Options → Names → List Expectation → (List Expectation → Type 0) → (List Expectation → Type 0) → ShowVerdict → Type 0
+TellsAsked o names es within any verdict = TellsIf (are_asked o names es) (TellsBy o.ends within any es) verdict
 
-abbrev pub MeansEnds : Tree → Options → List EndsExpectation → ShowVerdict → Type 0
-MeansEnds t o es verdict = TellsIf (can_be_judged o.at_once o.discipline es) ((m : EndsMark) × (verdict ≡ ends_verdict_of m) × ∥ IsTrueBy o.at_once t o es m ∥₁) verdict
+abbrev pub TellsWords : Options → Names → spelling.Words → (List Expectation → Type 0) → (List Expectation → Type 0) → ShowVerdict → Type 0
+TellsWords o names ws within any verdict = TellsSpelled (Spells ws) plain.expected_of (λ es. TellsAsked o names es within any verdict) verdict
+
+-- ---- schedules of any length
+
+-- beside what is asked, kernel calls at once want the discipline of the book
+abbrev pub can_be_judged : (at_once : Bool) → Discipline → List Expectation → Bool
+can_be_judged false discipline es = can_be_asked discipline es
+can_be_judged true discipline es = can_be_at_once discipline es
+
+abbrev pub TellsEndsBy : (at_once : Bool) → Tables → Processes → Options → List Expectation → ShowVerdict → Type 0
+TellsEndsBy false r ps o es verdict = TellsEndsMark r ps o.discipline o.steps o.states es verdict
+TellsEndsBy true r ps o es verdict = TellsMarkAtOnce r ps o.steps es verdict
+
+abbrev pub TellsEnds : Tables → Processes → Options → List Expectation → ShowVerdict → Type 0
+TellsEnds r ps o es verdict = TellsIf (can_be_judged o.at_once o.discipline es) (TellsEndsBy o.at_once r ps o es verdict) verdict
+
+-- on the program's own names: with this limit of steps, or, by kernel calls at once, with any
+abbrev pub names_with : Tree → Processes → Names
+names_with t ps = record { values = constant_names t.program; processes = ps }
+
+abbrev pub IsTrueBy : (at_once : Bool) → Tree → Processes → Options → List Expectation → EndsMark → Type 0
+IsTrueBy false t ps o es m = IsTrueMark (names_with t ps) (on_names t (named_discipline o.discipline) o.steps) es m ⊎ IsTrueMark (names_with t ps) (at_any_limit t) es m
+IsTrueBy true t ps o es m = IsTrueMark (names_with t ps) (at_any_limit t) es m
+
+abbrev pub MeansEnds : Tree → Processes → Options → List Expectation → ShowVerdict → Type 0
+MeansEnds t ps o es verdict = TellsIf (can_be_judged o.at_once o.discipline es) ((m : EndsMark) × (verdict ≡ ends_verdict_of m) × ∥ IsTrueBy o.at_once t ps o es m ∥₁) verdict
 
 -- ---- the whole
 
 -- by the tables of the program
-abbrev pub TellsGiven : Tables → Options → List Named → spelling.Words → ShowVerdict → Type 0
-TellsGiven r o components ws verdict =
-    TellsWords o.ends components ws (λ es. TellsMark r.names es (table (slots r o.discipline) o.choices o.steps) verdict) (λ es. TellsEnds r o es verdict) verdict
+abbrev pub TellsGiven : Tables → Options → Processes → spelling.Words → ShowVerdict → Type 0
+TellsGiven r o ps ws verdict =
+    TellsWords o (with_tables r ps) ws (λ es. TellsMark r.names es (table (slots r o.discipline) o.choices o.steps) verdict) (λ es. TellsEnds r ps o es verdict) verdict
 
 -- on its own names
-abbrev pub MeansGiven : Tree → Options → List Named → spelling.Words → ShowVerdict → Type 0
-MeansGiven t o components ws verdict =
-    TellsWords o.ends components ws (λ es. TellsMark (constant_names t.program) es (table (named t (named_discipline o.discipline)) o.choices o.steps) verdict) (λ es. MeansEnds t o es verdict) verdict
+abbrev pub MeansGiven : Tree → Options → Processes → spelling.Words → ShowVerdict → Type 0
+MeansGiven t o ps ws verdict =
+    TellsWords o (names_with t ps) ws (λ es. TellsMark (constant_names t.program) es (table (named t (named_discipline o.discipline)) o.choices o.steps) verdict) (λ es. MeansEnds t ps o es verdict) verdict
 
 -- by schedules within the limits, with what is said of them; a doubtful word may be among the words
-abbrev pub TellsGivenText : Setting → spelling.Words → ShowVerdict → List ℕ → Type 0
-TellsGivenText s ws verdict text = TellsSpelled (Spells ws) plain.expected_of (λ es. ((doubtful : Option (List ℕ)) × TellsText s es doubtful verdict text)) verdict
+abbrev pub TellsGivenText : Setting → Options → Names → spelling.Words → ShowVerdict → List ℕ → Type 0
+TellsGivenText s o names ws verdict text = TellsSpelled (Spells ws) plain.expected_of (λ es. TellsIf (are_asked o names es) ((doubtful : Option (List ℕ)) × TellsText s es doubtful verdict text) verdict) verdict

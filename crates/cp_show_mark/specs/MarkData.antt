@@ -15,8 +15,9 @@ use Rattle.cp_story.specs.Objects.{Member, array_of, numbers_data, object_with, 
 use Rattle.cp_story.specs.StoryData.{kind_members, signals_members, waits_data}
 use Rattle.cp_story.specs.Waiting.{who_waits}
 use Rattle.cp_verdict.specs.Judged.{row_line}
-use Rattle.cp_verdict.specs.Written.{doubt_text, expectation_text, is_stopped, named_if}
-use Rattle.cp_verdict.specs.declared.expectation.Expectation.{Expectation}
+use Rattle.cp_expectation.specs.Written.{doubt_text, expectation_text}
+use Rattle.cp_verdict.specs.Written.{is_stopped, named_if}
+use Rattle.cp_expectation.specs.declared.expectation.Expectation.{Expectation}
 use Rattle.cp_verdict.specs.declared.judging.Judgement.{Judgement}
 use Rattle.cp_verdict.specs.declared.judging.Judgement.TheVariants as judgement
 use Rattle.cp_verdict.specs.declared.marking.Standing.{Standing}

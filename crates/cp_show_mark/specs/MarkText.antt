@@ -14,10 +14,11 @@ use Rattle.cp_story.specs.Waiting.{Waiting, who_waits}
 use Rattle.cp_walk.specs.Text.{Spellings, outcome_text, word_text}
 use Rattle.cp_verdict.specs.Judged.{row_line}
 use Rattle.cp_verdict.specs.Marked.{is_against, is_unsettled}
-use Rattle.cp_verdict.specs.Written.{doubt_text, expectation_text, is_stopped, stops_text}
-use Rattle.cp_verdict.specs.declared.expectation.Claim.{Claim}
-use Rattle.cp_verdict.specs.declared.expectation.Claim.TheVariants.{Never, Sometimes, Only}
-use Rattle.cp_verdict.specs.declared.expectation.Expectation.{Expectation}
+use Rattle.cp_expectation.specs.Written.{doubt_text, expectation_text}
+use Rattle.cp_verdict.specs.Written.{is_stopped, stops_text}
+use Rattle.cp_expectation.specs.declared.expectation.Claim.{Claim}
+use Rattle.cp_expectation.specs.declared.expectation.Claim.TheVariants.{Never, Sometimes, Only}
+use Rattle.cp_expectation.specs.declared.expectation.Expectation.{Expectation}
 use Rattle.cp_verdict.specs.declared.judging.Judgement.{Judgement}
 use Rattle.cp_verdict.specs.declared.judging.Judgement.TheVariants as judgement
 use Rattle.cp_verdict.specs.declared.marking.Standing.{Standing}

@@ -5,11 +5,11 @@ use Rattle.cp_run.specs.Table.{Line}
 use Rattle.cp_slots.specs.Tables.{Tables}
 use Rattle.cp_machine.specs.declared.discipline.Discipline.{Discipline}
 use Rattle.cp_verdict.specs.endless.AtOnce.{IsMarkAtOnce, IsMarkInTurn}
-use Rattle.cp_verdict.specs.declared.endless.expectation.EndsExpectation as ends_expectation
+use Rattle.cp_verdict.specs.endless.Naming.{Processes}
 use Rattle.cp_verdict.specs.declared.endless.verdict.EndsMark as ends_mark
 use Rattle.cp_verdict.specs.declared.endless.verdict.EndsMark.TheVariants as of_ends
 use Rattle.cp_verdict.specs.Marked.{IsMarkOf}
-use Rattle.cp_verdict.specs.declared.expectation.Expectation.{Expectation}
+use Rattle.cp_expectation.specs.declared.expectation.Expectation.{Expectation}
 use Rattle.cp_verdict.specs.declared.marking.Standing.{Standing}
 use Rattle.cp_verdict.specs.declared.marking.Standing.TheVariants as mark
 pub use Rattle.cp_show_mark.specs.declared.answer.ShowVerdict.{ShowVerdict}
@@ -40,9 +40,9 @@ ends_verdict_of of_ends.TooMany = TooMany
 ends_verdict_of of_ends.Misread = Misread
 
 -- The mark by schedules of any length is told, by all states or, where there are too many, with kernel calls at once; it is true of the program on its own names.
-abbrev pub TellsEndsMark : Tables → Discipline → (steps most : ℕ) → List ends_expectation.EndsExpectation → ShowVerdict → Type 0
-TellsEndsMark r discipline steps most es verdict = (m : ends_mark.EndsMark) × (verdict ≡ ends_verdict_of m) × IsMarkInTurn r discipline steps most es m
+abbrev pub TellsEndsMark : Tables → Processes → Discipline → (steps most : ℕ) → List Expectation → ShowVerdict → Type 0
+TellsEndsMark r ps discipline steps most es verdict = (m : ends_mark.EndsMark) × (verdict ≡ ends_verdict_of m) × IsMarkInTurn r ps discipline steps most es m
 
 -- the mark with kernel calls at once from the first is told
-abbrev pub TellsMarkAtOnce : Tables → ℕ → List ends_expectation.EndsExpectation → ShowVerdict → Type 0
-TellsMarkAtOnce r steps es verdict = (m : ends_mark.EndsMark) × (verdict ≡ ends_verdict_of m) × IsMarkAtOnce r steps es m
+abbrev pub TellsMarkAtOnce : Tables → Processes → ℕ → List Expectation → ShowVerdict → Type 0
+TellsMarkAtOnce r ps steps es verdict = (m : ends_mark.EndsMark) × (verdict ≡ ends_verdict_of m) × IsMarkAtOnce r ps steps es m

@@ -8,7 +8,7 @@ use Rattle.cp_walk.specs.Groups.{Tally}
 use Rattle.cp_walk.specs.Report.{same_outcome}
 use Rattle.cp_verdict.specs.Marked.{IsMarked}
 use Rattle.cp_verdict.specs.Meant.{IsMeantMark}
-use Rattle.cp_verdict.specs.declared.expectation.Expectation.{Expectation}
+use Rattle.cp_expectation.specs.declared.expectation.Expectation.{Expectation}
 use Rattle.cp_verdict.specs.declared.program.Marked.{Marked}
 use Rattle.cp_show_mark.specs.MarkData.{excess_json, mark_data}
 use Rattle.cp_show_mark.specs.MarkText.{Setting, excess_text, known_if, mark_text}

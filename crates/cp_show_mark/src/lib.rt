@@ -2,6 +2,7 @@
 #![tactic(auto)]
 
 pub mod answer;
+mod asking;
 mod ends_words;
 pub mod examinee;
 mod excess;
@@ -13,5 +14,5 @@ pub mod stories;
 
 pub use answer::{ShowAnswer, ShowVerdict};
 pub use examinee::Examinee;
-pub use marks::{mark_answer, mark_of};
+pub use marks::{mark_answer, mark_asked};
 pub use stories::story_of;

@@ -15,12 +15,13 @@ use crate::examinee::Examinee;
 use crate::mark_texts::{doubt_text, doubtful, expectation_text, verdict_words};
 use crate::mark_words::push_reason;
 use crate::stories::waits_of;
+use cp_expectation::{Expectation, Reading};
 use cp_machine::Signals;
 use cp_prose::Prose;
 use cp_run::OutcomeKind;
 use cp_story::objects::{Object, numbers, put_kind, put_signals, waits};
 use cp_story::output_words;
-use cp_verdict::{Expectation, Judgement, Marked, Reading, SeenRow, Standing, Stops};
+use cp_verdict::{Judgement, Marked, SeenRow, Standing, Stops};
 use serde_json::Value;
 use std::alloc::{AllocError, Global};
 

@@ -3,14 +3,16 @@
 ghost use Rattle.std.specs.Prelude.{◌≡◌, IfOk, option_map, string_bytes};
 ghost use Rattle.cp_prose.specs.Telling.{UnlessRefused, appended};
 ghost use Rattle.cp_verdict.specs.Judged.{row_line};
+ghost use Rattle.cp_expectation.specs.Written as language;
 ghost use Rattle.cp_verdict.specs.Written as written;
 ghost use Rattle.cp_walk.specs.Text as walk_text;
 ghost use Rattle.cp_show_mark.specs.MarkText as spec;
 ghost use Rattle.cp_show_mark.specs.MarkText.{setting_of};
 
 use crate::examinee::Examinee;
+use cp_expectation::{Expectation, Reading, push_doubt, push_expectation};
 use cp_prose::Prose;
-use cp_verdict::{Expectation, Judgement, Reading, SeenRow, Stops, push_doubt, push_expectation};
+use cp_verdict::{Judgement, SeenRow, Stops};
 use cp_walk::text::{push_outcome, push_word};
 use std::alloc::{AllocError, Global};
 
@@ -38,7 +40,7 @@ pub fn doubtful(examinee: Examinee<'_>, reading: &Reading) -> Option<&'static st
 
 /// How such a constant is written.
 pub fn doubt_text(alloc: Global, name: &str) -> Result<String, AllocError>
-    ensures { IfOk result (λ t. string_bytes t ≡ written.doubt_text name.now) }
+    ensures { IfOk result (λ t. string_bytes t ≡ language.doubt_text name.now) }
 {
     let mut text = String::new(alloc);
     push_doubt(&mut text, name)?;
@@ -55,7 +57,7 @@ pub fn stops_text(alloc: Global, stops: Stops) -> Result<String, AllocError>
 }
 
 pub fn expectation_text(alloc: Global, expectation: &Expectation) -> Result<String, AllocError>
-    ensures { IfOk result (λ t. string_bytes t ≡ written.expectation_text expectation.now) }
+    ensures { IfOk result (λ t. string_bytes t ≡ language.expectation_text expectation.now) }
 {
     let mut text = String::new(alloc);
     push_expectation(&mut text, expectation)?;

@@ -19,10 +19,11 @@ use crate::mark_texts::{
     doubt_text, doubtful, expectation_text, push_schedule, stops_text, verdict_words,
 };
 use crate::stories::waits_of;
+use cp_expectation::{Claim, Expectation, Reading};
 use cp_prose::Prose;
 use cp_run::{MOST_CHOICES, OutcomeKind};
 use cp_story::{Wait, wait_words};
-use cp_verdict::{Claim, Expectation, Judgement, Marked, Reading, SeenRow, Standing, Stops};
+use cp_verdict::{Judgement, Marked, SeenRow, Standing, Stops};
 use std::alloc::{AllocError, Global};
 
 /// That there is no expectation, or why it is none.

@@ -2,7 +2,6 @@
 
 ghost use Rattle.std.specs.Prelude.{◌≡◌, IfOk, List, Some, ℕ, false, map, option_map, string_bytes};
 ghost use Rattle.cp_meaning_laws.specs.Accepted.{IsAccepted};
-ghost use Rattle.cp_legend.specs.Names.{component_seen};
 ghost use Rattle.cp_merged.specs.Code.{tally_of};
 ghost use Rattle.cp_machine_laws.specs.Named.{named, named_discipline};
 ghost use Rattle.cp_resolved.specs.Enumerations.{constant_names};
@@ -11,9 +10,9 @@ ghost use Rattle.cp_run.specs.Slots.{slots};
 ghost use Rattle.cp_run.specs.Table.{table};
 ghost use Rattle.cp_tree.specs.Read.{IsRead};
 ghost use Rattle.cp_tree.specs.Syntax.{Tree};
-ghost use Rattle.cp_verdict.specs.Plain.{expected_of};
-ghost use Rattle.cp_verdict.specs.Words.{words_of};
-ghost use Rattle.cp_verdict.specs.endless.Plain as ends_plain;
+ghost use Rattle.cp_expectation.specs.Words.{words_of};
+ghost use Rattle.cp_verdict.specs.endless.Marked.{with_tables};
+ghost use Rattle.cp_verdict.specs.endless.Naming.{processes_of};
 ghost use Rattle.cp_show_mark.specs.Given as given;
 ghost use Rattle.cp_show_mark.specs.MarkText.{setting_of};
 ghost use Rattle.cp_show_mark.specs.Showing as spec;
@@ -22,21 +21,17 @@ ghost use Rattle.cp_show_mark.specs.Told.{IsExcessTold, SaysOfTallies, TellsText
 ghost use Rattle.cp_show_mark.specs.declared.answer.ShowVerdict.TheVariants.{TooMany};
 
 use crate::answer::{ShowAnswer, ShowVerdict};
+use crate::asking::refusal;
 use crate::ends_words::ends_told;
 use crate::examinee::Examinee;
 use crate::excess::{MarkExcess, excess_text};
 use crate::mark_words::{mark_text, misread_text};
+use cp_expectation::{Expectation, Misread, Reading, expectations, misread_text as reason};
 use cp_outcomes::completing::greatest_known;
 use cp_outcomes::known::Known;
 use cp_progress::ObserveProgress;
-use cp_verdict::endless::{
-    EndsExpectation, EndsMark, EndsReading, MarkSubject, MarkedEnds,
-    expectations as ends_expectations, mark_at_once, mark_in_turn, misread_text as ends_reason,
-};
-use cp_verdict::{
-    MarkFault, Marked, Misread, Reading, Standing, expectations, expectations_in, mark_program,
-    mark_tallies, misread_text as reason,
-};
+use cp_verdict::endless::{EndsMark, MarkSubject, MarkedEnds, mark_at_once, mark_in_turn};
+use cp_verdict::{MarkFault, Marked, Standing, expectations_in, mark_program, mark_tallies};
 use cp_walk::Job;
 use std::alloc::{AllocError, Global};
 
@@ -49,9 +44,9 @@ pub fn mark_answer<O: ObserveProgress>(
     with_own: bool,
     source: &[u8],
 ) -> Result<ShowAnswer, AllocError>
-    ensures mark { IfOk result (λ a. (text : List ℕ) × given.IsGiven words.now with_own source.now text × given.TellsGiven examinee.entry.program.now examinee.entry.options.now (map component_seen examinee.entry.legend.now.components.items) (words_of text) a.verdict) }
-    ensures meaning { (t : Tree) → ∥ IsRead t.program ∥₁ → IsAccepted t → IsProgramOf t examinee.entry.program.now → IfOk result (λ a. (text : List ℕ) × given.IsGiven words.now with_own source.now text × given.MeansGiven t examinee.entry.options.now (map component_seen examinee.entry.legend.now.components.items) (words_of text) a.verdict) }
-    ensures text { examinee.entry.options.now.ends ≡ false → IfOk result (λ a. (text : List ℕ) × given.IsGiven words.now with_own source.now text × given.TellsGivenText (setting_of examinee.entry) (words_of text) a.verdict (string_bytes a.text)) }
+    ensures mark { IfOk result (λ a. (text : List ℕ) × given.IsGiven words.now with_own source.now text × given.TellsGiven examinee.entry.program.now examinee.entry.options.now (processes_of examinee.entry.legend.now) (words_of text) a.verdict) }
+    ensures meaning { (t : Tree) → ∥ IsRead t.program ∥₁ → IsAccepted t → IsProgramOf t examinee.entry.program.now → IfOk result (λ a. (text : List ℕ) × given.IsGiven words.now with_own source.now text × given.MeansGiven t examinee.entry.options.now (processes_of examinee.entry.legend.now) (words_of text) a.verdict) }
+    ensures text { examinee.entry.options.now.ends ≡ false → IfOk result (λ a. (text : List ℕ) × given.IsGiven words.now with_own source.now text × given.TellsGivenText (setting_of examinee.entry) examinee.entry.options.now (with_tables examinee.entry.program.now (processes_of examinee.entry.legend.now)) (words_of text) a.verdict (string_bytes a.text)) }
 {
     let text = expectation_text(alloc, words, with_own, source)?;
     mark_given(alloc, examinee, observer, text.as_str())
@@ -64,9 +59,9 @@ fn mark_given<O: ObserveProgress>(
     observer: &mut O,
     text: &str,
 ) -> Result<ShowAnswer, AllocError>
-    ensures mark { IfOk result (λ a. given.TellsGiven examinee.entry.program.now examinee.entry.options.now (map component_seen examinee.entry.legend.now.components.items) (words_of text.now) a.verdict) }
-    ensures meaning { (t : Tree) → ∥ IsRead t.program ∥₁ → IsAccepted t → IsProgramOf t examinee.entry.program.now → IfOk result (λ a. given.MeansGiven t examinee.entry.options.now (map component_seen examinee.entry.legend.now.components.items) (words_of text.now) a.verdict) }
-    ensures text { examinee.entry.options.now.ends ≡ false → IfOk result (λ a. given.TellsGivenText (setting_of examinee.entry) (words_of text.now) a.verdict (string_bytes a.text)) }
+    ensures mark { IfOk result (λ a. given.TellsGiven examinee.entry.program.now examinee.entry.options.now (processes_of examinee.entry.legend.now) (words_of text.now) a.verdict) }
+    ensures meaning { (t : Tree) → ∥ IsRead t.program ∥₁ → IsAccepted t → IsProgramOf t examinee.entry.program.now → IfOk result (λ a. given.MeansGiven t examinee.entry.options.now (processes_of examinee.entry.legend.now) (words_of text.now) a.verdict) }
+    ensures text { examinee.entry.options.now.ends ≡ false → IfOk result (λ a. given.TellsGivenText (setting_of examinee.entry) examinee.entry.options.now (with_tables examinee.entry.program.now (processes_of examinee.entry.legend.now)) (words_of text.now) a.verdict (string_bytes a.text)) }
 {
     if text.is_empty() {
         return misread(
@@ -123,15 +118,12 @@ fn mark_by<O: ObserveProgress>(
     observer: &mut O,
     text: &str,
 ) -> Result<ShowAnswer, AllocError>
-    ensures mark { IfOk result (λ a. given.TellsGiven examinee.entry.program.now examinee.entry.options.now (map component_seen examinee.entry.legend.now.components.items) (words_of text.now) a.verdict) }
-    ensures meaning { (t : Tree) → ∥ IsRead t.program ∥₁ → IsAccepted t → IsProgramOf t examinee.entry.program.now → IfOk result (λ a. given.MeansGiven t examinee.entry.options.now (map component_seen examinee.entry.legend.now.components.items) (words_of text.now) a.verdict) }
-    ensures text { examinee.entry.options.now.ends ≡ false → IfOk result (λ a. given.TellsGivenText (setting_of examinee.entry) (words_of text.now) a.verdict (string_bytes a.text)) }
+    ensures mark { IfOk result (λ a. given.TellsGiven examinee.entry.program.now examinee.entry.options.now (processes_of examinee.entry.legend.now) (words_of text.now) a.verdict) }
+    ensures meaning { (t : Tree) → ∥ IsRead t.program ∥₁ → IsAccepted t → IsProgramOf t examinee.entry.program.now → IfOk result (λ a. given.MeansGiven t examinee.entry.options.now (processes_of examinee.entry.legend.now) (words_of text.now) a.verdict) }
+    ensures text { examinee.entry.options.now.ends ≡ false → IfOk result (λ a. given.TellsGivenText (setting_of examinee.entry) examinee.entry.options.now (with_tables examinee.entry.program.now (processes_of examinee.entry.legend.now)) (words_of text.now) a.verdict (string_bytes a.text)) }
 {
-    if examinee.options.ends {
-        return mark_ends(alloc, examinee, observer, text);
-    }
     match expectations(alloc, text) {
-        Ok(reading) => mark_of(alloc, examinee, observer, &reading),
+        Ok(reading) => mark_asked(alloc, examinee, observer, &reading),
         Err(Misread::Unexpected { wanted, place }) => misread(
             alloc,
             examinee,
@@ -141,23 +133,25 @@ fn mark_by<O: ObserveProgress>(
     }
 }
 
-// The same of schedules of any length.
-fn mark_ends<O: ObserveProgress>(
+/// What is said by expectations as they are read: that one can't be asked, or is of no such program; or their mark.
+pub fn mark_asked<O: ObserveProgress>(
     alloc: Global,
     examinee: Examinee<'_>,
     observer: &mut O,
-    text: &str,
+    reading: &Reading,
 ) -> Result<ShowAnswer, AllocError>
-    ensures mark { IfOk result (λ a. given.TellsSpelled (given.SpellsEnds (map component_seen examinee.entry.legend.now.components.items) (words_of text.now)) ends_plain.expected_of (λ es. given.TellsEnds examinee.entry.program.now examinee.entry.options.now es a.verdict) a.verdict) }
-    ensures meaning { (t : Tree) → ∥ IsRead t.program ∥₁ → IsAccepted t → IsProgramOf t examinee.entry.program.now → IfOk result (λ a. given.TellsSpelled (given.SpellsEnds (map component_seen examinee.entry.legend.now.components.items) (words_of text.now)) ends_plain.expected_of (λ es. given.MeansEnds t examinee.entry.options.now es a.verdict) a.verdict) }
+    ensures mark { IfOk result (λ a. given.TellsAsked examinee.entry.options.now (with_tables examinee.entry.program.now (processes_of examinee.entry.legend.now)) reading.now.expectations.items (λ es. spec.TellsMark examinee.entry.program.now.names es (table (slots examinee.entry.program.now examinee.entry.options.now.discipline) examinee.entry.options.now.choices examinee.entry.options.now.steps) a.verdict) (λ es. given.TellsEnds examinee.entry.program.now (processes_of examinee.entry.legend.now) examinee.entry.options.now es a.verdict) a.verdict) }
+    ensures meaning { (t : Tree) → ∥ IsRead t.program ∥₁ → IsAccepted t → IsProgramOf t examinee.entry.program.now → IfOk result (λ a. given.TellsAsked examinee.entry.options.now (given.names_with t (processes_of examinee.entry.legend.now)) reading.now.expectations.items (λ es. spec.TellsMark (constant_names t.program) es (table (named t (named_discipline examinee.entry.options.now.discipline)) examinee.entry.options.now.choices examinee.entry.options.now.steps) a.verdict) (λ es. given.MeansEnds t (processes_of examinee.entry.legend.now) examinee.entry.options.now es a.verdict) a.verdict) }
+    ensures text { examinee.entry.options.now.ends ≡ false → IfOk result (λ a. given.TellsIf (given.are_asked examinee.entry.options.now (with_tables examinee.entry.program.now (processes_of examinee.entry.legend.now)) reading.now.expectations.items) (TellsText (setting_of examinee.entry) reading.now.expectations.items (option_map (λ w. w.now) reading.now.doubtful) a.verdict (string_bytes a.text)) a.verdict) }
 {
-    match ends_expectations(alloc, examinee.legend, text)? {
-        EndsReading::Expectations(list) => judge_ends(alloc, examinee, observer, &list),
-        EndsReading::Misread { wanted, place } => misread(
-            alloc,
-            examinee,
-            ends_reason(alloc, text, wanted, place)?.as_str(),
-        ),
+    let list = reading.expectations.as_slice();
+    if let Some(said) = refusal(alloc, examinee, list)? {
+        return misread(alloc, examinee, said.as_str());
+    }
+    if examinee.options.ends {
+        judge_ends(alloc, examinee, observer, list)
+    } else {
+        mark_of(alloc, examinee, observer, reading)
     }
 }
 
@@ -166,9 +160,9 @@ fn judge_ends<O: ObserveProgress>(
     alloc: Global,
     examinee: Examinee<'_>,
     observer: &mut O,
-    list: &[EndsExpectation],
+    list: &[Expectation],
 ) -> Result<ShowAnswer, AllocError>
-    ensures { IfOk result (λ a. given.TellsEnds examinee.entry.program.now examinee.entry.options.now list.now a.verdict) }
+    ensures { IfOk result (λ a. given.TellsEnds examinee.entry.program.now (processes_of examinee.entry.legend.now) examinee.entry.options.now list.now a.verdict) }
 {
     let Examinee {
         options,
@@ -219,7 +213,7 @@ fn ends_verdict_of(mark: EndsMark) -> ShowVerdict
 }
 
 /// What the table within the limits of the options says of the expectations.
-pub fn mark_of<O: ObserveProgress>(
+fn mark_of<O: ObserveProgress>(
     alloc: Global,
     examinee: Examinee<'_>,
     observer: &mut O,

@@ -12,7 +12,7 @@ const NOTES: &str =
     "Example: cpx_show trace --schedule 0.1 < program.cp\nVersion: cpx_show --version\n\nStatus: 0 reported, 1 source refused, 2 options refused, 3 no memory, 4 read or write fault,\n5 too many states or outcomes, 6 an expectation fails, 7 one is not settled";
 
 const EXPECTATIONS: &str =
-    "OUTCOME: finished, all-waiting, run-error or run-error NAME; after it, if wanted,\noutput VALUES, where .. stands for any values at any place; or shown VALUE, for a schedule\nthat displays it, whatever it ends in. A constant that is named as an outcome begins is\nwritten in parentheses: shown (finished). Several expectations are joined by and.\nWithout words those in comments of the program are taken: (* expect never all-waiting *)\n\nWith --ends of schedules of any length, without outputs; END may be alone or spins as well, and\nwhat is expected may be never waiting, some waiting, some waiting PROCESS, never shown VALUE\nor some shown VALUE. With too many states kernel calls are made at once, but for waiting.\n\nStatus: 0 holds, 6 fails, 7 not settled; 1 to 5 as cpx";
+    "TOPIC: finished, all-waiting, run-error or run-error NAME; after it, if wanted, output VALUES,\nwhere .. stands for any values at any place; or shown VALUE, for a schedule that displays it,\nwhatever it ends in. Between topics or may stand. A constant that is named as a topic begins is\nwritten in parentheses: shown (finished). Several expectations are joined by and.\nWithout words those in comments of the program are taken: (* expect never all-waiting *)\n\nWith --ends of schedules of any length, without outputs; TOPIC may be alone, spins or waiting as\nwell, each perhaps with a PROCESS: a number, a name, an array or a type of processes. With too\nmany states kernel calls are made at once, but for waiting.\n\nStatus: 0 holds, 6 fails, 7 not settled; 1 to 5 as cpx";
 
 // An option as it is written, with what help says of it.
 #[derive(Clone, Copy)]
@@ -265,7 +265,7 @@ static PARTS: [PartWords; 7] = [
     },
     PartWords {
         name: "mark",
-        about: "Says whether what is expected of all schedules holds: never OUTCOME, some OUTCOME, only OUTCOME..",
+        about: "Says whether what is expected of all schedules holds: never TOPIC, some TOPIC, only TOPIC..",
         usage: "cpx_show mark [OPTIONS] [EXPECTATION..] < PROGRAM",
         options: &[MARKING, LIMITS, &[LAYER_STATES]],
         notes: EXPECTATIONS,

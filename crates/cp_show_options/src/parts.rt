@@ -9,11 +9,11 @@ use crate::faults::{USUAL_STATES, choice_fault, extent_of, page_states};
 use crate::words::{shared_words, texts_of, words_given};
 use clap::ArgMatches;
 use clap::error::ErrorKind;
+use cp_expectation::{Misread, Reading, expectations};
 use cp_lanes::{PictureView, SheetExtent};
 use cp_tool::{
     OptionFault, Options, SourceReading, asks_version, read_options, reason_for, word_reason,
 };
-use cp_verdict::{Misread, Reading, expectations};
 use std::alloc::{AllocError, Global};
 
 /// How the program is given its source.

@@ -1,4 +1,5 @@
-use cp_verdict::{Misread, Reading, expectations, expectations_in, misread_text, push_expectation};
+use cp_expectation::{Misread, Reading, expectations, misread_text, push_expectation};
+use cp_verdict::expectations_in;
 use std::alloc::Global;
 
 /// Whether expectations are these, written again.
@@ -28,7 +29,7 @@ fn is_read_as(alloc: Global, text: &str, again: &str) -> bool {
 }
 
 /// A text, and what is read from it, written again; or why it is refused.
-static READINGS: [(&str, &str); 15] = [
+static READINGS: [(&str, &str); 20] = [
     ("never all-waiting", "never all-waiting;"),
     ("some  run-error range", "some run-error range;"),
     (
@@ -48,6 +49,26 @@ static READINGS: [(&str, &str); 15] = [
         "some shown -32768;never shown 'a' or shown '(:32:)';",
     ),
     (
+        "only finished or all-waiting barber (clerk) ..",
+        "only finished or all-waiting barber clerk ..;",
+    ),
+    (
+        "never waiting (finished) alone 3 spins and some waiting",
+        "never waiting (finished) or alone 3 or spins;some waiting;",
+    ),
+    (
+        "some finished output 1 waiting or waiting guests[2]",
+        "some finished output 1 waiting or waiting guests[2];",
+    ),
+    (
+        "never all-waiting ..",
+        "expected a process, output, and, or, finished, all-waiting, run-error, shown, waiting, alone or spins, found \"..\"\n",
+    ),
+    (
+        "never all-waiting p .. q",
+        "expected output, and, or, finished, all-waiting, run-error, shown, waiting, alone or spins, found \"q\"\n",
+    ),
+    (
         "only finished output finished",
         "expected a value, - or .., found \"finished\"\nfinished begins an outcome; as a value it is written (finished)\n",
     ),
@@ -62,11 +83,11 @@ static READINGS: [(&str, &str); 15] = [
     ),
     (
         "never",
-        "expected finished, all-waiting, run-error or shown, found the end\n",
+        "expected finished, all-waiting, run-error, shown, waiting, alone or spins, found the end\n",
     ),
     (
         "never deadlock",
-        "expected finished, all-waiting, run-error or shown, found \"deadlock\"\n",
+        "expected finished, all-waiting, run-error, shown, waiting, alone or spins, found \"deadlock\"\n",
     ),
     (
         "never finished output",
@@ -74,11 +95,11 @@ static READINGS: [(&str, &str); 15] = [
     ),
     (
         "never finished with",
-        "expected output, and, or, finished, all-waiting, run-error or shown, found \"with\"\n",
+        "expected output, and, or, finished, all-waiting, run-error, shown, waiting, alone or spins, found \"with\"\n",
     ),
     (
         "never finished output - 2",
-        "expected and, or, finished, all-waiting, run-error or shown, found \"2\"\n",
+        "expected and, or, finished, all-waiting, run-error, shown, waiting, alone or spins, found \"2\"\n",
     ),
 ];
 

@@ -16,7 +16,7 @@ use Rattle.cp_text.specs.declared.token.Mark.{Mark}
 use Rattle.cp_verdict.specs.Comments.{blank_for, comment_in, comments_of, trimmed, IsBare, HoldsNone, AreHeld, and_text}
 use Rattle.cp_verdict.specs.Gathering.{Gathered, after, in_code, kept, with_byte, with_bytes, separated, IsGathered}
 use Rattle.cp_verdict.specs.declared.comments.Within.TheVariants.{Code, Character, Comment}
-use Rattle.cp_verdict.proofs.Integers.{parts, both_true}
+use Rattle.cp_expectation.proofs.Integers.{parts, both_true}
 
 -- ---- bytes of code, of a character and of a comment
 

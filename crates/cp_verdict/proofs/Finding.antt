@@ -7,8 +7,8 @@ use Rattle.cp_run.specs.declared.outcome.Outcome.{Outcome}
 use Rattle.cp_walk.specs.Report.{same_outcome, firsts, outcomes_of}
 use Rattle.cp_verdict.specs.Expectations.{is_limit, is_open_by, settles_by}
 use Rattle.cp_verdict.specs.Judged.{line_of, row_line, has_open, first_settling, judgement_of, IsJudgedBy}
-use Rattle.cp_verdict.specs.declared.expectation.Claim.{Claim}
-use Rattle.cp_verdict.specs.declared.expectation.Claim.TheVariants.{Never, Sometimes, Only}
+use Rattle.cp_expectation.specs.declared.expectation.Claim.{Claim}
+use Rattle.cp_expectation.specs.declared.expectation.Claim.TheVariants.{Never, Sometimes, Only}
 use Rattle.cp_verdict.specs.declared.judging.Judgement.{Judgement}
 use Rattle.cp_verdict.specs.declared.seen.SeenRow.{SeenRow}
 use Rattle.cp_verdict.specs.declared.seen.Seen.{Seen}

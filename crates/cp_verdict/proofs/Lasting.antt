@@ -22,13 +22,13 @@ use Rattle.cp_verdict.specs.Lasting.{KeepsOutput, asks_values, is_of_values}
 use Rattle.cp_verdict.specs.Limits.{ended_for_choices}
 use Rattle.cp_verdict.specs.Outputs.{is_printed, value_text}
 use Rattle.cp_verdict.specs.Marked.{HoldsOf}
-use Rattle.cp_verdict.specs.declared.expectation.Claim.{Claim}
-use Rattle.cp_verdict.specs.declared.expectation.Claim.TheVariants.{Never, Sometimes, Only}
-use Rattle.cp_verdict.specs.declared.expectation.KindPattern.{KindPattern}
-use Rattle.cp_verdict.specs.declared.expectation.KindPattern.TheVariants as pattern
-use Rattle.cp_verdict.specs.declared.expectation.OutcomePattern.{OutcomePattern}
-use Rattle.cp_verdict.specs.declared.expectation.OutcomePattern.TheVariants as outcome
-use Rattle.cp_verdict.specs.declared.expectation.Expectation.{Expectation}
+use Rattle.cp_expectation.specs.declared.expectation.Claim.{Claim}
+use Rattle.cp_expectation.specs.declared.expectation.Claim.TheVariants.{Never, Sometimes, Only}
+use Rattle.cp_expectation.specs.declared.expectation.EndPattern.{EndPattern}
+use Rattle.cp_expectation.specs.declared.expectation.EndPattern.TheVariants as end
+use Rattle.cp_expectation.specs.declared.expectation.Topic.{Topic}
+use Rattle.cp_expectation.specs.declared.expectation.Topic.TheVariants as topic
+use Rattle.cp_expectation.specs.declared.expectation.Expectation.{Expectation}
 use Rattle.cp_verdict.specs.declared.judging.Judgement.TheVariants as judgement
 use Rattle.cp_verdict.specs.declared.seen.SeenRow.{SeenRow}
 use Rattle.cp_verdict.proofs.Displayed.{any_on, chosen_keeps, output_at}
@@ -187,30 +187,37 @@ module _ {S : Type 0} (sys : System S) (steps : ℕ) (q : Outcome → Bool) (sta
 
 -- ---- which expectations name rows that a limit stopped
 
-no_kind : (p : KindPattern) (rest : Bool) → (is_of_kind p ChoiceLimit && rest) ≡ false
-no_kind pattern.Finished rest = refl
-no_kind _ rest = refl
+no_kind : (p : EndPattern) (rest : Bool) → (is_of_kind p ChoiceLimit && rest) ≡ false
+no_kind end.Finished rest = refl
+no_kind end.AnyError rest = refl
+no_kind (end.Error name) rest = refl
+no_kind (end.AllWaiting None) rest = refl
+no_kind (end.AllWaiting (Some who)) rest = refl
+no_kind (end.Alone process) rest = refl
+no_kind (end.Spins process) rest = refl
 
-no_limit : (names : Spellings) (ps : List OutcomePattern) → list_any is_of_values ps ≡ false → Skips (is_one_of names ps)
+no_limit : (names : Spellings) (ps : List Topic) → list_any is_of_values ps ≡ false → Skips (is_one_of names ps)
 no_limit names [] none output = refl
-no_limit names (outcome.Shows text ∷ ps) none output = absurd (cc)
-no_limit names (outcome.End kind wanted ∷ ps) none output = ap (λ b. b || is_one_of names ps (record { kind = ChoiceLimit; output = output })) (no_kind kind (has_output names wanted output)) ∙ no_limit names ps none output
+no_limit names (topic.Shown text ∷ ps) none output = absurd (cc)
+no_limit names (topic.Waiting process ∷ ps) none output = no_limit names ps none output
+no_limit names (topic.End kind wanted ∷ ps) none output = ap (λ b. b || is_one_of names ps (record { kind = ChoiceLimit; output = output })) (no_kind kind (has_output names wanted output)) ∙ no_limit names ps none output
 
 skipped : {S : Type 0} (sys : System S) (steps : ℕ) (q : Outcome → Bool) → Skips q → Stays sys steps q
 skipped sys steps q skips s p h kind = absurd (let t : true ≡ false = sym h ∙ skips (sys.output s) in cc)
 
 -- a row that is named at the limit shows a value, and so do those that go on from it
-one_stays : (names : Spellings) (p : OutcomePattern) (output more : List Shown) (kind : OutcomeKind) → fits names (record { kind = ChoiceLimit; output = output }) p ≡ true → fits names (record { kind = kind; output = output ++ more }) p ≡ true
-one_stays names (outcome.Shows text) output more kind h = any_on (λ v. is_printed (string_bytes text) (value_text names v)) output more h
-one_stays names (outcome.End wanted values) output more kind h = absurd (let t : true ≡ false = sym h ∙ no_kind wanted (has_output names values output) in cc)
+one_stays : (names : Spellings) (p : Topic) (output more : List Shown) (kind : OutcomeKind) → fits names (record { kind = ChoiceLimit; output = output }) p ≡ true → fits names (record { kind = kind; output = output ++ more }) p ≡ true
+one_stays names (topic.Shown text) output more kind h = any_on (λ v. is_printed (string_bytes text) (value_text names v)) output more h
+one_stays names (topic.Waiting process) output more kind h = absurd (cc)
+one_stays names (topic.End wanted values) output more kind h = absurd (let t : true ≡ false = sym h ∙ no_kind wanted (has_output names values output) in cc)
 
-named_stays : (names : Spellings) (ps : List OutcomePattern) (output more : List Shown) (kind : OutcomeKind) → is_one_of names ps (record { kind = ChoiceLimit; output = output }) ≡ true → is_one_of names ps (record { kind = kind; output = output ++ more }) ≡ true
+named_stays : (names : Spellings) (ps : List Topic) (output more : List Shown) (kind : OutcomeKind) → is_one_of names ps (record { kind = ChoiceLimit; output = output }) ≡ true → is_one_of names ps (record { kind = kind; output = output ++ more }) ≡ true
 named_stays names [] output more kind h = h
 named_stays names (p ∷ ps) output more kind h =
     either (fits names (record { kind = ChoiceLimit; output = output }) p) (is_one_of names ps (record { kind = ChoiceLimit; output = output })) (fits names (record { kind = kind; output = output ++ more }) p) (is_one_of names ps (record { kind = kind; output = output ++ more }))
     (one_stays names p output more kind) (named_stays names ps output more kind) h
 
-kept : {S : Type 0} (sys : System S) (steps : ℕ) (names : Spellings) (ps : List OutcomePattern) → KeepsOutput sys → Stays sys steps (is_one_of names ps)
+kept : {S : Type 0} (sys : System S) (steps : ℕ) (names : Spellings) (ps : List Topic) → KeepsOutput sys → Stays sys steps (is_one_of names ps)
 kept sys steps names ps keeps s p h kind =
     let on = chosen_keeps sys keeps steps s p in
     subst (λ output. is_one_of names ps (record { kind = kind; output = output }) ≡ true) (sym on.1) (named_stays names ps (sys.output s) on.0 kind h)
@@ -220,11 +227,11 @@ kept sys steps names ps keeps s p h kind =
 abbrev Told : {S : Type 0} → System S → (claim : Claim) → Bool → Type 0
 Told sys claim values = (values ≡ false) ⊎ (KeepsOutput sys × (claim ≢ Sometimes))
 
-stays_by : {S : Type 0} (sys : System S) (steps : ℕ) (names : Spellings) (ps : List OutcomePattern) (claim : Claim) → Told sys claim (list_any is_of_values ps) → Stays sys steps (is_one_of names ps)
+stays_by : {S : Type 0} (sys : System S) (steps : ℕ) (names : Spellings) (ps : List Topic) (claim : Claim) → Told sys claim (list_any is_of_values ps) → Stays sys steps (is_one_of names ps)
 stays_by sys steps names ps claim (inl none) = skipped sys steps (is_one_of names ps) (no_limit names ps none)
 stays_by sys steps names ps claim (inr keeps) = kept sys steps names ps keeps.0
 
-skips_by : {S : Type 0} (sys : System S) (names : Spellings) (ps : List OutcomePattern) → Told sys Sometimes (list_any is_of_values ps) → Skips (is_one_of names ps)
+skips_by : {S : Type 0} (sys : System S) (names : Spellings) (ps : List Topic) → Told sys Sometimes (list_any is_of_values ps) → Skips (is_one_of names ps)
 skips_by sys names ps (inl none) = no_limit names ps none
 skips_by sys names ps (inr keeps) = absurd (keeps.1 refl)
 
@@ -232,13 +239,13 @@ never_by : {S : Type 0} (q : Outcome → Bool) (sys : System S) (choices steps m
 never_by q sys choices steps more h (inl whole) = ap (is_true_by Never q) (complete sys choices steps more (All-from_recursion (λ l. IsOver l.outcome.kind) (table sys choices steps) (all_over q (table sys choices steps) whole))) ∙ h
 never_by q sys choices steps more h (inr same) = absurd (never_apart same)
 
-by_claim : {S : Type 0} (names : Spellings) (ps : List OutcomePattern) (sys : System S) (choices steps more : ℕ) (claim : Claim) → Told sys claim (list_any is_of_values ps) → is_true_by claim (is_one_of names ps) (table sys choices steps) ≡ true → (has_open claim (is_one_of names ps) (table sys choices steps) ≡ false) ⊎ (claim ≡ Sometimes) → is_true_by claim (is_one_of names ps) (table sys (choices + more) steps) ≡ true
+by_claim : {S : Type 0} (names : Spellings) (ps : List Topic) (sys : System S) (choices steps more : ℕ) (claim : Claim) → Told sys claim (list_any is_of_values ps) → is_true_by claim (is_one_of names ps) (table sys choices steps) ≡ true → (has_open claim (is_one_of names ps) (table sys choices steps) ≡ false) ⊎ (claim ≡ Sometimes) → is_true_by claim (is_one_of names ps) (table sys (choices + more) steps) ≡ true
 by_claim names ps sys choices steps more Never told h rest = never_by (is_one_of names ps) sys choices steps more h rest
 by_claim names ps sys choices steps more Sometimes told h rest = some_lasts (is_one_of names ps) sys choices steps more (skips_by sys names ps told) h
 by_claim names ps sys choices steps more Only told h rest = all_lasts sys steps (is_one_of names ps) (stays_by sys steps names ps Only told) choices more h
 
 pub lasts : {S : Type 0} (names : Spellings) (sys : System S) (choices steps more : ℕ) (e : Expectation) → (asks_values e ≡ false) ⊎ (KeepsOutput sys × (e.claim ≢ Sometimes)) → HoldsOf names (table sys choices steps) e → is_true_of names e (table sys (choices + more) steps) ≡ true
-lasts names sys choices steps more e told holds = by_claim names e.outcomes.items sys choices steps more e.claim told holds.0 holds.1
+lasts names sys choices steps more e told holds = by_claim names e.topics.items sys choices steps more e.claim told holds.0 holds.1
 
 -- ---- what a row shows that did not end for want of choices
 
@@ -283,4 +290,4 @@ stays_shown q sys choices steps more Sometimes r k j =
 
 pub stays : {S : Type 0} (names : Spellings) (sys : System S) (choices steps more : ℕ) (e : Expectation) (r : SeenRow) → ended_for_choices r.outcome.kind ≡ false →
     IsJudged names e (table sys choices steps) (judgement.Shown r) → is_true_of names e (table sys (choices + more) steps) ≡ true
-stays names sys choices steps more e r k j = stays_shown (is_one_of names e.outcomes.items) sys choices steps more e.claim r k j
+stays names sys choices steps more e r k j = stays_shown (is_one_of names e.topics.items) sys choices steps more e.claim r k j

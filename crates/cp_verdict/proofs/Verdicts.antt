@@ -5,7 +5,7 @@ use Rattle.cp_walk.specs.Text.{Spellings}
 use Rattle.cp_run.specs.Table.{Line, IsAmong, Here, There}
 use Rattle.cp_verdict.specs.Judged.{row_line, IsJudged}
 use Rattle.cp_verdict.specs.Marked.{HoldsOf, FailsOf, OpenOf, Each, IsMarkOf, AreJudged, is_against, is_unsettled, has_against, has_unsettled, mark_of}
-use Rattle.cp_verdict.specs.declared.expectation.Expectation.{Expectation}
+use Rattle.cp_expectation.specs.declared.expectation.Expectation.{Expectation}
 use Rattle.cp_verdict.specs.declared.judging.Judgement.{Judgement}
 use Rattle.cp_verdict.specs.declared.judging.Judgement.TheVariants as judgement
 use Rattle.cp_verdict.specs.declared.marking.Standing.TheVariants as mark

@@ -1,14 +1,7 @@
--- Texts of expectations and of limits, piece by piece.
-use Rattle.std.proofs.Common.{◌≡◌, ◌∙◌, ◌≤◌, ℕ, List, [], ◌∷◌, ◌++◌, Bool, true, false, ◌||◌, ◌==◌, length, take, codes, if◌then◌else◌, refl, ap}
-use Rattle.std.proofs.lemmas.List.{append_assoc, append-nil, take_all}
-use Rattle.cp_run.specs.Table.{each}
-use Rattle.cp_verdict.specs.Written.{item_text, items_text, named_if, comma_text}
-use Rattle.cp_verdict.specs.declared.expectation.OutputItem.{OutputItem}
-
--- the items so far are all, and there are some
-pub items_whole : (k : ℕ) (items : List OutputItem) (old new : List ℕ) → (length items == 0) ≡ false → length items ≤ k → new ≡ old ++ each (λ j. codes " " ++ item_text j) (take k items) → new ≡ old ++ items_text items
-items_whole k [] old new some le is = absurd (cc)
-items_whole k (i ∷ is) old new some le e = e ∙ ap (λ l. old ++ each (λ j. codes " " ++ item_text j) l) (take_all k (i ∷ is) le)
+-- The text of limits, piece by piece.
+use Rattle.std.proofs.Common.{◌≡◌, ◌∙◌, ℕ, List, [], ◌++◌, Bool, true, false, ◌||◌, codes, if◌then◌else◌, refl, ap}
+use Rattle.std.proofs.lemmas.List.{append_assoc, append-nil}
+use Rattle.cp_verdict.specs.Written.{named_if, comma_text}
 
 -- a limit's name, behind a comma where one was named before
 abbrev pub behind_comma : (begun is_met : Bool) → List ℕ → List ℕ

@@ -9,9 +9,6 @@ pub mod Meant
 pub mod MeantAtOnce
 pub mod MeantMarks
 pub mod Processes
-pub mod Read
-pub mod Spelled
-pub mod Stopping
 pub mod Telling
 pub mod Verdicts
 pub mod Vocabulary

@@ -7,7 +7,7 @@ use Rattle.cp_text.specs.Lexemes.{inside}
 use Rattle.cp_text.specs.Reading.{Part}
 use Rattle.cp_text.specs.declared.piece.Shape.{Shape}
 use Rattle.cp_text.specs.declared.piece.Shape.TheVariants.{Comment}
-use Rattle.cp_verdict.specs.Readable.{IsReadable}
+use Rattle.cp_expectation.specs.Readable.{IsReadable}
 
 -- ---- the comments of a source
 

@@ -1,4 +1,4 @@
--- Which outcomes an expectation names, and when it is true of some rows.
+-- Of which outcomes an expectation speaks, and when it is true of some rows.
 use Rattle.std.specs.Prelude.{ℕ, List, Bool, true, false, not, ◌&&◌, map, Option, None, Some, string_bytes}
 use Rattle.std.specs.List.{list_any, list_all}
 use Rattle.cp_store.specs.declared.error.ErrorName.{ErrorName}
@@ -9,14 +9,14 @@ use Rattle.cp_run.specs.declared.outcome.OutcomeKind.{OutcomeKind}
 use Rattle.cp_run.specs.declared.outcome.OutcomeKind.TheVariants.{Finished, AllWaiting, RunError, ChoiceLimit, StepLimit, OutputLimit}
 use Rattle.cp_run.specs.Table.{Line}
 use Rattle.cp_walk.specs.Text.{Spellings}
-use Rattle.cp_verdict.specs.declared.expectation.Claim.{Claim}
-use Rattle.cp_verdict.specs.declared.expectation.Claim.TheVariants.{Never, Sometimes, Only}
-use Rattle.cp_verdict.specs.declared.expectation.KindPattern.{KindPattern}
-use Rattle.cp_verdict.specs.declared.expectation.KindPattern.TheVariants as pattern
-use Rattle.cp_verdict.specs.declared.expectation.OutputPattern.{OutputPattern}
-use Rattle.cp_verdict.specs.declared.expectation.OutcomePattern.{OutcomePattern}
-use Rattle.cp_verdict.specs.declared.expectation.OutcomePattern.TheVariants as outcome
-use Rattle.cp_verdict.specs.declared.expectation.Expectation.{Expectation}
+use Rattle.cp_expectation.specs.declared.expectation.Claim.{Claim}
+use Rattle.cp_expectation.specs.declared.expectation.Claim.TheVariants.{Never, Sometimes, Only}
+use Rattle.cp_expectation.specs.declared.expectation.EndPattern.{EndPattern}
+use Rattle.cp_expectation.specs.declared.expectation.EndPattern.TheVariants as end
+use Rattle.cp_expectation.specs.declared.expectation.OutputPattern.{OutputPattern}
+use Rattle.cp_expectation.specs.declared.expectation.Topic.{Topic}
+use Rattle.cp_expectation.specs.declared.expectation.Topic.TheVariants as topic
+use Rattle.cp_expectation.specs.declared.expectation.Expectation.{Expectation}
 use Rattle.cp_verdict.specs.Outputs.{value_text, is_printed, reads_as}
 
 abbrev pub is_same_error : ErrorName → ErrorName → Bool
@@ -31,11 +31,12 @@ is_same_error Assertion Assertion = true
 is_same_error Invariant Invariant = true
 is_same_error wanted name = false
 
-abbrev pub is_of_kind : KindPattern → OutcomeKind → Bool
-is_of_kind pattern.Finished Finished = true
-is_of_kind pattern.AllWaiting AllWaiting = true
-is_of_kind pattern.AnyError (RunError name process line) = true
-is_of_kind (pattern.Error wanted) (RunError name process line) = is_same_error wanted name
+-- such an end; who waits is not asked
+abbrev pub is_of_kind : EndPattern → OutcomeKind → Bool
+is_of_kind end.Finished Finished = true
+is_of_kind (end.AllWaiting None) AllWaiting = true
+is_of_kind end.AnyError (RunError name process line) = true
+is_of_kind (end.Error wanted) (RunError name process line) = is_same_error wanted name
 is_of_kind p kind = false
 
 -- a run that was stopped by a limit
@@ -53,12 +54,14 @@ has_output names (Some p) values = reads_as p.items.items (map (value_text names
 abbrev pub shows : Spellings → List ℕ → List Shown → Bool
 shows names text values = list_any (λ v. is_printed text (value_text names v)) values
 
-abbrev pub fits : Spellings → Outcome → OutcomePattern → Bool
-fits names o (outcome.End kind output) = is_of_kind kind o.kind && has_output names output o.output
-fits names o (outcome.Shows text) = shows names (string_bytes text) o.output
+-- a topic speaks of this outcome; waiting for ever is no outcome of a table
+abbrev pub fits : Spellings → Outcome → Topic → Bool
+fits names o (topic.End end output) = is_of_kind end o.kind && has_output names output o.output
+fits names o (topic.Shown text) = shows names (string_bytes text) o.output
+fits names o (topic.Waiting process) = false
 
-abbrev pub is_one_of : Spellings → List OutcomePattern → Outcome → Bool
-is_one_of names ps o = list_any (fits names o) ps
+abbrev pub is_one_of : Spellings → List Topic → Outcome → Bool
+is_one_of names ts o = list_any (fits names o) ts
 
 -- whether an expectation of the named outcomes is true of some rows
 abbrev pub is_true_by : Claim → (Outcome → Bool) → List Line → Bool
@@ -67,7 +70,7 @@ is_true_by Sometimes named lines = list_any (λ l. named l.outcome) lines
 is_true_by Only named lines = list_all (λ l. named l.outcome) lines
 
 abbrev pub is_true_of : Spellings → Expectation → List Line → Bool
-is_true_of names e lines = is_true_by e.claim (is_one_of names e.outcomes.items) lines
+is_true_of names e lines = is_true_by e.claim (is_one_of names e.topics.items) lines
 
 -- whether one row with this outcome settles it: against `never` and `only`, for `some`
 abbrev pub settles_by : Claim → (Outcome → Bool) → Outcome → Bool
@@ -76,7 +79,7 @@ settles_by Sometimes named o = named o
 settles_by Only named o = not (named o) && not (is_limit o.kind)
 
 abbrev pub settles : Spellings → Expectation → Outcome → Bool
-settles names e o = settles_by e.claim (is_one_of names e.outcomes.items) o
+settles names e o = settles_by e.claim (is_one_of names e.topics.items) o
 
 -- a run that a limit stopped, of which what it would come to might settle the expectation
 abbrev pub is_open_by : Claim → (Outcome → Bool) → Outcome → Bool
@@ -85,4 +88,4 @@ is_open_by Sometimes named o = is_limit o.kind
 is_open_by Only named o = is_limit o.kind && not (named o)
 
 abbrev pub is_open : Spellings → Expectation → Outcome → Bool
-is_open names e o = is_open_by e.claim (is_one_of names e.outcomes.items) o
+is_open names e o = is_open_by e.claim (is_one_of names e.topics.items) o

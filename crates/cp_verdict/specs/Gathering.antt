@@ -1,7 +1,7 @@
 -- How comments are gathered byte by byte.
 use Rattle.std.specs.Prelude.{◌≡◌, ◌⊎◌, ◌==◌, ℕ, List, [], ◌∷◌, ◌++◌, codes, length, map, if◌then◌else◌}
 use Rattle.cp_verdict.specs.Comments.{blank_for, Holds, HoldsNone}
-use Rattle.cp_verdict.specs.Readable.{IsReadable}
+use Rattle.cp_expectation.specs.Readable.{IsReadable}
 use Rattle.cp_verdict.specs.declared.comments.CommentReader.{CommentReader}
 use Rattle.cp_verdict.specs.declared.comments.Within.{Within}
 use Rattle.cp_verdict.specs.declared.comments.Within.TheVariants.{Code, Character, Comment}

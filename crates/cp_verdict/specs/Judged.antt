@@ -5,9 +5,9 @@ use Rattle.cp_walk.specs.Text.{Spellings}
 use Rattle.cp_run.specs.declared.outcome.Outcome.{Outcome}
 use Rattle.cp_run.specs.Table.{Line}
 use Rattle.cp_verdict.specs.Expectations.{is_one_of, is_open_by, is_true_by, settles_by}
-use Rattle.cp_verdict.specs.declared.expectation.Claim.{Claim}
-use Rattle.cp_verdict.specs.declared.expectation.Claim.TheVariants.{Never, Sometimes, Only}
-use Rattle.cp_verdict.specs.declared.expectation.Expectation.{Expectation}
+use Rattle.cp_expectation.specs.declared.expectation.Claim.{Claim}
+use Rattle.cp_expectation.specs.declared.expectation.Claim.TheVariants.{Never, Sometimes, Only}
+use Rattle.cp_expectation.specs.declared.expectation.Expectation.{Expectation}
 use Rattle.cp_verdict.specs.declared.judging.Judgement.{Judgement}
 use Rattle.cp_verdict.specs.declared.judging.Judgement.TheVariants.{Holds, Shown, Against, Missing, Unsettled}
 use Rattle.cp_verdict.specs.declared.seen.SeenRow.{SeenRow}
@@ -35,7 +35,7 @@ IsJudgedBy claim named lines Missing = (claim ≡ Sometimes) × (is_true_by clai
 IsJudgedBy claim named lines Unsettled = (first_settling claim named lines ≡ None) × (has_open claim named lines ≡ true)
 
 abbrev pub IsJudged : Spellings → Expectation → List Line → Judgement → Type 0
-IsJudged names e lines j = IsJudgedBy e.claim (is_one_of names e.outcomes.items) lines j
+IsJudged names e lines j = IsJudgedBy e.claim (is_one_of names e.topics.items) lines j
 
 -- the judgement from the first row that settles an expectation, and whether some other might
 abbrev pub judgement_of : Claim → Option SeenRow → Bool → Judgement

@@ -9,10 +9,10 @@ use Rattle.cp_verdict.specs.Expectations.{is_true_of}
 use Rattle.cp_verdict.specs.Judged.{IsJudged}
 use Rattle.cp_verdict.specs.Limits.{ended_for_choices}
 use Rattle.cp_verdict.specs.Marked.{HoldsOf}
-use Rattle.cp_verdict.specs.declared.expectation.Claim.TheVariants.{Sometimes}
-use Rattle.cp_verdict.specs.declared.expectation.Expectation.{Expectation}
-use Rattle.cp_verdict.specs.declared.expectation.OutcomePattern.{OutcomePattern}
-use Rattle.cp_verdict.specs.declared.expectation.OutcomePattern.TheVariants.{End, Shows}
+use Rattle.cp_expectation.specs.declared.expectation.Claim.TheVariants.{Sometimes}
+use Rattle.cp_expectation.specs.declared.expectation.Expectation.{Expectation}
+use Rattle.cp_expectation.specs.declared.expectation.Topic.{Topic}
+use Rattle.cp_expectation.specs.declared.expectation.Topic.TheVariants as topic
 use Rattle.cp_verdict.specs.declared.judging.Judgement.TheVariants.{Shown as ShownBy}
 use Rattle.cp_verdict.specs.declared.seen.SeenRow.{SeenRow}
 
@@ -25,13 +25,13 @@ pub record KeepsOutput {S : Type 0} (sys : System S) : Type 0 where
   pub step : (s : S) (p : ℕ) → GoesOn (sys.output s) (sys.output (sys.step s p))
   pub admit : (s : S) (p : ℕ) → GoesOn (sys.output s) (sys.output (sys.admit s p))
 
-abbrev pub is_of_values : OutcomePattern → Bool
-is_of_values (End kind output) = false
-is_of_values (Shows text) = true
+abbrev pub is_of_values : Topic → Bool
+is_of_values (topic.Shown text) = true
+is_of_values t = false
 
 -- whether an expectation speaks of values that are displayed, whatever a schedule ends in
 abbrev pub asks_values : Expectation → Bool
-asks_values e = list_any is_of_values e.outcomes.items
+asks_values e = list_any is_of_values e.topics.items
 
 -- An expectation that holds is true of every table of more choices. One that asks for a value, by `some`, stands apart: that a schedule which a limit stopped goes on is said of no machine here.
 abbrev pub HoldsLaw : {S : Type 0} → System S → Type 0

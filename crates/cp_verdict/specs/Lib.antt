@@ -7,14 +7,6 @@ pub mod Limits
 pub mod Marked
 pub mod Marks
 pub mod Meant
-pub mod Misread
 pub mod Outputs
-pub mod Plain
-pub mod Readable
-pub mod Reader
-pub mod Spelling
-pub mod Steps
-pub mod Values
-pub mod Words
 pub mod Written
 pub mod endless

@@ -6,8 +6,8 @@ use Rattle.cp_run.specs.Table.{Line, IsAmong}
 use Rattle.cp_verdict.specs.Expectations.{is_one_of, is_true_of}
 use Rattle.cp_verdict.specs.Judged.{has_open, first_settling, IsJudged}
 use Rattle.cp_verdict.specs.Limits.{AreStopsOf}
-use Rattle.cp_verdict.specs.declared.expectation.Claim.TheVariants.{Sometimes}
-use Rattle.cp_verdict.specs.declared.expectation.Expectation.{Expectation}
+use Rattle.cp_expectation.specs.declared.expectation.Claim.TheVariants.{Sometimes}
+use Rattle.cp_expectation.specs.declared.expectation.Expectation.{Expectation}
 use Rattle.cp_verdict.specs.declared.judging.Judgement.{Judgement}
 use Rattle.cp_verdict.specs.declared.judging.Judgement.TheVariants as judgement
 use Rattle.cp_verdict.specs.declared.marking.Standing.{Standing}
@@ -16,11 +16,11 @@ use Rattle.cp_verdict.specs.declared.program.Marked.{Marked}
 
 -- the first row that settles an expectation of a program with these tables
 abbrev pub settling : Spellings → Expectation → List Line → Option Line
-settling names e lines = first_settling e.claim (is_one_of names e.outcomes.items) lines
+settling names e lines = first_settling e.claim (is_one_of names e.topics.items) lines
 
 -- some run was stopped by a limit, and what it would come to might settle the expectation
 abbrev pub is_left_open : Spellings → Expectation → List Line → Bool
-is_left_open names e lines = has_open e.claim (is_one_of names e.outcomes.items) lines
+is_left_open names e lines = has_open e.claim (is_one_of names e.topics.items) lines
 
 -- It is true of the rows, and no run that a limit stopped could change that; or a row shows what was to be shown.
 abbrev pub HoldsOf : Spellings → List Line → Expectation → Type 0

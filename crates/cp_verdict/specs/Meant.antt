@@ -9,7 +9,7 @@ use Rattle.cp_machine.specs.declared.discipline.Discipline.{Discipline}
 use Rattle.cp_run.specs.Table.{table}
 use Rattle.cp_machine_laws.specs.Named.{named, named_discipline}
 use Rattle.cp_verdict.specs.Marked.{IsMarked}
-use Rattle.cp_verdict.specs.declared.expectation.Expectation.{Expectation}
+use Rattle.cp_expectation.specs.declared.expectation.Expectation.{Expectation}
 use Rattle.cp_verdict.specs.declared.program.Marked.{Marked}
 
 -- of whatever program was read, is accepted, and has these tables: each expectation is judged and marked by the table of its meaning

@@ -3,8 +3,8 @@ use Rattle.std.specs.Prelude.{ℕ, List, [], ◌∷◌, Bool, true, false, ◌&&
 use lib.Pointwise.{pointwise}
 use Rattle.cp_machine.specs.declared.shown.Shown.{Shown}
 use Rattle.cp_walk.specs.Text.{Spellings, output_text}
-use Rattle.cp_verdict.specs.declared.expectation.OutputItem.{OutputItem}
-use Rattle.cp_verdict.specs.declared.expectation.OutputItem.TheVariants.{Value, Rest}
+use Rattle.cp_expectation.specs.declared.expectation.OutputItem.{OutputItem}
+use Rattle.cp_expectation.specs.declared.expectation.OutputItem.TheVariants.{Value, Rest}
 
 -- a value as a report prints it
 abbrev pub value_text : Spellings → Shown → List ℕ

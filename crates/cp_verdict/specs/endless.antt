@@ -4,7 +4,4 @@ pub mod Expectations
 pub mod Judged
 pub mod Knowledge
 pub mod Marked
-pub mod Plain
-pub mod Reading
-pub mod Spelling
-pub mod Steps
+pub mod Naming

@@ -6,7 +6,7 @@ ghost use Rattle.cp_text.specs.Reading.{AreCut, Part, joined as joined_parts};
 ghost use Rattle.cp_verdict.specs.Comments as spec;
 ghost use Rattle.cp_verdict.specs.Gathering as gathering;
 
-use crate::readable::push_readable;
+use cp_expectation::readable::push_readable;
 use std::alloc::{AllocError, Global};
 
 /// How the comment of an expectation begins, after blanks and before one.

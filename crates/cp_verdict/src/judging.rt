@@ -6,9 +6,9 @@ ghost use Rattle.cp_walk.specs.Report.{outcomes_of};
 ghost use Rattle.cp_verdict.specs.Expectations.{is_one_of};
 ghost use Rattle.cp_verdict.specs.Judged as spec;
 
-use crate::expectation::{Claim, Expectation};
 use crate::matching::{is_open, settles};
 use crate::seen::{Seen, SeenRow};
+use cp_expectation::{Claim, Expectation};
 use cp_slots::Resolved;
 use std::alloc::{AllocError, Global};
 
@@ -34,7 +34,7 @@ fn first_settling(
     expectation: &Expectation,
     seen: &[Seen],
 ) -> Result<Option<SeenRow>, AllocError>
-    ensures { IfOk result (λ found. option_map spec.row_line found ≡ spec.first_settling expectation.now.claim (is_one_of program.now.names expectation.now.outcomes.items) (map spec.line_of seen.now)) }
+    ensures { IfOk result (λ found. option_map spec.row_line found ≡ spec.first_settling expectation.now.claim (is_one_of program.now.names expectation.now.topics.items) (map spec.line_of seen.now)) }
 {
     for one in seen {
         if settles(alloc, program, expectation, one.outcome)? {
@@ -52,7 +52,7 @@ fn has_open(
     expectation: &Expectation,
     seen: &[Seen],
 ) -> Result<bool, AllocError>
-    ensures { IfOk result (λ b. b ≡ spec.has_open expectation.now.claim (is_one_of program.now.names expectation.now.outcomes.items) (map spec.line_of seen.now)) }
+    ensures { IfOk result (λ b. b ≡ spec.has_open expectation.now.claim (is_one_of program.now.names expectation.now.topics.items) (map spec.line_of seen.now)) }
 {
     for one in seen {
         if is_open(alloc, program, expectation, one.outcome)? {

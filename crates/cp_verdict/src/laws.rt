@@ -1,6 +1,5 @@
 //! Laws over the definitions alone.
 
-ghost use Rattle.std.specs.Prelude.{◌≡◌, List};
 ghost use Rattle.cp_machine.specs.System.{Machine};
 ghost use Rattle.cp_machine.specs.declared.discipline.Discipline.{Discipline};
 ghost use Rattle.cp_meaning.specs.State.{State};
@@ -8,8 +7,6 @@ ghost use Rattle.cp_run.specs.Slots.{slots};
 ghost use Rattle.cp_run.specs.System.{System};
 ghost use Rattle.cp_slots.specs.Tables.{Tables};
 ghost use Rattle.cp_verdict.specs.Lasting.{HoldsLaw, KeepsOutput, StaysLaw};
-ghost use Rattle.cp_verdict.specs.Plain.{Expected};
-ghost use Rattle.cp_verdict.specs.Spelling.{Spells, Words};
 
 /// An expectation that holds is true of every table of more choices.
 pub fn law_holds()
@@ -26,9 +23,4 @@ pub fn law_stays()
 /// What the slot machine displayed is never taken back.
 pub fn law_output()
     ensures { (r : Tables) (discipline : Discipline) → KeepsOutput (slots r discipline) }
-{}
-
-/// Words spell at most one list of expectations.
-pub fn law_spelling()
-    ensures { (ws : Words) (es fs : List Expected) → Spells ws es → Spells ws fs → es ≡ fs }
 {}

@@ -3,27 +3,18 @@
 
 pub mod comments;
 pub mod endless;
-pub mod expectation;
 pub mod judging;
 pub mod laws;
 pub mod marking;
 pub mod matching;
 pub mod output;
 pub mod program;
-pub mod readable;
-mod reader;
-pub mod reading;
 pub mod seen;
-pub mod value;
-pub mod vocabulary;
-pub mod words;
+pub mod stops;
 
 pub use comments::expectations_in;
-pub use expectation::{Claim, Expectation, KindPattern, OutcomePattern, OutputItem, OutputPattern};
 pub use judging::{Judgement, judge};
-pub use laws::{law_holds, law_output, law_spelling, law_stays};
+pub use laws::{law_holds, law_output, law_stays};
 pub use marking::{Standing, judge_each, mark_of};
 pub use program::{MarkFault, Marked, Stops, mark_program, mark_tallies};
-pub use reading::{Misread, Reading, WantedWord, expectations};
 pub use seen::{Seen, SeenRow};
-pub use words::{misread_text, push_doubt, push_expectation};

@@ -6,9 +6,9 @@ ghost use Rattle.cp_walk.specs.Report.{outcomes_of};
 ghost use Rattle.cp_verdict.specs.Judged.{line_of};
 ghost use Rattle.cp_verdict.specs.Marked as spec;
 
-use crate::expectation::Expectation;
 use crate::judging::{Judgement, judge};
 use crate::seen::Seen;
+use cp_expectation::Expectation;
 use cp_slots::Resolved;
 use std::alloc::{AllocError, Global};
 

@@ -4,8 +4,8 @@ ghost use Rattle.std.specs.Prelude.{◌≡◌, IfOk, map, string_bytes};
 ghost use Rattle.cp_verdict.specs.Expectations as spec;
 ghost use Rattle.cp_verdict.specs.Outputs as outputs;
 
-use crate::expectation::{Claim, Expectation, KindPattern, OutcomePattern, OutputPattern};
 use crate::output::reads_as;
+use cp_expectation::{Claim, EndPattern, Expectation, OutputPattern, Topic};
 use cp_machine::{ErrorName, Shown};
 use cp_run::{Outcome, OutcomeKind};
 use cp_slots::Resolved;
@@ -18,16 +18,16 @@ fn is_same_error(wanted: ErrorName, name: ErrorName) -> bool
     wanted == name
 }
 
-/// Whether an outcome is of this kind.
-pub fn is_of_kind(pattern: KindPattern, kind: OutcomeKind) -> bool
-    ensures { result ≡ spec.is_of_kind pattern kind }
+/// Whether a kind of outcomes is such an end. Who waits is not asked.
+pub fn is_of_kind(pattern: &EndPattern, kind: OutcomeKind) -> bool
+    ensures { result ≡ spec.is_of_kind pattern.now kind }
 {
     match (pattern, kind) {
-        (KindPattern::Finished, OutcomeKind::Finished) => true,
-        (KindPattern::AllWaiting, OutcomeKind::AllWaiting) => true,
-        (KindPattern::AnyError, OutcomeKind::RunError { .. }) => true,
-        (KindPattern::Error(wanted), OutcomeKind::RunError { name, .. }) => {
-            is_same_error(wanted, name)
+        (EndPattern::Finished, OutcomeKind::Finished) => true,
+        (EndPattern::AllWaiting(None), OutcomeKind::AllWaiting) => true,
+        (EndPattern::AnyError, OutcomeKind::RunError { .. }) => true,
+        (EndPattern::Error(wanted), OutcomeKind::RunError { name, .. }) => {
+            is_same_error(*wanted, name)
         }
         _ => false,
     }
@@ -96,17 +96,18 @@ fn shows(
     Ok(false)
 }
 
+// Whether a topic speaks of an outcome. Waiting for ever is of no schedule within limits.
 fn fits(
     alloc: Global,
     program: &Resolved,
-    pattern: &OutcomePattern,
+    topic: &Topic,
     outcome: &Outcome,
 ) -> Result<bool, AllocError>
-    ensures { IfOk result (λ b. b ≡ spec.fits program.now.names outcome.now pattern.now) }
+    ensures { IfOk result (λ b. b ≡ spec.fits program.now.names outcome.now topic.now) }
 {
-    match pattern {
-        OutcomePattern::End { kind, output } => {
-            if !is_of_kind(*kind, outcome.kind) {
+    match topic {
+        Topic::End { end, output } => {
+            if !is_of_kind(end, outcome.kind) {
                 return Ok(false);
             }
             match output {
@@ -114,23 +115,22 @@ fn fits(
                 None => Ok(true),
             }
         }
-        OutcomePattern::Shows(text) => {
-            shows(alloc, program, text.as_str(), outcome.output.as_slice())
-        }
+        Topic::Shown(text) => shows(alloc, program, text.as_str(), outcome.output.as_slice()),
+        Topic::Waiting(_) => Ok(false),
     }
 }
 
-/// Whether an outcome fits one of the patterns.
+/// Whether one of the topics speaks of an outcome.
 fn is_one_of(
     alloc: Global,
     program: &Resolved,
-    patterns: &[OutcomePattern],
+    topics: &[Topic],
     outcome: &Outcome,
 ) -> Result<bool, AllocError>
-    ensures { IfOk result (λ b. b ≡ spec.is_one_of program.now.names patterns.now outcome.now) }
+    ensures { IfOk result (λ b. b ≡ spec.is_one_of program.now.names topics.now outcome.now) }
 {
-    for pattern in patterns {
-        if fits(alloc, program, pattern, outcome)? {
+    for topic in topics {
+        if fits(alloc, program, topic, outcome)? {
             return Ok(true);
         }
     }
@@ -146,7 +146,7 @@ pub fn settles(
 ) -> Result<bool, AllocError>
     ensures { IfOk result (λ b. b ≡ spec.settles program.now.names expectation.now outcome.now) }
 {
-    let is_named = is_one_of(alloc, program, expectation.outcomes.as_slice(), outcome)?;
+    let is_named = is_one_of(alloc, program, expectation.topics.as_slice(), outcome)?;
     match expectation.claim {
         Claim::Only => Ok(!is_named && !is_limit(outcome.kind)),
         _ => Ok(is_named),
@@ -167,7 +167,7 @@ pub fn is_open(
     }
     match expectation.claim {
         Claim::Only => {
-            let is_named = is_one_of(alloc, program, expectation.outcomes.as_slice(), outcome)?;
+            let is_named = is_one_of(alloc, program, expectation.topics.as_slice(), outcome)?;
             Ok(!is_named)
         }
         _ => Ok(true),

@@ -4,7 +4,7 @@ ghost use Rattle.std.specs.Prelude.{◌≡◌, ◌++◌, ℕ, IfOk, List, Bool, 
 ghost use Rattle.cp_verdict.specs.Marks as marks;
 ghost use Rattle.cp_verdict.specs.Outputs as spec;
 
-use crate::expectation::OutputItem;
+use cp_expectation::OutputItem;
 use std::alloc::{AllocError, Global};
 
 /// Whether printed values are such an output: each is the value at its place, and `..` stands for any.

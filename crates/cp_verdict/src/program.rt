@@ -11,10 +11,10 @@ ghost use Rattle.cp_verdict.specs.Limits.{AreStopsOf, ended_for_choices, ended_f
 ghost use Rattle.cp_verdict.specs.Marked as spec;
 ghost use Rattle.cp_verdict.specs.Meant.{IsMeantMark};
 
-use crate::expectation::Expectation;
 use crate::judging::Judgement;
 use crate::marking::{Standing, judge_each, mark_of};
 use crate::seen::Seen;
+use cp_expectation::Expectation;
 use cp_merged::{MergeFault, Tallies, Tally, explore_merged_with};
 use cp_progress::ObserveProgress;
 use cp_run::OutcomeKind;

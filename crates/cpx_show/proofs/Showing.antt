@@ -5,7 +5,7 @@ use Rattle.cp_tree.specs.Syntax.{Tree}
 use Rattle.cp_slots.specs.Tables.{Tables}
 use Rattle.cp_legend.specs.declared.legend.Legend as code_legend
 use Rattle.cp_tool.specs.declared.options.Options.{Options}
-use Rattle.cp_verdict.specs.declared.reading.Reading.{Reading}
+use Rattle.cp_expectation.specs.declared.reading.Reading.{Reading}
 use Rattle.cp_show_mark.specs.declared.answer.ShowAnswer.{ShowAnswer}
 use Rattle.cp_show_options.specs.declared.parts.Asked.{Asked}
 use Rattle.cp_show_options.specs.declared.parts.ShowPart.{ShowPart}

@@ -8,7 +8,7 @@ use Rattle.cp_layout.specs.Symbols.{AreSymbolsOf}
 use Rattle.cp_resolved.specs.Enumerations.{constant_names}
 use Rattle.cp_resolved.specs.Resolving.{IsProgramOf}
 use Rattle.cp_legend.specs.declared.legend.Legend as code_legend
-use Rattle.cp_legend.specs.Names.{IsLegendOf, component_seen, legend_seen, source_seen}
+use Rattle.cp_legend.specs.Names.{IsLegendOf, legend_seen, source_seen}
 use Rattle.cp_legend_laws.specs.Statements.{ComponentsAreNamed}
 use Rattle.cp_run.specs.Code.{answer_of}
 use Rattle.cp_run.specs.Run.{run}
@@ -26,9 +26,11 @@ use Rattle.cp_story_laws.specs.Waits.{who_waits_on_names}
 use Rattle.cp_outcomes.specs.Meant.{IsFoundIn}
 use Rattle.cp_outcomes.specs.declared.subject.Format.{Format}
 use Rattle.cp_refusal.specs.Text.{BeginsWith}
-use Rattle.cp_verdict.specs.Words.{words_of}
-use Rattle.cp_verdict.specs.declared.reading.Reading.{Reading}
-use Rattle.cp_show_mark.specs.Given.{IsGiven, MeansGiven, TellsGivenText}
+use Rattle.cp_expectation.specs.Words.{words_of}
+use Rattle.cp_expectation.specs.declared.reading.Reading.{Reading}
+use Rattle.cp_verdict.specs.endless.Marked.{with_tables}
+use Rattle.cp_verdict.specs.endless.Naming.{processes_of}
+use Rattle.cp_show_mark.specs.Given.{IsGiven, MeansEnds, MeansGiven, TellsAsked, TellsGivenText, TellsIf, are_asked, names_with}
 use Rattle.cp_show_mark.specs.MarkText.{Setting}
 use Rattle.cp_show_mark.specs.Showing.{TellsMark}
 use Rattle.cp_show_mark.specs.Told.{TellsText}
@@ -84,13 +86,13 @@ setting_of json o r l source = record { legend = legend_seen l; program = r; dis
 
 -- the mark of what is read to be expected, by the table of the meaning; and the text or the object that tells it
 pub record IsMarkOf (json : Bool) (o : Options) (t : Tree) (r : Tables) (l : code_legend.Legend) (source : List (List ℕ)) (reading : Reading) (verdict : ShowVerdict) (text : List ℕ) : Type 0 where
-  pub told : TellsMark (constant_names t.program) reading.expectations.items (table (named t (named_discipline o.discipline)) o.choices o.steps) verdict
-  pub written : TellsText (setting_of json o r l source) reading.expectations.items (option_map (λ w. w.now) reading.doubtful) verdict text
+  pub told : TellsAsked o (names_with t (processes_of l)) reading.expectations.items (λ es. TellsMark (constant_names t.program) es (table (named t (named_discipline o.discipline)) o.choices o.steps) verdict) (λ es. MeansEnds t (processes_of l) o es verdict) verdict
+  pub written : o.ends ≡ false → TellsIf (are_asked o (with_tables r (processes_of l)) reading.expectations.items) (TellsText (setting_of json o r l source) reading.expectations.items (option_map (λ w. w.now) reading.doubtful) verdict text) verdict
 
 -- the mark of the expectations that the words or the comments of the source give, by the meaning; and what tells it of schedules within the limits
 abbrev pub IsGivenMark : (json : Bool) → Options → Tree → Tables → code_legend.Legend → (words : List ℕ) → (with_own : Bool) → (bytes : List ℕ) → (source : List (List ℕ)) → ShowVerdict → List ℕ → Type 0
 IsGivenMark json o t r l words with_own bytes source verdict text =
-    ((given : List ℕ) × IsGiven words with_own bytes given × MeansGiven t o (map component_seen l.components.items) (words_of given) verdict) × (o.ends ≡ false → (given : List ℕ) × IsGiven words with_own bytes given × TellsGivenText (setting_of json o r l source) (words_of given) verdict text)
+    ((given : List ℕ) × IsGiven words with_own bytes given × MeansGiven t o (processes_of l) (words_of given) verdict) × (o.ends ≡ false → (given : List ℕ) × IsGiven words with_own bytes given × TellsGivenText (setting_of json o r l source) o (with_tables r (processes_of l)) (words_of given) verdict text)
 
 -- ---- the parts
 

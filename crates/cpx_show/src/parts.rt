@@ -16,14 +16,14 @@ use crate::covering::with_coverage;
 use crate::refusals::explanation_text;
 use crate::schedules::{ScheduleForm, one_schedule, trace_form};
 use crate::summaries::{ends_answer, outcomes_answer, page_answer};
+use cp_expectation::Reading;
 use cp_front::Loaded;
 use cp_legend::Legend;
 use cp_machine::Signals;
 use cp_progress::ObserveProgress;
-use cp_show_mark::{Examinee, ShowAnswer, ShowVerdict, mark_answer, mark_of};
+use cp_show_mark::{Examinee, ShowAnswer, ShowVerdict, mark_answer, mark_asked};
 use cp_show_options::{Asked, ShowPart};
 use cp_tool::Options;
-use cp_verdict::Reading;
 use std::alloc::{AllocError, Global};
 
 /// The part that is asked for.
@@ -144,7 +144,7 @@ fn show_mark<O: ObserveProgress>(
     ensures { (t : Tree) → ∥ IsRead t.program ∥₁ → IsAccepted t → IsProgramOf t examinee.entry.program.now → IfOk result (λ a. MatchOption reading.now (IsGivenMark examinee.entry.as_json examinee.entry.options.now t examinee.entry.program.now examinee.entry.legend.now words.now own source.now (map string_bytes examinee.entry.lines.now) a.verdict (string_bytes a.text)) (λ x. IsMarkOf examinee.entry.as_json examinee.entry.options.now t examinee.entry.program.now examinee.entry.legend.now (map string_bytes examinee.entry.lines.now) x a.verdict (string_bytes a.text))) }
 {
     match reading {
-        Some(reading) => mark_of(alloc, examinee, observer, reading),
+        Some(reading) => mark_asked(alloc, examinee, observer, reading),
         None => mark_answer(alloc, examinee, observer, words, own, source),
     }
 }

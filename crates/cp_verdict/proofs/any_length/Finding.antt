@@ -1,8 +1,7 @@
 -- What is found first in a list, as the code finds it.
-use Rattle.std.proofs.Common.{◌≡◌, ◌∙◌, ℕ, zero, suc, ◌<◌, Bool, true, false, nat_eq, List, [], ◌∷◌, map, cond, refl, sym, ap, subst, arith}
-use Rattle.std.specs.Prelude.{find, Option, None, Some, option_map, slice_get, string_bytes, ◌&&◌}
-use Rattle.cp_verdict.proofs.any_length.Vocabulary.{list_all, Bor, pointwise, Finding, HasTexts, KnownValue}
-use Rattle.cp_walk.specs.Text.{Spellings, output_text}
+use Rattle.std.proofs.Common.{◌≡◌, ◌∙◌, ℕ, zero, suc, ◌<◌, Bool, true, false, List, [], ◌∷◌, map, cond, refl, sym, ap, subst, arith}
+use Rattle.std.specs.Prelude.{find, Option, None, Some, option_map, slice_get, ◌&&◌}
+use Rattle.cp_verdict.proofs.any_length.Vocabulary.{list_all, Bor}
 
 find_map : {A B : Type 0} (f : A → B) (t : B → Bool) (xs : List A) → find t (map f xs) ≡ option_map f (find (λ x. t (f x)) xs)
 find_map f t [] = refl
@@ -17,9 +16,8 @@ map_twice f g None = refl
 map_twice f g (Some x) = refl
 
 -- what the code finds among borrowed things, told as findings
-pub told : {A W : Type 0} (to : W → Finding) (f : A → Finding) (t : Finding → Bool) (xs : List A) (found : Option (Bor A)) (result : Option W) →
-    option_map (λ e. e.now) found ≡ find (λ x. t (f x)) xs → option_map to result ≡ option_map (λ e. f e.now) found → option_map to result ≡ find t (map f xs)
-told to f t xs found result here is = is ∙ map_twice (λ e. e.now) f found ∙ ap (option_map f) here ∙ sym (find_map f t xs)
+pub found_told : {A B : Type 0} (f : A → B) (t : B → Bool) (xs : List A) (found : Option (Bor A)) → option_map (λ e. e.now) found ≡ find (λ x. t (f x)) xs → option_map (λ e. f e.now) found ≡ find t (map f xs)
+found_told f t xs found here = map_twice (λ e. e.now) f found ∙ ap (option_map f) here ∙ sym (find_map f t xs)
 
 pub find_same : {A : Type 0} (t u : A → Bool) (xs : List A) → ((x : A) → t x ≡ u x) → find t xs ≡ find u xs
 find_same t u [] same = refl
@@ -28,20 +26,6 @@ find_same t u (x ∷ xs) same = ap (λ b. cond b (Some x) (find t xs)) (same x) 
 pub map_map : {A B C : Type 0} (f : A → B) (g : B → C) (xs : List A) → map g (map f xs) ≡ map (λ x. g (f x)) xs
 map_map f g [] = refl
 map_map f g (x ∷ xs) = ap (λ l. g (f x) ∷ l) (map_map f g xs)
-
--- ---- by the texts of values
-
-find_text : (names : Spellings) (wanted : List ℕ) (vs : List KnownValue) → HasTexts names vs → find (λ v. pointwise nat_eq (string_bytes v.text) wanted) vs ≡ find (λ v. pointwise nat_eq (output_text names (v.value ∷ [])) wanted) vs
-find_text names wanted [] h = refl
-find_text names wanted (v ∷ vs) h =
-    let first : string_bytes v.text ≡ output_text names (v.value ∷ []) = cc in
-    let rest : map (λ (v : KnownValue). string_bytes v.text) vs ≡ map (λ (v : KnownValue). output_text names (v.value ∷ [])) vs = cc in
-    ap (λ b. cond (pointwise nat_eq b wanted) (Some v) (find (λ (v : KnownValue). pointwise nat_eq (string_bytes v.text) wanted) vs)) first ∙
-    ap (λ o. cond (pointwise nat_eq (output_text names (v.value ∷ [])) wanted) (Some v) o) (find_text names wanted vs rest)
-
-pub text_found : (names : Spellings) (wanted : List ℕ) (vs : List KnownValue) (found : Option (Bor KnownValue)) → HasTexts names vs → option_map (λ e. e.now) found ≡ find (λ v. pointwise nat_eq (string_bytes v.text) wanted) vs →
-    option_map (λ e. e.now) found ≡ find (λ v. pointwise nat_eq (output_text names (v.value ∷ [])) wanted) vs
-text_found names wanted vs found h is = is ∙ find_text names wanted vs h
 
 -- ---- what is found, and what is not
 

@@ -1,12 +1,42 @@
 -- The first thing of a kind in a list of all with their first words is the first of all that are of this kind.
-use Rattle.std.proofs.Common.{◌≡◌, ◌⊎◌, inl, inr, ⊎_elim, ◌<◌, ◌≤◌, ℕ, suc, Bool, true, false, ◌||◌, ◌&&◌, ◌==◌, ◌∙◌, List, length, sym, ap, subst, arith}
-use Rattle.std.specs.Prelude.{find, Option, None, Some, Contains, All, slice_get}
-use Rattle.std.proofs.lemmas.Bool.{cases_order, lt-ltb}
+use Rattle.std.proofs.Common.{◌≡◌, ◌⊎◌, inl, inr, ⊎_elim, ◌<◌, ◌≤◌, ℕ, suc, Bool, true, false, ◌||◌, ◌&&◌, ◌==◌, ◌∙◌, List, length, refl, sym, ap, subst, arith}
+use Rattle.std.specs.Prelude.{◌≢◌, find, Option, None, Some, Contains, All, nat_lt, slice_get}
+use Rattle.std.specs.Cmp.Lexicographic.{slice_partial_cmp}
+use Rattle.std.specs.Ordering.{is_le, is_some_and, nat_cmp}
+use Rattle.std.proofs.lemmas.Cmp.{same_from_slice_cmp_tested}
+use Rattle.std.proofs.lemmas.Bool.Decides.{nat_tests}
+use Rattle.std.proofs.lemmas.Bool.{cases_order, eq-eqb, eqb-true, lt-ltb, ltb-true}
 use Rattle.cp_ends.specs.Firsts.{is_up_to, in_dictionary, AreFirsts, AreFirstOnes, Within, HasWord}
 use Rattle.cp_ends.proofs.Searching.Lists.{all_at, pair_at, place_of, contains_at}
 use Rattle.cp_ends.proofs.Searching.Words.{up_to_joined}
 use Rattle.cp_verdict.specs.endless.Knowledge.{Looked}
 use Rattle.cp_verdict.proofs.any_length.Finding.{IsFoundAt, found_at, found_none, some_same}
+
+-- ---- the order of words
+
+-- the order of the code's `<=` on slices
+in_order : (v w : List ℕ) (r : Bool) → r ≡ is_some_and is_le (slice_partial_cmp (λ x y. Some (nat_cmp x y)) v w) → r ≡ in_dictionary v w
+in_order = same_from_slice_cmp_tested nat_cmp is_le in_dictionary refl (λ _ _. refl) (λ _ _. refl) (λ x y xs ys o h. grind (arith, nat_tests))
+
+not_less : (a b : ℕ) → b ≤ a → nat_lt a b ≡ false
+not_less a b le = split (nat_lt a b) refl
+  where
+    split : (c : Bool) → nat_lt a b ≡ c → c ≡ false
+    split true e = absurd (omega (arith, ltb-true a b e, le))
+    split false e = refl
+
+pub as_long_first : (v w : List ℕ) (r : Bool) → length v ≡ length w → r ≡ is_some_and is_le (slice_partial_cmp (λ x y. Some (nat_cmp x y)) v w) → r ≡ is_up_to v w
+unfolding is_up_to
+as_long_first v w r same is =
+    in_order v w r is ∙ sym (ap (λ b. b || ((length v == length w) && in_dictionary v w)) (not_less (length v) (length w) (omega (arith, same))) ∙ ap (λ b. b && in_dictionary v w) (eq-eqb (length v) (length w) same))
+
+pub other_first : (v w : List ℕ) → length w ≤ length v → length v ≢ length w → (length v == length w) ≡ is_up_to v w
+unfolding is_up_to
+other_first v w le other = split (length v == length w) refl ∙ sym (ap (λ b. b || ((length v == length w) && in_dictionary v w)) (not_less (length v) (length w) le))
+  where
+    split : (b : Bool) → (length v == length w) ≡ b → b ≡ (b && in_dictionary v w)
+    split true e = absurd (other (eqb-true (length v) (length w) e))
+    split false e = refl
 
 lengths : (a b : ℕ) → (a ≤ b) ⊎ (b < a)
 lengths a b = ⊎_elim
@@ -17,6 +47,9 @@ lengths a b = ⊎_elim
 shorter_first : (word other : List ℕ) → length word < length other → is_up_to word other ≡ true
 unfolding is_up_to
 shorter_first word other less = ap (λ x. x || ((length word == length other) && in_dictionary word other)) (lt-ltb (length word) (length other) less)
+
+pub shorter_is_first : (v w : List ℕ) → length v < length w → nat_lt (length v) (length w) ≡ is_up_to v w
+shorter_is_first v w less = lt-ltb (length v) (length w) less ∙ sym (shorter_first v w less)
 
 -- each list of all things is one of the first so many
 pub ones_of : {A : Type 0} (P : A → List ℕ → Type 0) (xs : List (A × List ℕ)) → AreFirsts P xs → AreFirstOnes (suc (length xs)) P xs

@@ -1,21 +1,26 @@
 -- What is known of an expectation, by what the code finds.
-use Rattle.std.proofs.Common.{◌≡◌, inl, inr, ◌∙◌, ℕ, suc, Bool, true, false, not, ◌&&◌, List, [], ◌∷◌, map, length, cond, refl, sym, ap, subst, arith, vec_len}
+use Rattle.std.proofs.Common.{◌≡◌, inl, inr, ◌∙◌, ℕ, suc, Bool, true, false, not, ◌&&◌, List, [], ◌∷◌, map, length, cond, refl, sym, ap, subst, arith, vec_len, if◌then◌else◌}
 use Rattle.std.specs.Prelude.{find, Option, None, Some, option_map, nat_le, is_none, is_some}
-use Rattle.cp_verdict.proofs.any_length.Vocabulary.{list_all, Vec, Global, length-map, Tables, Discipline, Shown, StepLimit, slots, without_output, Spellings, End, Over}
-use Rattle.cp_verdict.proofs.any_length.Vocabulary.{MOST_VALUES, Waiting, EndPattern, EndsExpectation, Never, Sometimes, Only, EndsJudgement, KnownEnds, KnownEnd}
+use Rattle.cp_verdict.proofs.any_length.Vocabulary.{list_all, Vec, Global, length-map, Tables, Discipline, Shown, StepLimit, slots, without_output, End, Over}
+use Rattle.cp_verdict.proofs.any_length.Vocabulary.{MOST_VALUES, Waiting, EndsJudgement, KnownEnds, KnownEnd}
 use Rattle.cp_verdict.proofs.any_length.Vocabulary.{Witness}
-use Rattle.std.specs.declared.string.String.{String}
 use Rattle.std.proofs.lemmas.Bool.{leb-true}
 use Rattle.cp_ends.specs.Firsts.{is_up_to, AreFirsts, AreFirstOnes}
 use Rattle.cp_ends.specs.Whole.{LeadsToState}
 use Rattle.cp_ends.proofs.Searching.Lists.{place_of, contains_at}
 use Rattle.cp_ends.proofs.Searching.Words.{up_to_empty}
-use Rattle.cp_verdict.specs.endless.Behaviour.{Behaviour, Finding, Ends, Shows, Waits, IsSo, word_of, on_slots}
-use Rattle.cp_verdict.specs.endless.Expectations.{IsTrue, asks_some, is_about, is_cut, is_meant, is_named, is_other, settles}
-use Rattle.cp_verdict.specs.endless.Judged.{IsFirstOf, IsJudged, judgement_of}
-use Rattle.cp_verdict.specs.endless.Knowledge.{HasNoCut, IsKnown, KnowsWaits, Looked, ended, end_pair, finding_of, is_kept, is_settled, is_whole, shown, speaks_of, those_waiting, told_of, value_pair, waiting_for_ever}
-use Rattle.cp_verdict.specs.declared.endless.expectation.Topic.{Topic}
-use Rattle.cp_verdict.specs.declared.endless.expectation.Topic.TheVariants as topic
+use Rattle.cp_expectation.specs.declared.expectation.Claim.{Claim}
+use Rattle.cp_expectation.specs.declared.expectation.Claim.TheVariants.{Never, Sometimes, Only}
+use Rattle.cp_expectation.specs.declared.expectation.Expectation.{Expectation}
+use Rattle.cp_expectation.specs.declared.expectation.Topic.{Topic}
+use Rattle.cp_expectation.specs.declared.expectation.Topic.TheVariants as topic
+use Rattle.cp_verdict.specs.Outputs.{value_text}
+use Rattle.cp_verdict.specs.endless.Behaviour.{Behaviour, Finding, Ends, Shows, Waits, IsSo, is_same_sort, word_of, on_slots}
+use Rattle.cp_verdict.specs.endless.Expectations.{IsTrueIf, asks_some_by, is_about, is_against_only, is_cut, is_named, is_other, is_value_named, is_waiting_named, settles_by}
+use Rattle.cp_verdict.specs.endless.Judged.{IsJudged, earlier_of, found_about, found_by, found_settling, judgement_of, or_other}
+use Rattle.cp_verdict.specs.endless.Knowledge.{HasNoCut, IsKnown, KnowsWaits, Looked, ended, end_pair, finding_of, is_kept, is_settled, is_whole, shown, those_waiting, value_pair, waiting_for_ever}
+use Rattle.cp_verdict.specs.endless.Marked.{with_tables}
+use Rattle.cp_verdict.specs.endless.Naming.{Names, Processes}
 use Rattle.cp_verdict.proofs.any_length.Finding.{all_pass, at_map, find_same, found_at, found_none, map_at}
 use Rattle.cp_verdict.proofs.any_length.Firsts.{IsFirstSo, first_so, none_so, ones_of}
 
@@ -37,23 +42,6 @@ not_false : (b : Bool) → b ≡ true → b ≡ false → ⊥
 not_false true e h = absurd (cc)
 not_false false e h = absurd (cc)
 
--- ---- of what a topic speaks
-
-named_only : (names : Spellings) (ps : Vec EndPattern Global) (g : Finding) → is_about names (topic.Ends ps) g ≡ true → (x : End × List ℕ) × (ended x ≡ g)
-named_only names ps (Ends end word) e = ((end, word), refl)
-named_only names ps (Shows v word) e = absurd (cc)
-named_only names ps (Waits q) e = absurd (cc)
-
-other_only : (names : Spellings) (ps : Vec EndPattern Global) (g : Finding) → settles names (Only ps) g ≡ true → (x : End × List ℕ) × (ended x ≡ g)
-other_only names ps (Ends end word) e = ((end, word), refl)
-other_only names ps (Shows v word) e = absurd (cc)
-other_only names ps (Waits q) e = absurd (cc)
-
-shown_only : (names : Spellings) (text : String Global) (g : Finding) → is_about names (topic.Shown text) g ≡ true → (x : Shown × List ℕ) × (shown x ≡ g)
-shown_only names text (Ends end word) e = absurd (cc)
-shown_only names text (Shows v word) e = ((v, word), refl)
-shown_only names text (Waits q) e = absurd (cc)
-
 -- ---- findings by lists
 
 -- a thing of a list is found where a finding of it is
@@ -72,6 +60,46 @@ pair_none {A} f t (x ∷ xs) e = split (t (f x)) e (λ h. pair_none f t xs h)
     split : (b : Bool) → cond b (Some (f x)) (find t (map f xs)) ≡ None → (find t (map f xs) ≡ None → find (λ (z : A × List ℕ). t (f z)) xs ≡ None) → cond b (Some x) (find (λ (z : A × List ℕ). t (f z)) xs) ≡ None
     split true e on = absurd (cc)
     split false e on = on e
+
+-- ---- of two findings
+
+-- what is found is one of the two
+pub earlier_one : (P : Finding → Type 0) (o p : Option Finding) (f : Finding) → ((g : Finding) → o ≡ Some g → P g) → ((g : Finding) → p ≡ Some g → P g) → earlier_of o p ≡ Some f → P f
+earlier_one P None p f first second e = second f e
+earlier_one P (Some x) None f first second e = first f e
+earlier_one P (Some x) (Some y) f first second e = split (is_up_to (word_of x) (word_of y)) e
+  where
+    split : (c : Bool) → (if c then Some x else Some y) ≡ Some f → P f
+    split true l = first f l
+    split false l = second f l
+
+pub earlier_none : (o p : Option Finding) → earlier_of o p ≡ None → (o ≡ None) × (p ≡ None)
+earlier_none None p e = (refl, e)
+earlier_none (Some x) None e = absurd (cc)
+earlier_none (Some x) (Some y) e = split (is_up_to (word_of x) (word_of y)) e
+  where
+    split : (c : Bool) → (if c then Some x else Some y) ≡ None → (Some x ≡ None) × (Some y ≡ None)
+    split true l = absurd (cc)
+    split false l = absurd (cc)
+
+pub other_none : (o p : Option Finding) → or_other o p ≡ None → (o ≡ None) × (p ≡ None)
+other_none None p e = (refl, e)
+other_none (Some x) p e = absurd (cc)
+
+-- ---- what is kept
+
+-- a topic of waiting is among those that speak of who waits, and of a value among those that speak of values
+waiting_kept : (ps : Processes) (k : KnownEnds) (ts : List Topic) (q : ℕ) → list_all (λ t. is_kept t k) ts ≡ true → is_waiting_named ps ts q ≡ true → is_some k.waits ≡ true
+waiting_kept ps k [] q kept is = absurd (cc)
+waiting_kept ps k (topic.End end output ∷ ts) q kept is = waiting_kept ps k ts q kept is
+waiting_kept ps k (topic.Shown text ∷ ts) q kept is = waiting_kept ps k ts q (both (nat_le (vec_len k.values) MOST_VALUES) (list_all (λ t. is_kept t k) ts) kept).1 is
+waiting_kept ps k (topic.Waiting process ∷ ts) q kept is = (both (is_some k.waits) (list_all (λ t. is_kept t k) ts) kept).0
+
+pub value_kept : (k : KnownEnds) (ts : List Topic) (printed : List ℕ) → list_all (λ t. is_kept t k) ts ≡ true → is_value_named ts printed ≡ true → nat_le (vec_len k.values) MOST_VALUES ≡ true
+value_kept k [] printed kept is = absurd (cc)
+value_kept k (topic.End end output ∷ ts) printed kept is = value_kept k ts printed kept is
+value_kept k (topic.Shown text ∷ ts) printed kept is = (both (nat_le (vec_len k.values) MOST_VALUES) (list_all (λ t. is_kept t k) ts) kept).0
+value_kept k (topic.Waiting process ∷ ts) printed kept is = value_kept k ts printed (both (is_some k.waits) (list_all (λ t. is_kept t k) ts) kept).1 is
 
 module _ (r : Tables) (discipline : Discipline) (steps most : ℕ) (k : KnownEnds) (h : IsKnown r discipline steps most k) where
   abbrev b : Behaviour
@@ -135,120 +163,139 @@ module _ (r : Tables) (discipline : Discipline) (steps most : ℕ) (k : KnownEnd
         none_so q (map value_pair k.values.items) (suc MOST_VALUES) b.shows (all_values whole) (omega (arith, le, count))
         (sym (find_same (λ y. t (shown y)) (λ y. q y.0) (map value_pair k.values.items) same) ∙ pair_none shown t (map value_pair k.values.items) e)
 
-  -- ---- who waits
+  module _ (ps : Processes) where
+    abbrev names : Names
+    names = with_tables r ps
 
-  waits_first : (process : Option ℕ) (f : Finding) → find (λ g. is_about r.names (topic.Waiting process) g) (map waiting_for_ever (those_waiting k.waits)) ≡ Some f → IsFirstOf r.names b (Never (topic.Waiting process)) f
-  waits_first process f e = by k.waits h.waits e
-    where
-      by : (o : Option (Vec Waiting Global)) → KnowsWaits r discipline steps o → find (λ g. is_about r.names (topic.Waiting process) g) (map waiting_for_ever (those_waiting o)) ≡ Some f → IsFirstOf r.names b (Never (topic.Waiting process)) f
-      by None know e = absurd (cc)
-      by (Some list) know e =
-          let found = found_at (λ g. is_about r.names (topic.Waiting process) g) (map waiting_for_ever list.items) f e in
-          let w = map_at waiting_for_ever list.items found.place f found.at in
-          subst (IsFirstOf r.names b (Never (topic.Waiting process))) w.2
-          (record {
-            is_so = (know w.0.process).0 (contains_at (map (λ x. x.process) list.items) found.place w.0.process (at_map (λ x. x.process) list.items found.place w.0 w.1));
-            settling = subst (λ g. is_about r.names (topic.Waiting process) g ≡ true) (sym w.2) found.passes;
-            first = λ g so is. up_to_empty (word_of g);
-          })
+    -- ---- who waits
 
-  waits_none : (process : Option ℕ) → is_some k.waits ≡ true → is_whole k ≡ true → find (λ g. is_about r.names (topic.Waiting process) g) (map waiting_for_ever (those_waiting k.waits)) ≡ None → (q : ℕ) → b.waits q → is_meant process q ≡ true → ⊥
-  waits_none process known whole e q waits is = by k.waits h.waits known e
-    where
-      by : (o : Option (Vec Waiting Global)) → KnowsWaits r discipline steps o → is_some o ≡ true → find (λ g. is_about r.names (topic.Waiting process) g) (map waiting_for_ever (those_waiting o)) ≡ None → ⊥
-      by None know some e = absurd (cc)
-      by (Some list) know some e =
-          let has = (know q).1 (no_cut whole) waits in
-          let at = place_of (map (λ (x : Waiting). x.process) list.items) q has in
-          let w = map_at (λ x. x.process) list.items at.0 q at.1 in
-          let none = found_none (λ g. is_about r.names (topic.Waiting process) g) (map waiting_for_ever list.items) e at.0 (waiting_for_ever w.0) (at_map waiting_for_ever list.items at.0 w.0 w.1) in
-          not_false (is_meant process q) is (ap (is_meant process) (sym w.2) ∙ none)
-
-  -- ---- topics
-
-  -- it is so, the topic speaks of it, and no earlier word is so
-  abbrev IsFirstAbout : (Finding → Bool) → Finding → Type 0
-  IsFirstAbout t f = IsSo b f × (t f ≡ true) × ((g : Finding) → IsSo b g → t g ≡ true → is_up_to (word_of f) (word_of g) ≡ true)
-
-  abbrev NoneIs : (Finding → Bool) → Type 0
-  NoneIs t = (g : Finding) → IsSo b g → t g ≡ true → ⊥
-
-  module _ (q : End → Bool) (t : Finding → Bool) (same : (x : End × List ℕ) → t (ended x) ≡ q x.0) (only : (g : Finding) → t g ≡ true → (x : End × List ℕ) × (ended x ≡ g)) where
-    ends_about : (f : Finding) → find t (map ended (map end_pair k.ends.items)) ≡ Some f → IsFirstAbout t f
-    ends_about f e =
-        let x = ends_first q f t same e in
-        subst (IsFirstAbout t) x.1 (x.2.is_so, same x.0 ∙ x.2.passes, λ g so is. (let y = only g is in up x.0 x.2 y.0 g y.1 so is))
+    waits_first : (ts : List Topic) (f : Finding) → find (is_about names ts) (map waiting_for_ever (those_waiting k.waits)) ≡ Some f → IsSo b f × (is_about names ts f ≡ true) × (word_of f ≡ [])
+    waits_first ts f e = by k.waits h.waits e
       where
-        up : (x : End × List ℕ) → IsFirstSo q (map end_pair k.ends.items) (suc (length (map end_pair k.ends.items))) b.ends x → (y : End × List ℕ) (g : Finding) → ended y ≡ g → IsSo b g → t g ≡ true → is_up_to x.1 (word_of g) ≡ true
-        up x first y g e so is = subst (λ z. is_up_to x.1 (word_of z) ≡ true) e (first.first y.0 y.1 (subst (IsSo b) (sym e) so) (sym (same y) ∙ subst (λ z. t z ≡ true) (sym e) is))
+        by : (o : Option (Vec Waiting Global)) → KnowsWaits r discipline steps o → find (is_about names ts) (map waiting_for_ever (those_waiting o)) ≡ Some f → IsSo b f × (is_about names ts f ≡ true) × (word_of f ≡ [])
+        by None know e = absurd (cc)
+        by (Some list) know e =
+            let found = found_at (is_about names ts) (map waiting_for_ever list.items) f e in
+            let w = map_at waiting_for_ever list.items found.place f found.at in
+            subst (λ g. IsSo b g × (is_about names ts g ≡ true) × (word_of g ≡ [])) w.2
+            ((know w.0.process).0 (contains_at (map (λ x. x.process) list.items) found.place w.0.process (at_map (λ x. x.process) list.items found.place w.0 w.1)), subst (λ g. is_about names ts g ≡ true) (sym w.2) found.passes, refl)
 
-    ends_not : is_whole k ≡ true → find t (map ended (map end_pair k.ends.items)) ≡ None → NoneIs t
-    ends_not whole e g so is =
-        let y = only g is in
-        ends_none q t same whole e y.0.0 y.0.1 (subst (IsSo b) (sym y.1) so) (sym (same y.0) ∙ subst (λ z. t z ≡ true) (sym y.1) is)
-
-  module _ (q : Shown → Bool) (t : Finding → Bool) (same : (x : Shown × List ℕ) → t (shown x) ≡ q x.0) (only : (g : Finding) → t g ≡ true → (x : Shown × List ℕ) × (shown x ≡ g)) where
-    values_about : (f : Finding) → find t (map shown (map value_pair k.values.items)) ≡ Some f → IsFirstAbout t f
-    values_about f e =
-        let x = values_first q f t same e in
-        subst (IsFirstAbout t) x.1 (x.2.is_so, same x.0 ∙ x.2.passes, λ g so is. (let y = only g is in up x.0 x.2 y.0 g y.1 so is))
+    waits_none : (ts : List Topic) → is_some k.waits ≡ true → is_whole k ≡ true → find (is_about names ts) (map waiting_for_ever (those_waiting k.waits)) ≡ None → (q : ℕ) → b.waits q → is_waiting_named ps ts q ≡ true → ⊥
+    waits_none ts known whole e q waits is = by k.waits h.waits known e
       where
-        up : (x : Shown × List ℕ) → IsFirstSo q (map value_pair k.values.items) (suc MOST_VALUES) b.shows x → (y : Shown × List ℕ) (g : Finding) → shown y ≡ g → IsSo b g → t g ≡ true → is_up_to x.1 (word_of g) ≡ true
-        up x first y g e so is = subst (λ z. is_up_to x.1 (word_of z) ≡ true) e (first.first y.0 y.1 (subst (IsSo b) (sym e) so) (sym (same y) ∙ subst (λ z. t z ≡ true) (sym e) is))
+        by : (o : Option (Vec Waiting Global)) → KnowsWaits r discipline steps o → is_some o ≡ true → find (is_about names ts) (map waiting_for_ever (those_waiting o)) ≡ None → ⊥
+        by None know some e = absurd (cc)
+        by (Some list) know some e =
+            let has = (know q).1 (no_cut whole) waits in
+            let at = place_of (map (λ (x : Waiting). x.process) list.items) q has in
+            let w = map_at (λ x. x.process) list.items at.0 q at.1 in
+            let none = found_none (is_about names ts) (map waiting_for_ever list.items) e at.0 (waiting_for_ever w.0) (at_map waiting_for_ever list.items at.0 w.0 w.1) in
+            not_false (is_waiting_named ps ts q) is (ap (is_waiting_named ps ts) (sym w.2) ∙ none)
 
-    values_not : is_whole k ≡ true → nat_le (vec_len k.values) MOST_VALUES ≡ true → find t (map shown (map value_pair k.values.items)) ≡ None → NoneIs t
-    values_not whole few e g so is =
-        let y = only g is in
-        values_none q t same whole few e y.0.0 y.0.1 (subst (IsSo b) (sym y.1) so) (sym (same y.0) ∙ subst (λ z. t z ≡ true) (sym y.1) is)
+    -- ---- of one sort
 
-  about_first : (t : Topic) (f : Finding) → find (is_about r.names t) (told_of t k) ≡ Some f → IsFirstAbout (is_about r.names t) f
-  about_first (topic.Ends ps) f e = ends_about (is_named ps.items) (is_about r.names (topic.Ends ps)) (λ x. refl) (named_only r.names ps) f e
-  about_first (topic.Waiting process) f e = let w = waits_first process f e in (w.is_so, w.settling, w.first)
-  about_first (topic.Shown text) f e = values_about (λ v. is_about r.names (topic.Shown text) (Shows v [])) (is_about r.names (topic.Shown text)) (λ x. refl) (shown_only r.names text) f e
+    -- it is so, it passes, and no earlier word of its sort does
+    abbrev IsFirstBy : (Finding → Bool) → Finding → Type 0
+    IsFirstBy t f = IsSo b f × (t f ≡ true) × ((g : Finding) → IsSo b g → t g ≡ true → is_same_sort f g ≡ true → is_up_to (word_of f) (word_of g) ≡ true)
 
-  about_none : (t : Topic) → (is_kept t k && is_whole k) ≡ true → find (is_about r.names t) (told_of t k) ≡ None → NoneIs (is_about r.names t)
-  about_none (topic.Ends ps) s e = ends_not (is_named ps.items) (is_about r.names (topic.Ends ps)) (λ x. refl) (named_only r.names ps) s e
-  about_none (topic.Waiting process) s e = let p = both (is_some k.waits) (is_whole k) s in waiting_none process p.0 p.1 e
-    where
-      waiting_none : (process : Option ℕ) → is_some k.waits ≡ true → is_whole k ≡ true → find (is_about r.names (topic.Waiting process)) (map waiting_for_ever (those_waiting k.waits)) ≡ None → NoneIs (is_about r.names (topic.Waiting process))
-      waiting_none process known whole e (Ends end word) so is = absurd (cc)
-      waiting_none process known whole e (Shows v word) so is = absurd (cc)
-      waiting_none process known whole e (Waits q) so is = waits_none process known whole e q so is
-  about_none (topic.Shown text) s e =
-      let p = both (nat_le (vec_len k.values) MOST_VALUES) (is_whole k) s in
-      values_not (λ v. is_about r.names (topic.Shown text) (Shows v [])) (is_about r.names (topic.Shown text)) (λ x. refl) (shown_only r.names text) p.1 p.0 e
+    abbrev NoneIs : (Finding → Bool) → Type 0
+    NoneIs t = (g : Finding) → IsSo b g → t g ≡ true → ⊥
 
-  -- ---- expectations
+    module _ (q : End → Bool) (t : Finding → Bool) (same : (x : End × List ℕ) → t (ended x) ≡ q x.0) where
+      ends_about : (f : Finding) → find t (map ended (map end_pair k.ends.items)) ≡ Some f → IsFirstBy t f
+      ends_about f e =
+          let x = ends_first q f t same e in
+          subst (IsFirstBy t) x.1 (x.2.is_so, same x.0 ∙ x.2.passes, up x.0 x.2)
+        where
+          up : (x : End × List ℕ) → IsFirstSo q (map end_pair k.ends.items) (suc (length (map end_pair k.ends.items))) b.ends x → (g : Finding) → IsSo b g → t g ≡ true → is_same_sort (ended x) g ≡ true → is_up_to x.1 (word_of g) ≡ true
+          up x first (Ends end word) so is sort = first.first end word so (sym (same (end, word)) ∙ is)
+          up x first (Shows v word) so is sort = absurd (cc)
+          up x first (Waits p) so is sort = absurd (cc)
 
-  settled_first : (x : EndsExpectation) (f : Finding) → find (settles r.names x) (speaks_of x k) ≡ Some f → IsFirstAbout (settles r.names x) f
-  settled_first (Never t) f e = about_first t f e
-  settled_first (Sometimes t) f e = about_first t f e
-  settled_first (Only ps) f e = ends_about (is_other ps.items) (settles r.names (Only ps)) (λ x. refl) (other_only r.names ps) f e
+      ends_not : is_whole k ≡ true → find t (map ended (map end_pair k.ends.items)) ≡ None → (end : End) (word : List ℕ) → b.ends end word → t (Ends end word) ≡ true → ⊥
+      ends_not whole e end word so is = ends_none q t same whole e end word so (sym (same (end, word)) ∙ is)
 
-  settled_none : (x : EndsExpectation) → is_settled x k ≡ true → find (settles r.names x) (speaks_of x k) ≡ None → NoneIs (settles r.names x)
-  settled_none (Never t) s e = about_none t s e
-  settled_none (Sometimes t) s e = about_none t s e
-  settled_none (Only ps) s e = ends_not (is_other ps.items) (settles r.names (Only ps)) (λ x. refl) (other_only r.names ps) s e
+    module _ (q : Shown → Bool) (t : Finding → Bool) (same : (x : Shown × List ℕ) → t (shown x) ≡ q x.0) where
+      values_about : (f : Finding) → find t (map shown (map value_pair k.values.items)) ≡ Some f → IsFirstBy t f
+      values_about f e =
+          let x = values_first q f t same e in
+          subst (IsFirstBy t) x.1 (x.2.is_so, same x.0 ∙ x.2.passes, up x.0 x.2)
+        where
+          up : (x : Shown × List ℕ) → IsFirstSo q (map value_pair k.values.items) (suc MOST_VALUES) b.shows x → (g : Finding) → IsSo b g → t g ≡ true → is_same_sort (shown x) g ≡ true → is_up_to x.1 (word_of g) ≡ true
+          up x first (Shows v word) so is sort = first.first v word so (sym (same (v, word)) ∙ is)
+          up x first (Ends end word) so is sort = absurd (cc)
+          up x first (Waits p) so is sort = absurd (cc)
 
-  -- nothing forbids it
-  true_none : (x : EndsExpectation) → asks_some x ≡ false → NoneIs (settles r.names x) → IsTrue r.names b x
-  true_none (Never t) a none = λ s. none s.0 s.1 s.2
-  true_none (Sometimes t) a none = absurd (cc)
-  true_none (Only ps) a none = λ s. none s.0 s.1 s.2
+      values_not : is_whole k ≡ true → nat_le (vec_len k.values) MOST_VALUES ≡ true → find t (map shown (map value_pair k.values.items)) ≡ None → (v : Shown) (word : List ℕ) → b.shows v word → t (Shows v word) ≡ true → ⊥
+      values_not whole few e v word so is = values_none q t same whole few e v word so (sym (same (v, word)) ∙ is)
 
-  true_some : (x : EndsExpectation) (f : Finding) → asks_some x ≡ true → IsFirstAbout (settles r.names x) f → IsTrue r.names b x
-  true_some (Never t) f a first = absurd (cc)
-  true_some (Sometimes t) f a first = (f, first.0, first.1)
-  true_some (Only ps) f a first = absurd (cc)
+    -- ---- topics
 
-  module _ (x : EndsExpectation) where
-    by : (asks : Bool) (found : Option Witness) (settled : Bool) → asks_some x ≡ asks → option_map finding_of found ≡ find (settles r.names x) (speaks_of x k) → is_settled x k ≡ settled → IsJudged r.names b k x (judgement_of asks found settled)
-    by true (Some w) settled a here s = (true_some x (finding_of w) a (settled_first x (finding_of w) (sym here)), inl a)
-    by true None true a here s = (a, λ y. settled_none x s (sym here) y.0 y.1 y.2, s)
-    by true None false a here s = (sym here, s)
-    by false (Some w) settled a here s = let first = settled_first x (finding_of w) (sym here) in (a, record { is_so = first.0; settling = first.1; first = first.2 })
-    by false None true a here s = (true_none x a (settled_none x s (sym here)), inr s)
-    by false None false a here s = (sym here, s)
+    module _ (ts : List Topic) where
+      abbrev by_waits : Option Finding
+      by_waits = find (is_about names ts) (map waiting_for_ever (those_waiting k.waits))
 
-    pub judged : (j : EndsJudgement) (found : Option Witness) (settled : Bool) → option_map finding_of found ≡ find (settles r.names x) (speaks_of x k) → settled ≡ is_settled x k → j ≡ judgement_of (asks_some x) found settled → IsJudged r.names b k x j
-    judged j found settled here s is = subst (IsJudged r.names b k x) (sym is) (by (asks_some x) found settled refl here (sym s))
+      abbrev by_ends : Option Finding
+      by_ends = find (is_about names ts) (map ended (map end_pair k.ends.items))
+
+      abbrev by_values : Option Finding
+      by_values = find (is_about names ts) (map shown (map value_pair k.values.items))
+
+      about_first : (f : Finding) → found_about names ts k ≡ Some f → IsFirstBy (is_about names ts) f
+      about_first f e = split by_waits refl e
+        where
+          split : (o : Option Finding) → by_waits ≡ o → or_other o (earlier_of by_ends by_values) ≡ Some f → IsFirstBy (is_about names ts) f
+          split (Some g) here l =
+              let same : g ≡ f = cc in
+              let w = waits_first ts f (here ∙ ap Some same) in
+              (w.0, w.1, λ x so is sort. ap (λ v. is_up_to v (word_of x)) w.2 ∙ up_to_empty (word_of x))
+          split None here l = earlier_one (IsFirstBy (is_about names ts)) by_ends by_values f (ends_about (is_named ps ts) (is_about names ts) (λ x. refl)) (values_about (λ v. is_value_named ts (value_text r.names v)) (is_about names ts) (λ x. refl)) l
+
+      about_none : list_all (λ t. is_kept t k) ts ≡ true → is_whole k ≡ true → found_about names ts k ≡ None → NoneIs (is_about names ts)
+      about_none kept whole e = none
+        where
+          parts : (by_waits ≡ None) × (earlier_of by_ends by_values ≡ None)
+          parts = other_none by_waits (earlier_of by_ends by_values) e
+
+          two : (by_ends ≡ None) × (by_values ≡ None)
+          two = earlier_none by_ends by_values parts.1
+
+          none : NoneIs (is_about names ts)
+          none (Ends end word) so is = ends_not (is_named ps ts) (is_about names ts) (λ x. refl) whole two.0 end word so is
+          none (Shows v word) so is = values_not (λ v. is_value_named ts (value_text r.names v)) (is_about names ts) (λ x. refl) whole (value_kept k ts (value_text r.names v) kept is) two.1 v word so is
+          none (Waits q) so is = waits_none ts (waiting_kept ps k ts q kept is) whole parts.0 q so is
+
+      only_none : is_whole k ≡ true → find (is_against_only names ts) (map ended (map end_pair k.ends.items)) ≡ None → NoneIs (is_against_only names ts)
+      only_none whole e (Ends end word) so is = ends_not (is_other ps ts) (is_against_only names ts) (λ x. refl) whole e end word so is
+      only_none whole e (Shows v word) so is = absurd (cc)
+      only_none whole e (Waits q) so is = absurd (cc)
+
+      -- ---- expectations
+
+      settled_first : (c : Claim) (f : Finding) → found_by c names ts k ≡ Some f → IsFirstBy (settles_by c names ts) f
+      settled_first Never f e = about_first f e
+      settled_first Sometimes f e = about_first f e
+      settled_first Only f e = ends_about (is_other ps ts) (is_against_only names ts) (λ x. refl) f e
+
+      settled_none : (c : Claim) → list_all (λ t. is_kept t k) ts ≡ true → is_whole k ≡ true → found_by c names ts k ≡ None → NoneIs (settles_by c names ts)
+      settled_none Never kept whole e = about_none kept whole e
+      settled_none Sometimes kept whole e = about_none kept whole e
+      settled_none Only kept whole e = only_none whole e
+
+    module _ (x : Expectation) where
+      none_known : is_settled x k ≡ true → found_settling names x k ≡ None → NoneIs (settles_by x.claim names x.topics.items)
+      none_known s e = let p = both (is_whole k) (list_all (λ t. is_kept t k) x.topics.items) s in settled_none x.topics.items x.claim p.1 p.0 e
+
+      first_known : (f : Finding) → found_settling names x k ≡ Some f → IsFirstBy (settles_by x.claim names x.topics.items) f
+      first_known f e = settled_first x.topics.items x.claim f e
+
+      by : (asks : Bool) (found : Option Witness) (settled : Bool) → asks_some_by x.claim ≡ asks → option_map finding_of found ≡ found_settling names x k → is_settled x k ≡ settled → IsJudged names b k x (judgement_of asks found settled)
+      by true (Some w) settled a here s = let first = first_known (finding_of w) (sym here) in (subst (λ asks. IsTrueIf asks names b x) (sym a) (finding_of w, first.0, first.1), inl a)
+      by true None true a here s = (a, λ y. none_known s (sym here) y.0 y.1 y.2, s)
+      by true None false a here s = (sym here, s)
+      by false (Some w) settled a here s = let first = first_known (finding_of w) (sym here) in (a, record { is_so = first.0; settling = first.1; first = first.2 })
+      by false None true a here s = (subst (λ asks. IsTrueIf asks names b x) (sym a) (λ y. none_known s (sym here) y.0 y.1 y.2), inr s)
+      by false None false a here s = (sym here, s)
+
+      pub judged : (j : EndsJudgement) (found : Option Witness) (settled : Bool) → option_map finding_of found ≡ found_settling names x k → settled ≡ is_settled x k → j ≡ judgement_of (asks_some_by x.claim) found settled → IsJudged names b k x j
+      judged j found settled here s is = subst (IsJudged names b k x) (sym is) (by (asks_some_by x.claim) found settled refl here (sym s))

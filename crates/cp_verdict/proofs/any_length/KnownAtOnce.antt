@@ -1,6 +1,6 @@
 -- What a search that makes kernel calls at once found is what is known.
 use Rattle.std.proofs.Common.{◌≡◌, ◌∙◌, ◌+◌, ◌<◌, ◌≤◌, ℕ, Bool, true, false, not, ◌||◌, List, [], ◌∷◌, ◌++◌, length, map, take, get_or, refl, sym, ap, subst}
-use Rattle.std.specs.Prelude.{All, None, Some, Option, is_none, nat_lt, string_bytes}
+use Rattle.std.specs.Prelude.{All, None, is_none, nat_lt, string_bytes}
 use Rattle.std.specs.List.{list_all, list_any}
 use Rattle.std.proofs.lemmas.List.{length-map, map-append, take_all, take_more}
 use Rattle.std.proofs.lemmas.List.Elements.{All-append, All-cons, All-get_or, All-nil}

@@ -1,7 +1,8 @@
 -- What is so of the slot machine is so of the program on its own names; and where no stretch is cut, nothing else is.
 use Rattle.std.proofs.Common.{◌≡◌, ◌⊎◌, inl, inr, ◌∙◌, ◌+◌, ◌<◌, ℕ, Bool, true, false, not, ◌&&◌, ◌||◌, List, [], ◌∷◌, map, refl, sym, ap, subst}
-use Rattle.cp_verdict.proofs.any_length.Vocabulary.{Tree, IsRead, plain, laid, Tables, IsAccepted, Machine, Shown, slots, Spellings, EndsSo, ShowsSo, End, Over, Alone}
-use Rattle.cp_verdict.proofs.any_length.Vocabulary.{Spins, IsKnown, end_pair, is_whole, EndPattern, EndsExpectation, Never, Sometimes, Only, KnownEnds}
+use Rattle.cp_verdict.proofs.any_length.Vocabulary.{Tree, IsRead, plain, laid, Tables, IsAccepted, Machine, Shown, slots, EndsSo, ShowsSo, End, Over, Alone}
+use Rattle.cp_verdict.proofs.any_length.Vocabulary.{Spins, IsKnown, end_pair, is_whole, Expectation, KnownEnds, Names}
+use Rattle.std.specs.Prelude.{None, Some}
 use Rattle.cp_meaning.specs.State.{Discipline, State}
 use Rattle.cp_run.specs.declared.outcome.OutcomeKind.{OutcomeKind}
 use Rattle.cp_run.specs.declared.outcome.OutcomeKind.TheVariants.{Finished, AllWaiting, RunError, ChoiceLimit, StepLimit, OutputLimit}
@@ -18,7 +19,7 @@ use Rattle.cp_endless_laws.specs.Standstill.{MayStandStill}
 use Rattle.cp_endless_laws.specs.WaitsForEver.{MayLinger, MayWaitForEver}
 use Rattle.cp_endless_laws.proofs.names.Meant.{endless_meaning}
 use Rattle.cp_endless_laws.proofs.steps.Repeating.{repeating}
-use Rattle.cp_ends.specs.ForEver.{IsAloneForEver, SpinsForEver}
+use Rattle.cp_ends.specs.ForEver.{GoesOnForEver, IsAloneForEver, SpinsForEver}
 use Rattle.cp_ends.specs.Holds.{same_key}
 use Rattle.cp_ends.specs.Named.{EndsOnNames, ShowsOnNames, kind_of}
 use Rattle.cp_ends.proofs.named.EachLimit.{shows_early}
@@ -29,10 +30,15 @@ use Rattle.cp_ends.proofs.named.Kinds.{no_steps_more, so_over, over_kind, over_s
 use Rattle.cp_ends.proofs.named.Later.{again_shown, again_ends}
 use Rattle.cp_ends.proofs.words.Edges.{last_same, not_empty, some_same, choosing_same}
 use Rattle.cp_verdict.specs.endless.Behaviour.{Finding, Ends, Shows, Waits, IsSo, on_slots, on_names}
-use Rattle.cp_verdict.specs.endless.Expectations.{is_cut, is_named, is_of, settles}
-use Rattle.cp_verdict.specs.declared.expectation.KindPattern.TheVariants as kinds
-use Rattle.cp_verdict.specs.declared.endless.expectation.EndPattern.TheVariants as pattern
-use Rattle.cp_verdict.specs.declared.endless.expectation.Topic.TheVariants as topic
+use Rattle.cp_expectation.specs.declared.expectation.Claim.{Claim}
+use Rattle.cp_expectation.specs.declared.expectation.Claim.TheVariants.{Never, Sometimes, Only}
+use Rattle.cp_expectation.specs.declared.expectation.EndPattern.{EndPattern}
+use Rattle.cp_expectation.specs.declared.expectation.EndPattern.TheVariants as pattern
+use Rattle.cp_expectation.specs.declared.expectation.Topic.{Topic}
+use Rattle.cp_expectation.specs.declared.expectation.Topic.TheVariants as topic
+use Rattle.cp_verdict.specs.Expectations.{is_of_kind}
+use Rattle.cp_verdict.specs.endless.Expectations.{is_cut, is_named, is_of, settles, settles_by}
+use Rattle.cp_verdict.specs.endless.Naming.{Processes}
 use Rattle.cp_verdict.proofs.any_length.Firsts.{false_true}
 use Rattle.cp_verdict.proofs.any_length.Judgements.{all_ends, no_cut, states_all}
 
@@ -59,42 +65,49 @@ module _ {S : Type 0} (sys : System S) (steps : ℕ) (word : List ℕ) where
       let here = some_same (x.state call.0, x.mover call.0) (y.state call.0, y.mover call.0) (sym (x.goes call.0) ∙ ap (λ (z : S × ℕ). spot_after sys call.0 z.0 z.1) begin ∙ y.goes call.0) in
       none call.0 call.1 (subst (λ (z : S × ℕ). CallsAt sys (record { state = z.0; mover = z.1 })) here call.2)
 
--- ---- ends of one kind
+  -- after as many steps as the limit one process makes the next one
+  pub one_mover : (q p : ℕ) → GoesOnForEver sys steps word q → GoesOnForEver sys steps word p → q ≡ p
+  one_mover q p x y =
+      let begin = sets_out_once x.begin y.begin x.first y.first x.sets_out y.sets_out in
+      let here = some_same (x.state steps, x.mover steps) (y.state steps, y.mover steps) (sym (x.goes steps) ∙ ap (λ (z : S × ℕ). spot_after sys steps z.0 z.1) begin ∙ y.goes steps) in
+      sym x.is ∙ ap (λ (z : S × ℕ). z.1) here ∙ y.is
 
-alone_same : (q r : ℕ) (p : EndPattern) → is_of p (Alone q) ≡ is_of p (Alone r)
-alone_same q r (pattern.Kind kind) = refl
-alone_same q r pattern.Alone = refl
-alone_same q r pattern.Spins = refl
+-- ---- a stretch that was cut
 
-spins_same : (q r : ℕ) (p : EndPattern) → is_of p (Spins q) ≡ is_of p (Spins r)
-spins_same q r (pattern.Kind kind) = refl
-spins_same q r pattern.Alone = refl
-spins_same q r pattern.Spins = refl
+cut_of_none : (p : EndPattern) → is_of_kind p StepLimit ≡ false
+cut_of_none pattern.Finished = refl
+cut_of_none pattern.AnyError = refl
+cut_of_none (pattern.Error name) = refl
+cut_of_none (pattern.AllWaiting None) = refl
+cut_of_none (pattern.AllWaiting (Some who)) = refl
+cut_of_none (pattern.Alone process) = refl
+cut_of_none (pattern.Spins process) = refl
 
-cut_of_none : (p : EndPattern) → is_of p (Over StepLimit) ≡ false
-cut_of_none (pattern.Kind kinds.Finished) = refl
-cut_of_none (pattern.Kind kinds.AllWaiting) = refl
-cut_of_none (pattern.Kind kinds.AnyError) = refl
-cut_of_none (pattern.Kind (kinds.Error name)) = refl
-cut_of_none pattern.Alone = refl
-cut_of_none pattern.Spins = refl
+cut_of : (ps : Processes) (p : EndPattern) → is_of ps p (Over StepLimit) ≡ false
+cut_of ps pattern.Finished = refl
+cut_of ps pattern.AnyError = refl
+cut_of ps (pattern.Error name) = refl
+cut_of ps (pattern.AllWaiting who) = cut_of_none (pattern.AllWaiting who)
+cut_of ps (pattern.Alone process) = refl
+cut_of ps (pattern.Spins process) = refl
 
-named_same : (a b : End) → ((p : EndPattern) → is_of p a ≡ is_of p b) → (ps : List EndPattern) → is_named ps a ≡ is_named ps b
-named_same a b same [] = refl
-named_same a b same (p ∷ ps) = ap (λ x. x || is_named ps a) (same p) ∙ ap (λ x. is_of p b || x) (named_same a b same ps)
-
-cut_named : (ps : List EndPattern) → is_named ps (Over StepLimit) ≡ false
-cut_named [] = refl
-cut_named (p ∷ ps) = ap (λ x. x || is_named ps (Over StepLimit)) (cut_of_none p) ∙ cut_named ps
-
--- the same expectations speak of two ends, and neither is a stretch that was cut
-record AreAlike (a b : End) : Type 0 where
-  named : (ps : List EndPattern) → is_named ps a ≡ is_named ps b
-  uncut : is_cut a ≡ false
-  uncut_too : is_cut b ≡ false
+cut_named : (ps : Processes) (ts : List Topic) → is_named ps ts (Over StepLimit) ≡ false
+cut_named ps [] = refl
+cut_named ps (topic.End p output ∷ ts) = ap (λ x. x || is_named ps ts (Over StepLimit)) (cut_of ps p) ∙ cut_named ps ts
+cut_named ps (topic.Shown text ∷ ts) = cut_named ps ts
+cut_named ps (topic.Waiting process ∷ ts) = cut_named ps ts
 
 -- what settles an expectation is no stretch that was cut
-pub settling_uncut : (names : Spellings) (e : EndsExpectation) (end : End) (word : List ℕ) → settles names e (Ends end word) ≡ true → is_cut end ≡ false
+cut_settles : (c : Claim) (names : Names) (ts : List Topic) (word : List ℕ) → settles_by c names ts (Ends (Over StepLimit) word) ≡ false
+cut_settles Never names ts word = cut_named names.processes ts
+cut_settles Sometimes names ts word = cut_named names.processes ts
+cut_settles Only names ts word = both_false (not (is_named names.processes ts (Over StepLimit)))
+  where
+    both_false : (b : Bool) → (b && false) ≡ false
+    both_false true = refl
+    both_false false = refl
+
+pub settling_uncut : (names : Names) (e : Expectation) (end : End) (word : List ℕ) → settles names e (Ends end word) ≡ true → is_cut end ≡ false
 settling_uncut names e (Over Finished) word h = refl
 settling_uncut names e (Over AllWaiting) word h = refl
 settling_uncut names e (Over (RunError name process line)) word h = refl
@@ -102,26 +115,7 @@ settling_uncut names e (Over ChoiceLimit) word h = refl
 settling_uncut names e (Over OutputLimit) word h = refl
 settling_uncut names e (Alone q) word h = refl
 settling_uncut names e (Spins q) word h = refl
-settling_uncut names (Never (topic.Ends ps)) (Over StepLimit) word h = false_true (is_named ps.items (Over StepLimit)) (cut_named ps.items) h
-settling_uncut names (Never (topic.Waiting process)) (Over StepLimit) word h = absurd (cc)
-settling_uncut names (Never (topic.Shown text)) (Over StepLimit) word h = absurd (cc)
-settling_uncut names (Sometimes (topic.Ends ps)) (Over StepLimit) word h = false_true (is_named ps.items (Over StepLimit)) (cut_named ps.items) h
-settling_uncut names (Sometimes (topic.Waiting process)) (Over StepLimit) word h = absurd (cc)
-settling_uncut names (Sometimes (topic.Shown text)) (Over StepLimit) word h = absurd (cc)
-settling_uncut names (Only ps) (Over StepLimit) word h = other (is_named ps.items (Over StepLimit)) h
-  where
-    other : (b : Bool) → (not b && false) ≡ true → true ≡ false
-    other true h = absurd (cc)
-    other false h = absurd (cc)
-
-settling_alike : (names : Spellings) (e : EndsExpectation) (a b : End) (word : List ℕ) → AreAlike a b → settles names e (Ends a word) ≡ settles names e (Ends b word)
-settling_alike names (Never (topic.Ends ps)) a b word h = h.named ps.items
-settling_alike names (Never (topic.Waiting process)) a b word h = refl
-settling_alike names (Never (topic.Shown text)) a b word h = refl
-settling_alike names (Sometimes (topic.Ends ps)) a b word h = h.named ps.items
-settling_alike names (Sometimes (topic.Waiting process)) a b word h = refl
-settling_alike names (Sometimes (topic.Shown text)) a b word h = refl
-settling_alike names (Only ps) a b word h = ap (λ x. not x && not (is_cut a)) (h.named ps.items) ∙ ap (λ x. not (is_named ps.items b) && not x) (h.uncut ∙ sym h.uncut_too)
+settling_uncut names e (Over StepLimit) word h = false_true (settles names e (Ends (Over StepLimit) word)) (cut_settles e.claim names e.topics.items word) h
 
 pub limit_cut : (kind : OutcomeKind) → is_cut (Over kind) ≡ false → kind ≡ StepLimit → ⊥
 limit_cut StepLimit h e = absurd (cc)
@@ -195,21 +189,18 @@ module _ (t : Tree) (r : Tables) (g : Discipline) (read : IsRead t.program) (ok 
     goes_on word each = over_so (slots r (discipline_of g)) without_output same_key steps key_same key_self word StepLimit
         ((means steps).ends.after_there word StepLimit (subst (λ n. EndsAfter a n word StepLimit) (no_steps_more steps) (each 0)))
 
-    abbrev Alike : End → List ℕ → Type 0
-    Alike end word = (other : End) × EndsSo b steps other word × AreAlike end other
-
-    alone_back : (q : ℕ) (word : List ℕ) → IsAloneForEver a steps word q → GoesOn word → Alike (Alone q) word
+    alone_back : (q : ℕ) (word : List ℕ) → IsAloneForEver a steps word q → GoesOn word → EndsSo b steps (Alone q) word
     alone_back q word alone (Over kind, e, so) = absurd (uncut word (subst (λ x. EndsSo b steps (Over x) word) e so))
-    alone_back q word alone (Alone p, e, so) = (Alone p, so, record { named = named_same (Alone q) (Alone p) (alone_same q p); uncut = refl; uncut_too = refl })
+    alone_back q word alone (Alone p, e, so) = subst (λ z. EndsSo b steps (Alone z) word) (one_mover a steps word p q (alone_named t r g read ok same steps word p (alone_for_ever b steps word p so)).0 alone.0) so
     alone_back q word alone (Spins p, e, so) = absurd (not_both a steps word q p alone (spins_named t r g read ok same steps word p (spins_for_ever b steps word p so)))
 
-    spins_back : (q : ℕ) (word : List ℕ) → SpinsForEver a steps word q → GoesOn word → Alike (Spins q) word
+    spins_back : (q : ℕ) (word : List ℕ) → SpinsForEver a steps word q → GoesOn word → EndsSo b steps (Spins q) word
     spins_back q word spins (Over kind, e, so) = absurd (uncut word (subst (λ x. EndsSo b steps (Over x) word) e so))
-    spins_back q word spins (Spins p, e, so) = (Spins p, so, record { named = named_same (Spins q) (Spins p) (spins_same q p); uncut = refl; uncut_too = refl })
+    spins_back q word spins (Spins p, e, so) = subst (λ z. EndsSo b steps (Spins z) word) (one_mover a steps word p q (spins_named t r g read ok same steps word p (spins_for_ever b steps word p so)).0 spins.0) so
     spins_back q word spins (Alone p, e, so) = absurd (not_both a steps word p q (alone_named t r g read ok same steps word p (alone_for_ever b steps word p so)) spins)
 
-    end_back : (end : End) (word : List ℕ) → is_cut end ≡ false → EndsOnNames t g steps end word → Alike end word
-    end_back (Over kind) word none so = (Over kind, over_kind b steps kind word (limit_cut kind none) ((means steps).ends.after_there word kind so), record { named = λ ps. refl; uncut = none; uncut_too = none })
+    end_back : (end : End) (word : List ℕ) → is_cut end ≡ false → EndsOnNames t g steps end word → EndsSo b steps end word
+    end_back (Over kind) word none so = over_kind b steps kind word (limit_cut kind none) ((means steps).ends.after_there word kind so)
     end_back (Alone q) word none so = alone_back q word so.1 (goes_on word so.0)
     end_back (Spins q) word none so = spins_back q word so.1 (goes_on word so.0)
 
@@ -220,9 +211,7 @@ module _ (t : Tree) (r : Tables) (g : Discipline) (read : IsRead t.program) (ok 
         (λ w c. uncut w ((all_ends r (discipline_of g) steps most k h whole).first (Over StepLimit) w c).is) steps v word ((means (steps + steps)).values.there word v x.1)
 
     -- what settles an expectation on names does so on slots
-    pub back : (names : Spellings) (e : EndsExpectation) (f : Finding) → IsSo (on_names t g steps) f → settles names e f ≡ true → (h : Finding) × IsSo (on_slots r (discipline_of g) steps) h × (settles names e h ≡ true)
-    back names e (Ends end word) so is =
-        let x = end_back end word (settling_uncut names e end word is) so in
-        (Ends x.0 word, x.1, sym (settling_alike names e end x.0 word x.2) ∙ is)
+    pub back : (names : Names) (e : Expectation) (f : Finding) → IsSo (on_names t g steps) f → settles names e f ≡ true → (h : Finding) × IsSo (on_slots r (discipline_of g) steps) h × (settles names e h ≡ true)
+    back names e (Ends end word) so is = (Ends end word, end_back end word (settling_uncut names e end word is) so, is)
     back names e (Shows v word) so is = (Shows v word, shown_back v word so, is)
     back names e (Waits q) so is = (Waits q, waits_back q so, is)

@@ -1,23 +1,23 @@
 -- Verdicts on some expectations and one more.
 use Rattle.std.proofs.Common.{◌≡◌, ◌⊎◌, inl, inr, ⊎_elim, ◌∙◌, ◌+◌, ◌<◌, ◌≤◌, ℕ, List, [], ◌∷◌, ◌++◌, length, get_or, take, sym, ap, subst, arith}
-use Rattle.cp_verdict.proofs.any_length.Vocabulary.{Contains, Bor, take_all, take_more, EndsExpectation, EndsJudgement, EndsVerdict}
+use Rattle.cp_verdict.proofs.any_length.Vocabulary.{Contains, Bor, take_all, take_more, Expectation, EndsJudgement, EndsVerdict}
 use Rattle.std.proofs.lemmas.List.Elements.{Contains-append_left, Contains-push, Contains-push_cases}
 use Rattle.cp_verdict.specs.endless.Marked.{AreJudged, joined}
 use Rattle.cp_verdict.specs.declared.endless.judging.EndsJudgement.TheVariants as judgement
 use Rattle.cp_verdict.specs.declared.endless.verdict.EndsVerdict.TheVariants as verdict
 
-module _ (J : EndsExpectation → EndsJudgement → Type 0) (es : List EndsExpectation) (e : Bor EndsExpectation) where
-  abbrev more : List EndsExpectation
+module _ (J : Expectation → EndsJudgement → Type 0) (es : List Expectation) (e : Bor Expectation) where
+  abbrev more : List Expectation
   more = es ++ e.now ∷ []
 
-  earlier : (x : EndsExpectation) → Contains es x → Contains more x
+  earlier : (x : Expectation) → Contains es x → Contains more x
   earlier x c = Contains-append_left es (e.now ∷ []) x c
 
   last : Contains more e.now
   last = Contains-push es e.now
 
   -- of all, from all before and the last
-  each_more : (P : EndsExpectation → Type 0) → ((x : EndsExpectation) → Contains es x → P x) → P e.now → (x : EndsExpectation) → Contains more x → P x
+  each_more : (P : Expectation → Type 0) → ((x : Expectation) → Contains es x → P x) → P e.now → (x : Expectation) → Contains more x → P x
   each_more P before here x c = ⊎_elim
       (λ (l : Contains es x). before x l)
       (λ (same : e.now ≡ x). subst P same here)
@@ -34,8 +34,8 @@ module _ (J : EndsExpectation → EndsJudgement → Type 0) (es : List EndsExpec
   with_one (verdict.Open f) judgement.Missing m h = (last, h)
   with_one (verdict.Open f) judgement.Open m h = (each_more (λ x. J x judgement.Holds ⊎ J x judgement.Open) m.0 (inr h), (earlier f.now m.1.0, m.1.1))
 
-module _ (J : EndsExpectation → EndsJudgement → Type 0) (list : List EndsExpectation) where
-  pub verdict_more : (i : ℕ) (e : Bor EndsExpectation) (v result : EndsVerdict) (j : EndsJudgement) → i < length list → e.now ≡ get_or list i e.now → result ≡ joined v e j → AreJudged J (take i list) v → J e.now j →
+module _ (J : Expectation → EndsJudgement → Type 0) (list : List Expectation) where
+  pub verdict_more : (i : ℕ) (e : Bor Expectation) (v result : EndsVerdict) (j : EndsJudgement) → i < length list → e.now ≡ get_or list i e.now → result ≡ joined v e j → AreJudged J (take i list) v → J e.now j →
       AreJudged J (take (i + 1) list) result
   verdict_more i e v result j less item is m h =
       let longer : take (i + 1) list ≡ take i list ++ e.now ∷ [] = take_more list i e.now less ∙ ap (λ x. take i list ++ x ∷ []) (sym item) in

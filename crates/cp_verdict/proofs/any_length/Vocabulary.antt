@@ -33,9 +33,8 @@ pub use Rattle.cp_verdict.specs.endless.Behaviour.{Finding, on_slots}
 pub use Rattle.cp_verdict.specs.endless.Expectations.{asks_some, is_cut}
 pub use Rattle.cp_verdict.specs.endless.Judged.{IsJudgedBy, judgement_of}
 pub use Rattle.cp_verdict.specs.endless.Knowledge.{HasTexts, IsKnown, end_pair, finding_of, is_kept, is_settled, is_whole, value_pair}
-pub use Rattle.cp_verdict.specs.declared.endless.expectation.EndPattern.{EndPattern}
-pub use Rattle.cp_verdict.specs.declared.endless.expectation.EndsExpectation.{EndsExpectation}
-pub use Rattle.cp_verdict.specs.declared.endless.expectation.EndsExpectation.TheVariants.{Never, Only, Sometimes}
+pub use Rattle.cp_verdict.specs.endless.Naming.{Names, Processes}
+pub use Rattle.cp_expectation.specs.declared.expectation.Expectation.{Expectation}
 pub use Rattle.cp_verdict.specs.declared.endless.judging.EndsJudgement.{EndsJudgement}
 pub use Rattle.cp_verdict.specs.declared.endless.known.KnownEnd.{KnownEnd}
 pub use Rattle.cp_verdict.specs.declared.endless.known.KnownEnds.{KnownEnds}

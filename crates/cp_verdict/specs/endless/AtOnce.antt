@@ -24,8 +24,9 @@ use Rattle.cp_at_once_laws.specs.Whole.{IsAloneBy, SpinsBy}
 use Rattle.cp_verdict.specs.endless.Behaviour.{Behaviour, MayWait}
 use Rattle.cp_verdict.specs.endless.Judged.{IsJudgedBy}
 use Rattle.cp_verdict.specs.endless.Knowledge.{HasTexts, end_pair, is_whole, value_pair}
-use Rattle.cp_verdict.specs.endless.Marked.{AreJudged, IsMarkOf, IsMeantMark, IsTrueMark, ask_waits, mark_of}
-use Rattle.cp_verdict.specs.declared.endless.expectation.EndsExpectation.{EndsExpectation}
+use Rattle.cp_verdict.specs.endless.Marked.{AreJudged, IsMarkOf, IsMeantMark, IsTrueMark, ask_waits, mark_of, with_tables}
+use Rattle.cp_verdict.specs.endless.Naming.{Processes}
+use Rattle.cp_expectation.specs.declared.expectation.Expectation.{Expectation}
 use Rattle.cp_verdict.specs.declared.endless.known.KnownEnds.{KnownEnds}
 use Rattle.cp_verdict.specs.declared.endless.verdict.EndsMark.{EndsMark}
 use Rattle.cp_verdict.specs.declared.endless.verdict.EndsMark.TheVariants.{TooMany}
@@ -67,23 +68,23 @@ pub record IsKnownAtOnce (r : Tables) (steps : ℕ) (k : KnownEnds) : Type 0 whe
 -- ---- marks
 
 -- who waits can't be asked then, nor what another discipline than the book's leads to
-abbrev pub can_be_at_once : Discipline → List EndsExpectation → Bool
+abbrev pub can_be_at_once : Discipline → List Expectation → Bool
 can_be_at_once discipline es = is_of_the_book discipline && not (ask_waits es)
 
 -- The mark is that of a verdict by what is known, and it is true of the program's own names, whatever the limit of steps.
-pub record IsMarkAtOnce (r : Tables) (steps : ℕ) (es : List EndsExpectation) (m : EndsMark) : Type 0 where
+pub record IsMarkAtOnce (r : Tables) (ps : Processes) (steps : ℕ) (es : List Expectation) (m : EndsMark) : Type 0 where
   pub known : KnownEnds
   pub is_known : IsKnownAtOnce r steps known
   pub verdict : EndsVerdict
   pub is : m ≡ mark_of verdict known.looked
-  pub judged : AreJudged (IsJudgedBy r.names known) es verdict
-  pub meaning : OfItsPrograms r (λ t. IsTrueMark r.names (at_any_limit t) es m)
+  pub judged : AreJudged (IsJudgedBy (with_tables r ps) known) es verdict
+  pub meaning : OfItsPrograms r (λ t. IsTrueMark (with_tables r ps) (at_any_limit t) es m)
 
 -- the mark stands, or there are too many states and kernel calls at once settle more
-abbrev pub IsAgain : Tables → Discipline → ℕ → List EndsExpectation → (before after : EndsMark) → Type 0
-IsAgain r discipline steps es before after = (after ≡ before) ⊎ ((discipline ≡ by_the_book) × IsMarkAtOnce r steps es after)
+abbrev pub IsAgain : Tables → Processes → Discipline → ℕ → List Expectation → (before after : EndsMark) → Type 0
+IsAgain r ps discipline steps es before after = (after ≡ before) ⊎ ((discipline ≡ by_the_book) × IsMarkAtOnce r ps steps es after)
 
 -- It is the mark by all states; or there are too many of them, and it is the mark by kernel calls at once.
-abbrev pub IsMarkInTurn : Tables → Discipline → (steps most : ℕ) → List EndsExpectation → EndsMark → Type 0
-IsMarkInTurn r discipline steps most es m =
-    (IsMarkOf r discipline steps most es m × IsMeantMark r discipline steps es m) ⊎ (IsMarkOf r discipline steps most es TooMany × (discipline ≡ by_the_book) × IsMarkAtOnce r steps es m)
+abbrev pub IsMarkInTurn : Tables → Processes → Discipline → (steps most : ℕ) → List Expectation → EndsMark → Type 0
+IsMarkInTurn r ps discipline steps most es m =
+    (IsMarkOf r ps discipline steps most es m × IsMeantMark r ps discipline steps es m) ⊎ (IsMarkOf r ps discipline steps most es TooMany × (discipline ≡ by_the_book) × IsMarkAtOnce r ps steps es m)

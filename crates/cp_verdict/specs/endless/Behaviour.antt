@@ -1,5 +1,5 @@
 -- What schedules of any length do: how they end, which values they show, and who may wait for ever.
-use Rattle.std.specs.Prelude.{◌⊎◌, ◌<◌, ℕ, List, [], Bool}
+use Rattle.std.specs.Prelude.{◌⊎◌, ◌<◌, ℕ, List, [], Bool, true, false}
 use Rattle.cp_tree.specs.Syntax.{Tree}
 use Rattle.cp_slots.specs.Tables.{Tables}
 use Rattle.cp_machine.specs.declared.discipline.Discipline as slot_discipline
@@ -59,3 +59,10 @@ abbrev pub word_of : Finding → List ℕ
 word_of (Ends end word) = word
 word_of (Shows v word) = word
 word_of (Waits q) = []
+
+-- both are ends, or values, or who waits
+abbrev pub is_same_sort : Finding → Finding → Bool
+is_same_sort (Ends end word) (Ends other w) = true
+is_same_sort (Shows v word) (Shows other w) = true
+is_same_sort (Waits q) (Waits other) = true
+is_same_sort f g = false

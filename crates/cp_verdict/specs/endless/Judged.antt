@@ -1,39 +1,69 @@
 -- What is known of an expectation.
-use Rattle.std.specs.Prelude.{◌≡◌, ◌⊎◌, Bool, true, false, find, Option, None, Some, option_map}
-use Rattle.cp_walk.specs.Text.{Spellings}
+use Rattle.std.specs.Prelude.{◌≡◌, ◌⊎◌, Bool, true, false, not, List, find, map, Option, None, Some, option_map, if◌then◌else◌}
 use Rattle.cp_ends.specs.Firsts.{is_up_to}
-use Rattle.cp_verdict.specs.endless.Behaviour.{Behaviour, Finding, IsSo, word_of}
-use Rattle.cp_verdict.specs.endless.Expectations.{HasSettling, IsTrue, asks_some, settles}
-use Rattle.cp_verdict.specs.endless.Knowledge.{finding_of, is_settled, speaks_of}
-use Rattle.cp_verdict.specs.declared.endless.expectation.EndsExpectation.{EndsExpectation}
+use Rattle.cp_expectation.specs.declared.expectation.Claim.{Claim}
+use Rattle.cp_expectation.specs.declared.expectation.Claim.TheVariants.{Only}
+use Rattle.cp_expectation.specs.declared.expectation.Expectation.{Expectation}
+use Rattle.cp_expectation.specs.declared.expectation.Topic.{Topic}
+use Rattle.cp_verdict.specs.endless.Behaviour.{Behaviour, Finding, IsSo, is_same_sort, word_of}
+use Rattle.cp_verdict.specs.endless.Expectations.{HasSettling, IsTrue, asks_some, is_about, is_against_only, settles}
+use Rattle.cp_verdict.specs.endless.Knowledge.{ended, end_pair, finding_of, is_settled, shown, those_waiting, value_pair, waiting_for_ever}
+use Rattle.cp_verdict.specs.endless.Naming.{Names}
 use Rattle.cp_verdict.specs.declared.endless.judging.EndsJudgement.{EndsJudgement}
 use Rattle.cp_verdict.specs.declared.endless.judging.EndsJudgement.TheVariants.{Holds, Against, Missing, Open}
 use Rattle.cp_verdict.specs.declared.endless.known.KnownEnds.{KnownEnds}
 use Rattle.cp_verdict.specs.declared.endless.known.Witness.{Witness}
 
--- It is so and settles the expectation, and no earlier word does.
-pub record IsFirstOf (names : Spellings) (b : Behaviour) (e : EndsExpectation) (f : Finding) : Type 0 where
+-- It is so and settles the expectation, and no earlier word of its sort does.
+pub record IsFirstOf (names : Names) (b : Behaviour) (e : Expectation) (f : Finding) : Type 0 where
   pub is_so : IsSo b f
   pub settling : settles names e f ≡ true
-  pub first : (g : Finding) → IsSo b g → settles names e g ≡ true → is_up_to (word_of f) (word_of g) ≡ true
+  pub first : (g : Finding) → IsSo b g → settles names e g ≡ true → is_same_sort f g ≡ true → is_up_to (word_of f) (word_of g) ≡ true
+
+-- ---- what is found among what is known
+
+-- of two findings the one with the first word
+abbrev pub earlier_of : Option Finding → Option Finding → Option Finding
+earlier_of None other = other
+earlier_of (Some f) None = Some f
+earlier_of (Some f) (Some g) = if is_up_to (word_of f) (word_of g) then Some f else Some g
+
+abbrev pub or_other : Option Finding → Option Finding → Option Finding
+or_other (Some f) other = Some f
+or_other None other = other
+
+-- the first of which the topics speak: who waits, or else the earlier one of ends and values
+abbrev pub found_about : Names → List Topic → KnownEnds → Option Finding
+found_about names ts k =
+    or_other (find (is_about names ts) (map waiting_for_ever (those_waiting k.waits))) (earlier_of (find (is_about names ts) (map ended (map end_pair k.ends.items))) (find (is_about names ts) (map shown (map value_pair k.values.items))))
+
+abbrev pub found_by : Claim → Names → List Topic → KnownEnds → Option Finding
+found_by Only names ts k = find (is_against_only names ts) (map ended (map end_pair k.ends.items))
+found_by c names ts k = found_about names ts k
+
+-- what is found to settle an expectation
+abbrev pub found_settling : Names → Expectation → KnownEnds → Option Finding
+found_settling names e k = found_by e.claim names e.topics.items k
+
+-- ---- judgements
 
 -- it is true, and nothing that is not known could change that: all is known, or it asks for something that is so
-abbrev pub HoldsOf : Spellings → Behaviour → KnownEnds → EndsExpectation → Type 0
+abbrev pub HoldsOf : Names → Behaviour → KnownEnds → Expectation → Type 0
 HoldsOf names b k e = IsTrue names b e × ((asks_some e ≡ true) ⊎ (is_settled e k ≡ true))
 
 -- it forbids something that is so: first by this word
-abbrev pub IsAgainst : Spellings → Behaviour → EndsExpectation → Finding → Type 0
+abbrev pub IsAgainst : Names → Behaviour → Expectation → Finding → Type 0
 IsAgainst names b e f = (asks_some e ≡ false) × IsFirstOf names b e f
 
 -- it asks for something that is not so, and all is known
-abbrev pub IsMissing : Spellings → Behaviour → KnownEnds → EndsExpectation → Type 0
+abbrev pub IsMissing : Names → Behaviour → KnownEnds → Expectation → Type 0
 IsMissing names b k e = (asks_some e ≡ true) × (HasSettling names b e → ⊥) × (is_settled e k ≡ true)
 
 -- nothing that is known settles it, and not all is known
-abbrev pub IsOpen : Spellings → KnownEnds → EndsExpectation → Type 0
-IsOpen names k e = (find (settles names e) (speaks_of e k) ≡ None) × (is_settled e k ≡ false)
+abbrev pub IsOpen : Names → KnownEnds → Expectation → Type 0
+IsOpen names k e = (found_settling names e k ≡ None) × (is_settled e k ≡ false)
 
-abbrev pub IsJudged : Spellings → Behaviour → KnownEnds → EndsExpectation → EndsJudgement → Type 0
+abbrev pub IsJudged : Names → Behaviour → KnownEnds → Expectation → EndsJudgement → Type 0
 IsJudged names b k e Holds = HoldsOf names b k e
 IsJudged names b k e (Against w) = IsAgainst names b e (finding_of w)
 IsJudged names b k e Missing = IsMissing names b k e
@@ -49,5 +79,5 @@ judgement_of false None true = Holds
 judgement_of false None false = Open
 
 -- it is the judgement by the first that is known to settle it
-abbrev pub IsJudgedBy : Spellings → KnownEnds → EndsExpectation → EndsJudgement → Type 0
-IsJudgedBy names k e j = (found : Option Witness) × (option_map finding_of found ≡ find (settles names e) (speaks_of e k)) × (j ≡ judgement_of (asks_some e) found (is_settled e k))
+abbrev pub IsJudgedBy : Names → KnownEnds → Expectation → EndsJudgement → Type 0
+IsJudgedBy names k e j = (found : Option Witness) × (option_map finding_of found ≡ found_settling names e k) × (j ≡ judgement_of (asks_some e) found (is_settled e k))

@@ -21,10 +21,9 @@ use Rattle.cp_waits.specs.declared.waiting.Waiting.{Waiting}
 use Rattle.cp_verdict.specs.Outputs.{value_text}
 use Rattle.cp_verdict.specs.endless.Behaviour.{Finding, Ends, Shows, Waits, on_slots}
 use Rattle.cp_verdict.specs.endless.Expectations.{is_cut}
-use Rattle.cp_verdict.specs.declared.endless.expectation.Topic.{Topic}
-use Rattle.cp_verdict.specs.declared.endless.expectation.Topic.TheVariants as topic
-use Rattle.cp_verdict.specs.declared.endless.expectation.EndsExpectation.{EndsExpectation}
-use Rattle.cp_verdict.specs.declared.endless.expectation.EndsExpectation.TheVariants.{Never, Sometimes, Only}
+use Rattle.cp_expectation.specs.declared.expectation.Topic.{Topic}
+use Rattle.cp_expectation.specs.declared.expectation.Topic.TheVariants as topic
+use Rattle.cp_expectation.specs.declared.expectation.Expectation.{Expectation}
 use Rattle.cp_verdict.specs.declared.endless.known.KnownEnds.{KnownEnds}
 use Rattle.cp_verdict.specs.declared.endless.known.KnownEnd.{KnownEnd}
 use Rattle.cp_verdict.specs.declared.endless.known.KnownValue.{KnownValue}
@@ -55,17 +54,6 @@ abbrev pub those_waiting : Option (Vec Waiting Global) → List Waiting
 those_waiting None = []
 those_waiting (Some list) = list.items
 
--- what is known of what a topic speaks of
-abbrev pub told_of : Topic → KnownEnds → List Finding
-told_of (topic.Ends ps) k = map ended (map end_pair k.ends.items)
-told_of (topic.Waiting process) k = map waiting_for_ever (those_waiting k.waits)
-told_of (topic.Shown text) k = map shown (map value_pair k.values.items)
-
-abbrev pub speaks_of : EndsExpectation → KnownEnds → List Finding
-speaks_of (Never t) k = told_of t k
-speaks_of (Sometimes t) k = told_of t k
-speaks_of (Only ps) k = map ended (map end_pair k.ends.items)
-
 -- ---- whether it is all
 
 -- all schedules were looked at, and no stretch was cut
@@ -74,15 +62,13 @@ is_whole k = is_none k.looked && list_all (λ e. not (is_cut e.end)) k.ends.item
 
 -- all is kept that a topic speaks of
 abbrev pub is_kept : Topic → KnownEnds → Bool
-is_kept (topic.Ends ps) k = true
+is_kept (topic.End end output) k = true
 is_kept (topic.Waiting process) k = is_some k.waits
 is_kept (topic.Shown text) k = nat_le (vec_len k.values) MOST_VALUES
 
 -- what is not known is not so
-abbrev pub is_settled : EndsExpectation → KnownEnds → Bool
-is_settled (Never t) k = is_kept t k && is_whole k
-is_settled (Sometimes t) k = is_kept t k && is_whole k
-is_settled (Only ps) k = is_whole k
+abbrev pub is_settled : Expectation → KnownEnds → Bool
+is_settled e k = is_whole k && list_all (λ t. is_kept t k) e.topics.items
 
 -- ---- that it is so
 

@@ -3,14 +3,15 @@
 ghost use Rattle.std.specs.Prelude.{◌≡◌, ◌≤◌, ◌⊎◌, IfOk, false, true};
 ghost use Rattle.cp_verdict.specs.endless.AtOnce as spec;
 ghost use Rattle.cp_verdict.specs.endless.Marked.{can_be_asked};
+ghost use Rattle.cp_verdict.specs.endless.Naming.{processes_of};
 ghost use Rattle.cp_verdict.specs.declared.endless.verdict.EndsMark.TheVariants.{Misread};
 
-use crate::endless::expectation::EndsExpectation;
 use crate::endless::knowing_at_once::knowledge_at_once;
 use crate::endless::marking::{MarkSubject, ask_waits, mark_list, tell};
 use crate::endless::saying::MarkedEnds;
 use crate::endless::verdict::{EndsMark, verdict_on};
 use cp_at_once::search_at_once_with;
+use cp_expectation::Expectation;
 use cp_machine::Discipline;
 use cp_progress::ObserveProgress;
 use cp_run::Job;
@@ -21,10 +22,10 @@ use std::alloc::{AllocError, Global};
 pub fn mark_in_turn<O: ObserveProgress>(
     alloc: Global,
     subject: MarkSubject<'_>,
-    list: &[EndsExpectation],
+    list: &[Expectation],
     observer: &mut O,
 ) -> Result<MarkedEnds, AllocError>
-    ensures mark { 1 ≤ subject.entry.most → can_be_asked subject.entry.limits.discipline list.now ≡ true → IfOk result (λ m. spec.IsMarkInTurn subject.entry.program.now subject.entry.limits.discipline subject.entry.limits.steps subject.entry.most list.now m.mark) }
+    ensures mark { 1 ≤ subject.entry.most → can_be_asked subject.entry.limits.discipline list.now ≡ true → IfOk result (λ m. spec.IsMarkInTurn subject.entry.program.now (processes_of subject.entry.legend.now) subject.entry.limits.discipline subject.entry.limits.steps subject.entry.most list.now m.mark) }
     ensures refused { can_be_asked subject.entry.limits.discipline list.now ≡ false → IfOk result (λ m. m.mark ≡ Misread) }
 {
     let marked = mark_list(alloc, subject, list, observer)?;
@@ -38,11 +39,11 @@ pub fn mark_in_turn<O: ObserveProgress>(
 fn mark_again<O: ObserveProgress>(
     alloc: Global,
     subject: MarkSubject<'_>,
-    list: &[EndsExpectation],
+    list: &[Expectation],
     marked: MarkedEnds,
     observer: &mut O,
 ) -> Result<MarkedEnds, AllocError>
-    ensures { IfOk result (λ m. spec.IsAgain subject.entry.program.now subject.entry.limits.discipline subject.entry.limits.steps list.now marked.mark m.mark) }
+    ensures { IfOk result (λ m. spec.IsAgain subject.entry.program.now (processes_of subject.entry.legend.now) subject.entry.limits.discipline subject.entry.limits.steps list.now marked.mark m.mark) }
 {
     if can_be_at_once(subject.limits.discipline, list) {
         let again = mark_at_once(alloc, subject, list, observer)?;
@@ -74,7 +75,7 @@ fn tell_again(
 }
 
 // Whether kernel calls at once can settle it: not who waits, and under the book's discipline alone.
-fn can_be_at_once(discipline: Discipline, list: &[EndsExpectation]) -> bool
+fn can_be_at_once(discipline: Discipline, list: &[Expectation]) -> bool
     ensures { result ≡ spec.can_be_at_once discipline list.now }
 {
     discipline.is_of_the_book() && !ask_waits(list)
@@ -84,10 +85,10 @@ fn can_be_at_once(discipline: Discipline, list: &[EndsExpectation]) -> bool
 pub fn mark_at_once<O: ObserveProgress>(
     alloc: Global,
     subject: MarkSubject<'_>,
-    list: &[EndsExpectation],
+    list: &[Expectation],
     observer: &mut O,
 ) -> Result<MarkedEnds, AllocError>
-    ensures mark { spec.can_be_at_once subject.entry.limits.discipline list.now ≡ true → IfOk result (λ m. spec.IsMarkAtOnce subject.entry.program.now subject.entry.limits.steps list.now m.mark) }
+    ensures mark { spec.can_be_at_once subject.entry.limits.discipline list.now ≡ true → IfOk result (λ m. spec.IsMarkAtOnce subject.entry.program.now (processes_of subject.entry.legend.now) subject.entry.limits.steps list.now m.mark) }
     ensures refused { spec.can_be_at_once subject.entry.limits.discipline list.now ≡ false → IfOk result (λ m. m.mark ≡ Misread) }
 {
     if !can_be_at_once(subject.limits.discipline, list) {
@@ -101,6 +102,6 @@ pub fn mark_at_once<O: ObserveProgress>(
     } = subject;
     let found = search_at_once_with(alloc, &Job { program, limits }, most, observer)?;
     let known = knowledge_at_once(alloc, program, &found)?;
-    let verdict = verdict_on(&known, list);
+    let verdict = verdict_on(subject.legend, &known, list);
     tell(alloc, subject, &known, list, verdict, true)
 }

@@ -8,13 +8,14 @@ ghost use Rattle.cp_ends.specs.declared.found.Found.{Found};
 ghost use Rattle.cp_waits.specs.Named.{TellAsked};
 ghost use Rattle.cp_verdict.specs.endless.Knowledge.{IsKnown, KnowsWaits};
 ghost use Rattle.cp_verdict.specs.endless.Marked as spec;
+ghost use Rattle.cp_verdict.specs.endless.Naming.{processes_of};
 ghost use Rattle.cp_verdict.specs.declared.endless.verdict.EndsMark.TheVariants.{Misread};
 
-use crate::endless::expectation::{EndsExpectation, Topic};
 use crate::endless::knowing::knowledge_of;
 use crate::endless::known::KnownEnds;
 use crate::endless::saying::{MarkedEnds, note_on, open_words, sayings_of};
 use crate::endless::verdict::{EndsVerdict, mark_of, verdict_on};
+use cp_expectation::{Expectation, Topic};
 use cp_legend::Legend;
 use cp_machine::{Discipline, Gates};
 use cp_progress::ObserveProgress;
@@ -36,19 +37,19 @@ pub struct MarkSubject<'a> {
 pub fn mark_list<O: ObserveProgress>(
     alloc: Global,
     subject: MarkSubject<'_>,
-    list: &[EndsExpectation],
+    list: &[Expectation],
     observer: &mut O,
 ) -> Result<MarkedEnds, AllocError>
-    ensures mark { 1 ≤ subject.entry.most → spec.can_be_asked subject.entry.limits.discipline list.now ≡ true → IfOk result (λ m. spec.IsMarkOf subject.entry.program.now subject.entry.limits.discipline subject.entry.limits.steps subject.entry.most list.now m.mark) }
+    ensures mark { 1 ≤ subject.entry.most → spec.can_be_asked subject.entry.limits.discipline list.now ≡ true → IfOk result (λ m. spec.IsMarkOf subject.entry.program.now (processes_of subject.entry.legend.now) subject.entry.limits.discipline subject.entry.limits.steps subject.entry.most list.now m.mark) }
     ensures refused { spec.can_be_asked subject.entry.limits.discipline list.now ≡ false → IfOk result (λ m. m.mark ≡ Misread) }
-    ensures meaning { 1 ≤ subject.entry.most → spec.can_be_asked subject.entry.limits.discipline list.now ≡ true → IfOk result (λ m. spec.IsMeantMark subject.entry.program.now subject.entry.limits.discipline subject.entry.limits.steps list.now m.mark) }
+    ensures meaning { 1 ≤ subject.entry.most → spec.can_be_asked subject.entry.limits.discipline list.now ≡ true → IfOk result (λ m. spec.IsMeantMark subject.entry.program.now (processes_of subject.entry.legend.now) subject.entry.limits.discipline subject.entry.limits.steps list.now m.mark) }
 {
     let asks = ask_waits(list);
     if asks && is_any(subject.limits.discipline) {
         return MarkedEnds::misread(alloc, "waiting can't be asked with --gates any\n");
     }
     let known = knowledge(alloc, subject, asks, observer)?;
-    let verdict = verdict_on(&known, list);
+    let verdict = verdict_on(subject.legend, &known, list);
     tell(alloc, subject, &known, list, verdict, false)
 }
 
@@ -65,18 +66,14 @@ fn is_of_waiting(topic: &Topic) -> bool
     matches!(topic, Topic::Waiting(_))
 }
 
-fn asks_waits(expectation: &EndsExpectation) -> bool
+fn asks_waits(expectation: &Expectation) -> bool
     ensures { result ≡ spec.asks_waits expectation.now }
 {
-    match expectation {
-        EndsExpectation::Never(topic) => is_of_waiting(topic),
-        EndsExpectation::Sometimes(topic) => is_of_waiting(topic),
-        EndsExpectation::Only(_) => false,
-    }
+    expectation.topics.iter().any(is_of_waiting)
 }
 
 /// Whether one of some expectations asks who waits.
-pub fn ask_waits(list: &[EndsExpectation]) -> bool
+pub fn ask_waits(list: &[Expectation]) -> bool
     ensures { result ≡ spec.ask_waits list.now }
 {
     list.iter().any(asks_waits)
@@ -125,7 +122,7 @@ pub fn tell(
     alloc: Global,
     subject: MarkSubject<'_>,
     known: &KnownEnds,
-    list: &[EndsExpectation],
+    list: &[Expectation],
     verdict: EndsVerdict<'_>,
     at_once: bool,
 ) -> Result<MarkedEnds, AllocError>

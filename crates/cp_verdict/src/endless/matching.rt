@@ -1,29 +1,95 @@
-//! Which ends and values an expectation speaks of.
+//! Which ends, values and processes an expectation speaks of.
 
 ghost use Rattle.std.specs.Prelude.{◌≡◌};
+ghost use Rattle.cp_ends.specs.declared.end.End.TheVariants.{Alone, Spins};
 ghost use Rattle.cp_verdict.specs.endless.Expectations as spec;
+ghost use Rattle.cp_verdict.specs.endless.Naming.{processes_of};
 
-use crate::endless::expectation::EndPattern;
+use crate::endless::process::is_meant;
 use crate::matching::is_of_kind;
 use cp_ends::End;
+use cp_expectation::{EndPattern, Topic};
+use cp_legend::Legend;
 use cp_run::OutcomeKind;
 
-fn is_of(pattern: EndPattern, end: End) -> bool
-    ensures { result ≡ spec.is_of pattern end }
+fn is_of(legend: &Legend, pattern: &EndPattern, end: End) -> bool
+    ensures { result ≡ spec.is_of (processes_of legend.now) pattern.now end }
 {
-    match (pattern, end) {
-        (EndPattern::Kind(wanted), End::Over(kind)) => is_of_kind(wanted, kind),
-        (EndPattern::Alone, End::Alone(_)) => true,
-        (EndPattern::Spins, End::Spins(_)) => true,
+    match end {
+        End::Over(kind) => is_of_kind(pattern, kind),
+        End::Alone(process) => names_alone(legend, pattern, process),
+        End::Spins(process) => names_spinning(legend, pattern, process),
+    }
+}
+
+// Whether a pattern speaks of this process that goes on alone.
+fn names_alone(legend: &Legend, pattern: &EndPattern, process: u8) -> bool
+    ensures { result ≡ spec.is_of (processes_of legend.now) pattern.now (Alone process) }
+{
+    match pattern {
+        EndPattern::Alone(name) => is_meant(legend, name, process),
         _ => false,
     }
 }
 
-/// Whether an end is of one of these kinds.
-pub fn is_named(patterns: &[EndPattern], end: End) -> bool
-    ensures { result ≡ spec.is_named patterns.now end }
+// The same of one that goes on without a call.
+fn names_spinning(legend: &Legend, pattern: &EndPattern, process: u8) -> bool
+    ensures { result ≡ spec.is_of (processes_of legend.now) pattern.now (Spins process) }
 {
-    patterns.iter().any(|pattern| is_of(*pattern, end))
+    match pattern {
+        EndPattern::Spins(name) => is_meant(legend, name, process),
+        _ => false,
+    }
+}
+
+fn names_end(legend: &Legend, topic: &Topic, end: End) -> bool
+    ensures { result ≡ spec.names_end (processes_of legend.now) topic.now end }
+{
+    match topic {
+        Topic::End { end: pattern, .. } => is_of(legend, pattern, end),
+        _ => false,
+    }
+}
+
+/// Whether one of the topics speaks of an end.
+pub fn is_named(legend: &Legend, topics: &[Topic], end: End) -> bool
+    ensures { result ≡ spec.is_named (processes_of legend.now) topics.now end }
+{
+    topics.iter().any(|topic| names_end(legend, topic, end))
+}
+
+fn names_value(topic: &Topic, text: &str) -> bool
+    ensures { result ≡ spec.names_value topic.now text.now }
+{
+    match topic {
+        Topic::Shown(wanted) => wanted.as_str() == text,
+        _ => false,
+    }
+}
+
+/// Whether one of the topics speaks of the value that is printed so.
+pub fn is_value_named(topics: &[Topic], text: &str) -> bool
+    ensures { result ≡ spec.is_value_named topics.now text.now }
+{
+    topics.iter().any(|topic| names_value(topic, text))
+}
+
+fn names_waiting(legend: &Legend, topic: &Topic, process: u8) -> bool
+    ensures { result ≡ spec.names_waiting (processes_of legend.now) topic.now process }
+{
+    match topic {
+        Topic::Waiting(name) => is_meant(legend, name, process),
+        _ => false,
+    }
+}
+
+/// Whether one of the topics speaks of a process that waits for ever.
+pub fn is_waiting_named(legend: &Legend, topics: &[Topic], process: u8) -> bool
+    ensures { result ≡ spec.is_waiting_named (processes_of legend.now) topics.now process }
+{
+    topics
+        .iter()
+        .any(|topic| names_waiting(legend, topic, process))
 }
 
 /// Whether a stretch was cut by the limit of steps: this is no end.
@@ -31,14 +97,4 @@ pub fn is_cut(end: End) -> bool
     ensures { result ≡ spec.is_cut end }
 {
     matches!(end, End::Over(OutcomeKind::StepLimit))
-}
-
-/// Whether a process is meant.
-pub fn is_meant(wanted: Option<u8>, process: u8) -> bool
-    ensures { result ≡ spec.is_meant wanted process }
-{
-    match wanted {
-        Some(wanted) => process == wanted,
-        None => true,
-    }
 }

@@ -3,12 +3,12 @@
 ghost use Rattle.std.specs.Prelude.{◌≡◌, IfOk};
 ghost use Rattle.cp_verdict.specs.declared.endless.verdict.EndsMark.TheVariants.{Misread};
 
-use crate::endless::expectation::EndsExpectation;
 use crate::endless::judging::{EndsJudgement, is_whole, judge};
 use crate::endless::known::KnownEnds;
 use crate::endless::verdict::EndsMark;
-use crate::endless::words::{missing_words, push_expectation, push_witness};
+use crate::endless::words::{missing_words, push_witness};
 use crate::marking::Standing;
+use cp_expectation::{Expectation, push_expectation};
 use cp_legend::Legend;
 use std::alloc::{AllocError, Global};
 
@@ -91,7 +91,7 @@ pub fn sayings_of(
     alloc: Global,
     legend: &Legend,
     known: &KnownEnds,
-    list: &[EndsExpectation],
+    list: &[Expectation],
     before: &str,
     open: &str,
 ) -> Result<Vec<Said>, AllocError> {
@@ -106,12 +106,12 @@ fn saying_of(
     alloc: Global,
     legend: &Legend,
     known: &KnownEnds,
-    expectation: &EndsExpectation,
+    expectation: &Expectation,
     before: &str,
     open: &str,
 ) -> Result<Said, AllocError> {
     let mut reason = String::new(alloc);
-    let standing = match judge(known, expectation) {
+    let standing = match judge(legend, known, expectation) {
         EndsJudgement::Holds => Standing::Holds,
         EndsJudgement::Against(witness) => {
             reason.push_str(before)?;
@@ -128,7 +128,7 @@ fn saying_of(
         }
     };
     let mut text = String::new(alloc);
-    push_expectation(legend, &mut text, expectation)?;
+    push_expectation(&mut text, expectation)?;
     Ok(Said {
         expectation: text,
         standing,

@@ -8,10 +8,12 @@ ghost use Rattle.cp_walk.specs.Text.{Spellings};
 ghost use Rattle.cp_verdict.specs.endless.Judged.{IsJudgedBy};
 ghost use Rattle.cp_verdict.specs.endless.Knowledge.{HasTexts, IsKnown};
 ghost use Rattle.cp_verdict.specs.endless.Marked as spec;
+ghost use Rattle.cp_verdict.specs.endless.Naming.{processes_of};
 
-use crate::endless::expectation::EndsExpectation;
 use crate::endless::judging::{EndsJudgement, judge};
 use crate::endless::known::{KnownEnds, Witness};
+use cp_expectation::Expectation;
+use cp_legend::Legend;
 
 /// What is said of some expectations together.
 #[derive(Clone, Copy, PartialEq, Eq)]
@@ -33,19 +35,19 @@ pub enum EndsVerdict<'a> {
     Holds,
     /// This one does not hold; with the first schedule against it, or none where it asks for one that there is not.
     Fails {
-        expectation: &'a EndsExpectation,
+        expectation: &'a Expectation,
         against: Option<Witness<'a>>,
     },
     /// None of them fails, and this is the first that is not settled.
     Open {
-        expectation: &'a EndsExpectation,
+        expectation: &'a Expectation,
     },
 }
 
 /// The verdict on some expectations and one more.
 fn join<'a>(
     verdict: EndsVerdict<'a>,
-    expectation: &'a EndsExpectation,
+    expectation: &'a Expectation,
     judgement: EndsJudgement<'a>,
 ) -> EndsVerdict<'a>
     ensures { result ≡ spec.joined verdict.entry expectation.entry judgement.entry }
@@ -66,13 +68,17 @@ fn join<'a>(
 }
 
 /// What is known of some expectations together.
-pub fn verdict_on<'a>(known: &'a KnownEnds, list: &'a [EndsExpectation]) -> EndsVerdict<'a>
-    ensures slots { (r : Tables) (discipline : Discipline) (steps most : ℕ) → IsKnown r discipline steps most known.entry.now → spec.IsMarked r.names (on_slots r discipline steps) known.entry.now list.entry.now result }
-    ensures known { (names : Spellings) → HasTexts names known.entry.now.values.items → spec.AreJudged (IsJudgedBy names known.entry.now) list.entry.now result }
+pub fn verdict_on<'a>(
+    legend: &Legend,
+    known: &'a KnownEnds,
+    list: &'a [Expectation],
+) -> EndsVerdict<'a>
+    ensures slots { (r : Tables) (discipline : Discipline) (steps most : ℕ) → IsKnown r discipline steps most known.entry.now → spec.IsMarked (spec.with_tables r (processes_of legend.now)) (on_slots r discipline steps) known.entry.now list.entry.now result }
+    ensures known { (values : Spellings) → HasTexts values known.entry.now.values.items → spec.AreJudged (IsJudgedBy (record { values = values; processes = processes_of legend.now }) known.entry.now) list.entry.now result }
 {
     let mut verdict = EndsVerdict::Holds;
     for expectation in list {
-        verdict = join(verdict, expectation, judge(known, expectation));
+        verdict = join(verdict, expectation, judge(legend, known, expectation));
     }
     verdict
 }

@@ -1,70 +1,12 @@
 //! Expectations and what is said of them, in words.
 
-use crate::endless::expectation::{EndPattern, EndsExpectation, Topic};
 use crate::endless::known::Witness;
-use crate::endless::reading::WantedEndsWord;
-use crate::vocabulary::as_name;
-use crate::words::{found_text, push_doubt, push_kind, push_value};
 use cp_ends::report::push_end;
+use cp_expectation::{Expectation, Topic};
 use cp_legend::Legend;
 use cp_waits::{How, Waiting};
 use cp_walk::text::push_word;
-use std::alloc::{AllocError, Global};
-
-/// Appends an expectation as it is written.
-pub fn push_expectation(
-    legend: &Legend,
-    text: &mut String,
-    expectation: &EndsExpectation,
-) -> Result<(), AllocError> {
-    match expectation {
-        EndsExpectation::Never(topic) => {
-            text.push_str("never ")?;
-            push_topic(legend, text, topic)
-        }
-        EndsExpectation::Sometimes(topic) => {
-            text.push_str("some ")?;
-            push_topic(legend, text, topic)
-        }
-        EndsExpectation::Only(patterns) => {
-            text.push_str("only ")?;
-            push_patterns(text, patterns)
-        }
-    }
-}
-
-fn push_topic(legend: &Legend, text: &mut String, topic: &Topic) -> Result<(), AllocError> {
-    match topic {
-        Topic::Ends(patterns) => push_patterns(text, patterns),
-        Topic::Waiting(None) => text.push_str("waiting"),
-        Topic::Waiting(Some(process)) => {
-            text.push_str("waiting ")?;
-            text.push_str(legend.process_name(*process))
-        }
-        Topic::Shown(value) => {
-            text.push_str("shown ")?;
-            push_value(text, value.as_str())
-        }
-    }
-}
-
-fn push_patterns(text: &mut String, patterns: &[EndPattern]) -> Result<(), AllocError> {
-    let mut before = "";
-    for pattern in patterns {
-        text.push_str(before)?;
-        push_pattern(text, *pattern)?;
-        before = " or ";
-    }
-    Ok(())
-}
-
-fn push_pattern(text: &mut String, pattern: EndPattern) -> Result<(), AllocError> {
-    match pattern {
-        EndPattern::Kind(kind) => push_kind(text, kind),
-        EndPattern::Alone => text.push_str("alone"),
-        EndPattern::Spins => text.push_str("spins"),
-    }
-}
+use std::alloc::AllocError;
 
 /// Appends a schedule and what it shows.
 pub fn push_witness(
@@ -101,56 +43,45 @@ fn push_waiting(legend: &Legend, text: &mut String, waiting: &Waiting) -> Result
     })
 }
 
+// What schedules that an expectation asks for would be.
+#[derive(Clone, Copy, PartialEq, Eq)]
+enum Missed {
+    Ends,
+    Values,
+    Waiting,
+    /// Of different sorts.
+    Any,
+}
+
+fn missed_of(topic: &Topic) -> Missed {
+    match topic {
+        Topic::End { .. } => Missed::Ends,
+        Topic::Shown(_) => Missed::Values,
+        Topic::Waiting(_) => Missed::Waiting,
+    }
+}
+
+fn missed_by(topics: &[Topic]) -> Missed {
+    let Some((first, others)) = topics.split_first() else {
+        return Missed::Any;
+    };
+    let missed = missed_of(first);
+    if others.iter().all(|topic| missed_of(topic) == missed) {
+        missed
+    } else {
+        Missed::Any
+    }
+}
+
 /// What is said where no schedule is as an expectation asks.
-pub fn missing_words(expectation: &EndsExpectation) -> &'static str {
-    match expectation {
-        EndsExpectation::Sometimes(Topic::Waiting(None)) => "nobody may wait for ever",
-        EndsExpectation::Sometimes(Topic::Waiting(Some(_))) => "it may not wait for ever",
-        EndsExpectation::Sometimes(Topic::Shown(_)) => "no schedule of any length displays it",
-        _ => "no schedule of any length ends so",
-    }
-}
-
-fn wanted_words(wanted: WantedEndsWord) -> &'static str {
-    match wanted {
-        WantedEndsWord::Claim => "never, some or only",
-        WantedEndsWord::Topic => "finished, all-waiting, run-error, alone, spins, waiting or shown",
-        WantedEndsWord::End => "finished, all-waiting, run-error, alone or spins",
-        WantedEndsWord::Value => "a value",
-        WantedEndsWord::Process => "the number or the name of a process, or and",
-        WantedEndsWord::And => "and",
-        WantedEndsWord::Joint => "and, or, finished, all-waiting, run-error, alone or spins",
-    }
-}
-
-/// What is said of a text that has no expectations: what was found, and what was wanted there.
-pub fn misread_text(
-    alloc: Global,
-    text: &str,
-    wanted: WantedEndsWord,
-    place: usize,
-) -> Result<String, AllocError> {
-    let word = text.split_whitespace().nth(place);
-    let mut said = found_text(alloc, wanted_words(wanted), word)?;
-    if let Some(word) = word {
-        push_advice(&mut said, wanted, word)?;
-    }
-    Ok(said)
-}
-
-// What can't be asked of schedules of any length, where the word asks for it.
-fn push_advice(text: &mut String, wanted: WantedEndsWord, word: &str) -> Result<(), AllocError> {
-    match wanted {
-        WantedEndsWord::Value => match as_name(word) {
-            Some(name) => push_doubt(text, name),
-            None => Ok(()),
+pub fn missing_words(expectation: &Expectation) -> &'static str {
+    match missed_by(&expectation.topics) {
+        Missed::Ends => "no schedule of any length ends so",
+        Missed::Values => "no schedule of any length displays it",
+        Missed::Waiting => match expectation.topics.first() {
+            Some(Topic::Waiting(None)) => "nobody may wait for ever",
+            _ => "it may not wait for ever",
         },
-        WantedEndsWord::Joint if word == "output" => text.push_str(
-            "outputs can't be asked with --ends\n",
-        ),
-        WantedEndsWord::End | WantedEndsWord::Joint if word == "shown" => text.push_str(
-            "with --ends it can be asked whether one value is never shown, or in some schedule\n",
-        ),
-        _ => Ok(()),
+        Missed::Any => "no schedule of any length is so",
     }
 }

@@ -1,7 +1,7 @@
 use Rattle.std.proofs.Common.{◌∙◌, ap, codes}
 use Rattle.serde_json.specs.Data.{object}
 use Rattle.cp_story.specs.Objects.{members_in, text_data}
-use Rattle.cp_verdict.specs.Written.{expectation_text}
+use Rattle.cp_expectation.specs.Written.{expectation_text}
 use Rattle.cp_show_mark.specs.MarkData.{judged_data, said_members, shown_members}
 use Rattle.cp_show_mark.specs.MarkText.{reason_text, setting_of, verdict_text}
 use Rattle.cp_show_mark.proofs.Gathered.{judged_parts}

@@ -1,11 +1,15 @@
-use Rattle.cp_verdict.proofs.any_length.Telling.{ends_told, values_told, waits_told}
+use Rattle.cp_verdict.proofs.any_length.Vocabulary.{◌∙◌, ap, find, string_bytes}
+use Rattle.cp_verdict.specs.endless.Expectations.{is_named, is_value_named}
+use Rattle.cp_verdict.specs.endless.Naming.{processes_of}
+use Rattle.cp_verdict.proofs.any_length.Telling.{waiting_told, word_told}
 use Rattle.cp_verdict.proofs.endless.judging.first_about.Goals as goal
 
-pub returns-in-Ends : goal.returns-in-Ends
-returns-in-Ends c = λ names texts. ends_told names c.args.known.now c.end_witness.result c.args.topic.now c.in-Ends.patterns c.deref-in-Ends.result.now c.deref.result.now c.first_named.result c.in-Ends.is c.deref.ensures.value c.deref-in-Ends.ensures.value c.first_named.ensures c.end_witness.ensures
-
 pub returns-in-Some : goal.returns-in-Some
-returns-in-Some c = λ names texts. waits_told names c.args.known.now c.waiting_witness.result c.args.topic.now c.in-Waiting.process c.in-Some.list c.deref-in-Some.result.now c.first_waiting.result c.in-Waiting.is c.in-Some.is c.deref-in-Some.ensures.value c.first_waiting.ensures c.waiting_witness.ensures
+returns-in-Some c = λ values texts. waiting_told (record { values = values; processes = processes_of c.args.legend.now }) c.args.topics.now c.args.known.now c.first_waiting.result c.in-Some.waiting c.in-Some.is c.first_waiting.ensures
 
-pub returns-in-Shown : goal.returns-in-Shown
-returns-in-Shown c = λ names texts. values_told names c.args.known.now c.value_witness.result c.args.topic.now c.in-Shown.text c.as_str.result.now c.deref-in-Shown.result.now c.first_shown.result c.in-Shown.is c.deref-in-Shown.ensures.value c.as_str.ensures.value texts c.first_shown.ensures c.value_witness.ensures
+pub returns : goal.returns
+returns c = λ values texts.
+    (let ps = processes_of c.args.legend.now in
+    let ts = c.args.topics.now in
+    word_told (record { values = values; processes = ps }) ts c.args.known.now c.first_waiting.result c.first_named.result c.first_shown.result c.earlier.result texts c.in_default.is c.first_waiting.ensures
+    (c.first_named.ensures ∙ ap (find (λ e. is_named ps ts e.end)) c.deref.ensures.value) (c.first_shown.ensures ∙ ap (find (λ v. is_value_named ts (string_bytes v.text))) c.deref-2.ensures.value) c.earlier.ensures)

@@ -1,4 +1,5 @@
 use Rattle.cp_verdict.specs.endless.Knowledge.{IsKnown}
+use Rattle.cp_verdict.specs.endless.Naming.{processes_of}
 use Rattle.cp_verdict.proofs.any_length.MarkSo.{marked_so, meant_so}
 use Rattle.cp_verdict.proofs.endless.marking.mark_list.Goals as goal
 
@@ -10,7 +11,7 @@ returns-clause-mark g c = λ some can.
     let most = c.args.subject.most in
     let k = c.in_ok-known.known in
     let is_known : IsKnown r discipline steps most k = c.in_ok-known.ensures some in
-    marked_so r discipline steps most c.args.list.now k is_known c.verdict_on-verdict.result (c.verdict_on-verdict.ensures.slots r discipline steps most is_known) c.tell.result c.tell.ensures
+    marked_so r (processes_of c.args.subject.legend.now) discipline steps most c.args.list.now k is_known c.verdict_on-verdict.result (c.verdict_on-verdict.ensures.slots r discipline steps most is_known) c.tell.result c.tell.ensures
 
 pub returns-clause-meaning : goal.returns-clause-meaning
 returns-clause-meaning g c = λ some can.
@@ -20,4 +21,4 @@ returns-clause-meaning g c = λ some can.
     let most = c.args.subject.most in
     let k = c.in_ok-known.known in
     let is_known : IsKnown r discipline steps most k = c.in_ok-known.ensures some in
-    meant_so r discipline steps most c.args.list.now k is_known c.verdict_on-verdict.result (c.verdict_on-verdict.ensures.slots r discipline steps most is_known) c.tell.result c.tell.ensures
+    meant_so r (processes_of c.args.subject.legend.now) discipline steps most c.args.list.now k is_known c.verdict_on-verdict.result (c.verdict_on-verdict.ensures.slots r discipline steps most is_known) c.tell.result c.tell.ensures

@@ -1,0 +1,10 @@
+pub mod Characters
+pub mod Cutting
+pub mod Fronts
+pub mod Integers
+pub mod Read
+pub mod Spelled
+pub mod Stopping
+pub mod Valued
+pub mod Walking
+pub mod Written

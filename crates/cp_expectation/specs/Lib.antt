@@ -1,0 +1,10 @@
+pub mod Misread
+pub mod Objections
+pub mod Plain
+pub mod Readable
+pub mod Reader
+pub mod Spelling
+pub mod Steps
+pub mod Values
+pub mod Words
+pub mod Written

@@ -1,5 +1,0 @@
-use Rattle.cp_verdict.proofs.Spelled.{same_spelled}
-use Rattle.cp_verdict.proofs.laws.law_spelling.Goals as goal
-
-pub returns : goal.returns
-returns c = same_spelled
