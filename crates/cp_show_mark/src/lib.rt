@@ -14,5 +14,5 @@ pub mod stories;
 
 pub use answer::{ShowAnswer, ShowVerdict};
 pub use examinee::Examinee;
-pub use marks::{mark_answer, mark_asked};
+pub use marks::mark_answer;
 pub use stories::story_of;

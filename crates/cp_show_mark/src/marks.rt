@@ -133,8 +133,8 @@ fn mark_by<O: ObserveProgress>(
     }
 }
 
-/// What is said by expectations as they are read: that one can't be asked, or is of no such program; or their mark.
-pub fn mark_asked<O: ObserveProgress>(
+// What is said by expectations as they are read: that one can't be asked, or is of no such program; or their mark.
+fn mark_asked<O: ObserveProgress>(
     alloc: Global,
     examinee: Examinee<'_>,
     observer: &mut O,
@@ -212,7 +212,7 @@ fn ends_verdict_of(mark: EndsMark) -> ShowVerdict
     }
 }
 
-/// What the table within the limits of the options says of the expectations.
+// What the table within the limits of the options says of the expectations.
 fn mark_of<O: ObserveProgress>(
     alloc: Global,
     examinee: Examinee<'_>,

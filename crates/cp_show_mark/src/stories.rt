@@ -9,14 +9,12 @@ ghost use Rattle.cp_show_mark.specs.Stories.{IsStoryOf};
 
 use crate::examinee::Examinee;
 use cp_legend::Legend;
-use cp_machine::Ticks;
+use cp_machine::Uncounted;
 use cp_run::Job;
 use cp_slots::Resolved;
 use cp_story::{Story, Wait, tell};
 use cp_tool::Options;
 use std::alloc::{AllocError, Global};
-use std::marker::Brand;
-use std::sync::ledger::{Blank, Ledger};
 
 /// The story of a word.
 pub fn story_of(
@@ -30,25 +28,6 @@ pub fn story_of(
     ensures used { IfOk result (λ story. UsedWithin story.end (length word.now)) }
     ensures so { IfOk result (λ story. IsStoryOf (legend_seen legend.now) program.now options.now.discipline options.now.choices options.now.steps word.now story) }
 {
-    story_by::<Brand>(alloc, options, program, legend, word, Blank::new(1))
-}
-
-fn story_by<L: Ledger>(
-    alloc: Global,
-    options: &Options,
-    program: &Resolved,
-    legend: &Legend,
-    word: &[u8],
-    blank: Blank,
-) -> Result<Story, AllocError>
-    requires name { blank.name ≡ L.name }
-    requires parts { blank.parts ≡ L.parts }
-    requires one { L.parts ≡ 1 }
-    requires word { length word.now ≤ 100 }
-    ensures used { IfOk result (λ story. UsedWithin story.end (length word.now)) }
-    ensures so { IfOk result (λ story. IsStoryOf (legend_seen legend.now) program.now options.now.discipline options.now.choices options.now.steps word.now story) }
-{
-    let mut ticks: Ticks<L> = Ticks::new(blank);
     tell(
         alloc,
         &Job {
@@ -57,7 +36,7 @@ fn story_by<L: Ledger>(
         },
         legend,
         word,
-        &mut ticks,
+        &mut Uncounted,
     )
 }
 

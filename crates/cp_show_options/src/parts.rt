@@ -9,7 +9,6 @@ use crate::faults::{USUAL_STATES, choice_fault, extent_of, page_states};
 use crate::words::{shared_words, texts_of, words_given};
 use clap::ArgMatches;
 use clap::error::ErrorKind;
-use cp_expectation::{Misread, Reading, expectations};
 use cp_lanes::{PictureView, SheetExtent};
 use cp_tool::{
     OptionFault, Options, SourceReading, asks_version, read_options, reason_for, word_reason,
@@ -52,8 +51,6 @@ pub enum ShowPart {
     /// Whether the expectations of these words hold, as lines or as JSON; with no words, or where they are asked for, those of the source.
     Mark {
         words: String,
-        /// What the words are read to expect, where that alone is to be marked by schedules of so many choices.
-        reading: Option<Reading>,
         own: bool,
         json: bool,
     },
@@ -129,7 +126,11 @@ fn part_of(alloc: Global, name: &str, matches: &ArgMatches<'_>) -> Result<ShowPa
             json,
             file: file_of(alloc, matches)?,
         },
-        "mark" => return mark_part(alloc, matches),
+        "mark" => ShowPart::Mark {
+            words: words_given(alloc, matches)?,
+            own: matches.get_flag("own"),
+            json,
+        },
         _ => return Err(OptionFault::Refused),
     })
 }
@@ -138,35 +139,6 @@ fn view_of(matches: &ArgMatches<'_>) -> PictureView {
     PictureView {
         extent: extent_of(matches).unwrap_or(SheetExtent::All),
         is_plain: matches.get_flag("plain"),
-    }
-}
-
-fn mark_part(alloc: Global, matches: &ArgMatches<'_>) -> Result<ShowPart, OptionFault> {
-    let words = words_given(alloc, matches)?;
-    let own = matches.get_flag("own");
-    let is_alone = !own && !words.is_empty() && !matches.get_flag("ends");
-    let reading = expectations_by(alloc, words.as_str(), is_alone)?;
-    Ok(ShowPart::Mark {
-        words,
-        reading,
-        own,
-        json: matches.get_flag("json"),
-    })
-}
-
-// What words expect, if they stand alone and can be read.
-fn expectations_by(
-    alloc: Global,
-    words: &str,
-    is_alone: bool,
-) -> Result<Option<Reading>, AllocError> {
-    if !is_alone {
-        return Ok(None);
-    }
-    match expectations(alloc, words) {
-        Ok(reading) => Ok(Some(reading)),
-        Err(Misread::Unexpected { .. }) => Ok(None),
-        Err(Misread::Memory) => Err(AllocError),
     }
 }
 

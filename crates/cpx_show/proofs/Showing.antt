@@ -1,15 +1,14 @@
 -- What is shown by the part that was found in the words is shown by the part that is asked for.
-use Rattle.std.proofs.Common.{◌≡◌, ℕ, List, Bool, Option, MatchOption, Result, Ok, Err, IfOk, string_bytes, subst, sym}
+use Rattle.std.proofs.Common.{◌≡◌, ℕ, List, Bool, Result, Ok, Err, IfOk, string_bytes, subst, sym}
 use Rattle.std.specs.declared.alloc.AllocError.{AllocError}
 use Rattle.cp_tree.specs.Syntax.{Tree}
 use Rattle.cp_slots.specs.Tables.{Tables}
 use Rattle.cp_legend.specs.declared.legend.Legend as code_legend
 use Rattle.cp_tool.specs.declared.options.Options.{Options}
-use Rattle.cp_expectation.specs.declared.reading.Reading.{Reading}
 use Rattle.cp_show_mark.specs.declared.answer.ShowAnswer.{ShowAnswer}
 use Rattle.cp_show_options.specs.declared.parts.Asked.{Asked}
 use Rattle.cp_show_options.specs.declared.parts.ShowPart.{ShowPart}
-use Rattle.cpx_show.specs.Shown.{IsGivenMark, IsMarkOf, IsShown}
+use Rattle.cpx_show.specs.Shown.{IsGivenMark, IsShown}
 
 module _ (a : Asked) (t : Tree) (r : Tables) (l : code_legend.Legend) (bytes : List ℕ) (source : List (List ℕ)) where
   abbrev pub IsShownBy : ShowPart → ShowAnswer → Type 0
@@ -22,9 +21,6 @@ pub nothing_said : (result : Result ShowAnswer AllocError) → IfOk result (λ x
 nothing_said (Ok x) = tt
 nothing_said (Err e) = tt
 
-abbrev IsMarkShown : Option Reading → (json : Bool) → Options → Tree → Tables → code_legend.Legend → (words : List ℕ) → (own : Bool) → (bytes : List ℕ) → (source : List (List ℕ)) → Result ShowAnswer AllocError → Type 0
-IsMarkShown reading json o t r l words own bytes source result = IfOk result (λ a. MatchOption reading (IsGivenMark json o t r l words own bytes source a.verdict (string_bytes a.text)) (λ x. IsMarkOf json o t r l source x a.verdict (string_bytes a.text)))
-
 -- the words that are seen are those that are written
-pub mark_shown : (reading : Option Reading) (json : Bool) (o : Options) (t : Tree) (r : Tables) (l : code_legend.Legend) (words written : List ℕ) (own : Bool) (bytes : List ℕ) (source : List (List ℕ)) (result : Result ShowAnswer AllocError) → words ≡ written → IsMarkShown reading json o t r l words own bytes source result → IsMarkShown reading json o t r l written own bytes source result
-mark_shown reading json o t r l words written own bytes source result same h = subst (λ (w : List ℕ). IsMarkShown reading json o t r l w own bytes source result) same h
+pub mark_shown : (json : Bool) (o : Options) (t : Tree) (r : Tables) (l : code_legend.Legend) (words written : List ℕ) (own : Bool) (bytes : List ℕ) (source : List (List ℕ)) (result : Result ShowAnswer AllocError) → words ≡ written → IfOk result (λ a. IsGivenMark json o t r l words own bytes source a.verdict (string_bytes a.text)) → IfOk result (λ a. IsGivenMark json o t r l written own bytes source a.verdict (string_bytes a.text))
+mark_shown json o t r l words written own bytes source result same h = subst (λ (w : List ℕ). IfOk result (λ a. IsGivenMark json o t r l w own bytes source a.verdict (string_bytes a.text))) same h

@@ -1,5 +1,5 @@
 -- What is shown of a program that is accepted: by each part, a verdict and a text.
-use Rattle.std.specs.Prelude.{◌≡◌, ℕ, List, map, Bool, false, None, MatchOption, codes, option_map, string_bytes}
+use Rattle.std.specs.Prelude.{◌≡◌, ℕ, List, map, Bool, false, codes, option_map, string_bytes}
 use Rattle.cp_tree.specs.Syntax.{Tree}
 use Rattle.cp_symbols.specs.declared.symbols.Symbols.{Symbols}
 use Rattle.cp_slots.specs.Tables.{Tables}
@@ -27,13 +27,10 @@ use Rattle.cp_outcomes.specs.Meant.{IsFoundIn}
 use Rattle.cp_outcomes.specs.declared.subject.Format.{Format}
 use Rattle.cp_refusal.specs.Text.{BeginsWith}
 use Rattle.cp_expectation.specs.Words.{words_of}
-use Rattle.cp_expectation.specs.declared.reading.Reading.{Reading}
 use Rattle.cp_verdict.specs.endless.Marked.{with_tables}
 use Rattle.cp_verdict.specs.endless.Naming.{processes_of}
-use Rattle.cp_show_mark.specs.Given.{IsGiven, MeansEnds, MeansGiven, TellsAsked, TellsGivenText, TellsIf, are_asked, names_with}
+use Rattle.cp_show_mark.specs.Given.{IsGiven, MeansGiven, TellsGivenText}
 use Rattle.cp_show_mark.specs.MarkText.{Setting}
-use Rattle.cp_show_mark.specs.Showing.{TellsMark}
-use Rattle.cp_show_mark.specs.Told.{TellsText}
 use Rattle.cp_show_mark.specs.declared.answer.ShowVerdict.{ShowVerdict}
 use Rattle.cp_show_mark.specs.declared.answer.ShowVerdict.TheVariants.{Reported}
 use Rattle.cp_show_options.specs.declared.parts.Asked.{Asked}
@@ -84,11 +81,6 @@ AreOutcomesShown json cover o t r l verdict text = (told : List ℕ) × AreOutco
 abbrev pub setting_of : (json : Bool) → Options → Tables → code_legend.Legend → (source : List (List ℕ)) → Setting
 setting_of json o r l source = record { legend = legend_seen l; program = r; discipline = o.discipline; choices = o.choices; steps = o.steps; states = o.states; source = source; as_json = json }
 
--- the mark of what is read to be expected, by the table of the meaning; and the text or the object that tells it
-pub record IsMarkOf (json : Bool) (o : Options) (t : Tree) (r : Tables) (l : code_legend.Legend) (source : List (List ℕ)) (reading : Reading) (verdict : ShowVerdict) (text : List ℕ) : Type 0 where
-  pub told : TellsAsked o (names_with t (processes_of l)) reading.expectations.items (λ es. TellsMark (constant_names t.program) es (table (named t (named_discipline o.discipline)) o.choices o.steps) verdict) (λ es. MeansEnds t (processes_of l) o es verdict) verdict
-  pub written : o.ends ≡ false → TellsIf (are_asked o (with_tables r (processes_of l)) reading.expectations.items) (TellsText (setting_of json o r l source) reading.expectations.items (option_map (λ w. w.now) reading.doubtful) verdict text) verdict
-
 -- the mark of the expectations that the words or the comments of the source give, by the meaning; and what tells it of schedules within the limits
 abbrev pub IsGivenMark : (json : Bool) → Options → Tree → Tables → code_legend.Legend → (words : List ℕ) → (with_own : Bool) → (bytes : List ℕ) → (source : List (List ℕ)) → ShowVerdict → List ℕ → Type 0
 IsGivenMark json o t r l words with_own bytes source verdict text =
@@ -103,5 +95,5 @@ IsShown (part.Lanes view) a t r l bytes source verdict text = GivesSchedule a.sc
 IsShown (part.Page states) a t r l bytes source verdict text = Unit {0}
 IsShown (part.Outcomes json cover) a t r l bytes source verdict text = AreOutcomesShown json cover a.options t r l verdict text
 IsShown (part.Ends json) a t r l bytes source verdict text = Unit {0}
-IsShown (part.Mark words reading own json) a t r l bytes source verdict text = MatchOption reading (IsGivenMark json a.options t r l (string_bytes words) own bytes source verdict text) (λ x. IsMarkOf json a.options t r l source x verdict text)
+IsShown (part.Mark words own json) a t r l bytes source verdict text = IsGivenMark json a.options t r l (string_bytes words) own bytes source verdict text
 IsShown (part.Refusal json file) a t r l bytes source verdict text = (verdict ≡ Reported) × (json ≡ false → BeginsWith (codes "accepted\n") text)

@@ -28,7 +28,7 @@ IsOfTree a source t verdict text = (r : Tables) × (l : code_legend.Legend) × (
 -- The line of `cpx`. By `refusal` and `mark` it is said in words, in agreement with that line; of JSON nothing is said.
 abbrev pub IsRefusedAs : ShowPart → (source : List ℕ) → Refusal → List ℕ → Type 0
 IsRefusedAs (part.Refusal json file) source r text = json ≡ false → TellsRefused source (option_map string_bytes file) r text
-IsRefusedAs (part.Mark words reading own json) source r text = json ≡ false → TellsRefused source None r text
+IsRefusedAs (part.Mark words own json) source r text = json ≡ false → TellsRefused source None r text
 IsRefusedAs p source r text = IsLineOf r text
 
 -- what is shown of its program; or the source is refused

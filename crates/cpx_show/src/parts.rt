@@ -1,6 +1,6 @@
 //! What is shown of a source that is accepted, by each part.
 
-ghost use Rattle.std.specs.Prelude.{◌≡◌, false, IfOk, MatchOption, codes, map, string_bytes};
+ghost use Rattle.std.specs.Prelude.{◌≡◌, false, IfOk, codes, map, string_bytes};
 ghost use Rattle.cp_tree.specs.Read.{IsRead};
 ghost use Rattle.cp_tree.specs.Syntax.{Tree};
 ghost use Rattle.cp_tree.specs.TreeView.{tree_view};
@@ -10,18 +10,17 @@ ghost use Rattle.cp_resolved.specs.Resolving.{IsProgramOf};
 ghost use Rattle.cp_show_mark.specs.declared.answer.ShowVerdict.TheVariants.{Reported};
 ghost use Rattle.cpx_show.specs.Schedules as schedule;
 ghost use Rattle.cpx_show.specs.Schedules.{IsTracedAs};
-ghost use Rattle.cpx_show.specs.Shown.{AreNamed, AreOutcomesShown, IsGivenMark, IsMarkOf, IsShown, IsTraceInNames};
+ghost use Rattle.cpx_show.specs.Shown.{AreNamed, AreOutcomesShown, IsGivenMark, IsShown, IsTraceInNames};
 
 use crate::covering::with_coverage;
 use crate::refusals::explanation_text;
 use crate::schedules::{ScheduleForm, one_schedule, trace_form};
 use crate::summaries::{ends_answer, outcomes_answer, page_answer};
-use cp_expectation::Reading;
 use cp_front::Loaded;
 use cp_legend::Legend;
 use cp_machine::Signals;
 use cp_progress::ObserveProgress;
-use cp_show_mark::{Examinee, ShowAnswer, ShowVerdict, mark_answer, mark_asked};
+use cp_show_mark::{Examinee, ShowAnswer, ShowVerdict, mark_answer};
 use cp_show_options::{Asked, ShowPart};
 use cp_tool::Options;
 use std::alloc::{AllocError, Global};
@@ -59,12 +58,7 @@ pub fn show_part<O: ObserveProgress>(
         ShowPart::Ends { json } => ends_answer(
             alloc, options, observer, program, legend, lines, *json,
         ),
-        ShowPart::Mark {
-            words,
-            reading,
-            own,
-            json,
-        } => {
+        ShowPart::Mark { words, own, json } => {
             let examinee = Examinee {
                 options,
                 program,
@@ -72,15 +66,7 @@ pub fn show_part<O: ObserveProgress>(
                 lines,
                 as_json: *json,
             };
-            show_mark(
-                alloc,
-                examinee,
-                observer,
-                words.as_str(),
-                reading,
-                *own,
-                source,
-            )
+            show_mark(alloc, examinee, observer, words.as_str(), *own, source)
         }
         ShowPart::Refusal { json, file } => {
             let signals = options.discipline.signals;
@@ -131,22 +117,18 @@ fn show_outcomes<O: ObserveProgress>(
     }
 }
 
-// The mark by what the words are read to expect; else by the words, or by the source.
+// The mark by the words, or by the source.
 fn show_mark<O: ObserveProgress>(
     alloc: Global,
     examinee: Examinee<'_>,
     observer: &mut O,
     words: &str,
-    reading: &Option<Reading>,
     own: bool,
     source: &[u8],
 ) -> Result<ShowAnswer, AllocError>
-    ensures { (t : Tree) → ∥ IsRead t.program ∥₁ → IsAccepted t → IsProgramOf t examinee.entry.program.now → IfOk result (λ a. MatchOption reading.now (IsGivenMark examinee.entry.as_json examinee.entry.options.now t examinee.entry.program.now examinee.entry.legend.now words.now own source.now (map string_bytes examinee.entry.lines.now) a.verdict (string_bytes a.text)) (λ x. IsMarkOf examinee.entry.as_json examinee.entry.options.now t examinee.entry.program.now examinee.entry.legend.now (map string_bytes examinee.entry.lines.now) x a.verdict (string_bytes a.text))) }
+    ensures { (t : Tree) → ∥ IsRead t.program ∥₁ → IsAccepted t → IsProgramOf t examinee.entry.program.now → IfOk result (λ a. IsGivenMark examinee.entry.as_json examinee.entry.options.now t examinee.entry.program.now examinee.entry.legend.now words.now own source.now (map string_bytes examinee.entry.lines.now) a.verdict (string_bytes a.text)) }
 {
-    match reading {
-        Some(reading) => mark_asked(alloc, examinee, observer, reading),
-        None => mark_answer(alloc, examinee, observer, words, own, source),
-    }
+    mark_answer(alloc, examinee, observer, words, own, source)
 }
 
 // That a source is accepted, with hints.

@@ -39,7 +39,7 @@ returns-in-Mark g c =
     let source = map string_bytes c.args.lines.now in
     let m = c.in-Mark in
     by_part asked t l.program legend bytes source _ c.show_mark.result m.is
-    (mark_shown m.reading m.json asked.options t l.program legend c.as_str.result.now (string_bytes m.words) m.own bytes source c.show_mark.result c.as_str.ensures.value (c.show_mark.ensures t l.checked.tree.read c.requires.accepted c.requires.named.stands))
+    (mark_shown m.json asked.options t l.program legend c.as_str.result.now (string_bytes m.words) m.own bytes source c.show_mark.result c.as_str.ensures.value (c.show_mark.ensures t l.checked.tree.read c.requires.accepted c.requires.named.stands))
 
 pub returns-in-Refusal : goal.returns-in-Refusal
 returns-in-Refusal g c =
