@@ -92,10 +92,10 @@ pub record CanTurn (s : State) (pid : ℕ) (course : Course) : Type 0 where
   pub name : CanName (machine_of s) pid course.variable 1
 
 -- a frame for a routine in a component can be opened, or the component, if it is a process, be started
-pub record CanOpen (r : Tables) (s : State) (pid routine component : ℕ) : Type 0 where
+pub record CanOpen (r : Tables) (s : State) (pid callee component : ℕ) : Type 0 where
   pub replaces : CanReplace s pid None
-  pub routine : routine < length r.routines
-  pub room : HasCallRoom r s.processes.items pid routine
+  pub routine : callee < length r.routines
+  pub room : HasCallRoom r s.processes.items pid callee
   pub there : component < length r.components
   pub known : component < length s.phases.items
   pub party : HasPartyOf s (component_at r component).kind
@@ -125,7 +125,7 @@ pub record CanReturn (r : Tables) (s : State) (pid : ℕ) : Type 0 where
   pub gates : HasGates r s
 
 -- a process of a monitor comes to the queue that has this permanent cell
-pub record CanWait (s : State) (pid cell monitor : ℕ) : Type 0 where
+pub record CanWait (s : State) (pid queue monitor : ℕ) : Type 0 where
   pub replaces : CanReplace s pid None
   pub gate : IsGate s monitor
-  pub cell : cell < length s.permanents.items
+  pub cell : queue < length s.permanents.items

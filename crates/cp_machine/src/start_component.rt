@@ -1,6 +1,6 @@
 //! Starts of classes, monitors and processes.
 
-ghost use Rattle.std.specs.Prelude.{◌≡◌, ◌<◌, length};
+ghost use Rattle.std.specs.Prelude.{◌≡◌, ◌<◌, ℕ, length};
 ghost use Rattle.cp_slots.specs.Tables.{Tables, component_at};
 ghost use Rattle.cp_machine.specs.Calls as spec;
 ghost use Rattle.cp_machine.specs.Fits.{IsReserved};
@@ -28,7 +28,7 @@ fn start_process(
     component: usize,
     arguments: &[Argument],
 ) -> Result<Event, ErrorName>
-    requires starts { CanStartIn program.now state.old pid routine component arguments.now }
+    requires starts { (routine : ℕ) × CanStartIn program.now state.old pid routine component arguments.now }
     requires process { number < length state.old.processes.items }
     ensures after { spec.start_process program.now (machine_of state.old) pid item.now.line number component arguments.now state.old.bounds.items (rest_of item.now.next (under (machine_of state.old) pid)) ≡ statements.outcome result (machine_of state.new) pid item.now.line }
     ensures reserved { (r : Tables) → IsReserved r state.old → IsReserved r state.new }

@@ -11,4 +11,4 @@ take_processes-requires-clause-room g c =
     let ours = c.args.to.now.processes.items in
     let others = c.args.from.now.processes.items in
     let long : length ours ≡ length others = processes_count r c.args.to.now mine ∙ sym (processes_count r c.args.from.now theirs) in
-    have_room r ours others (machine_of c.args.from.now) refl long mine.sound theirs.fits mine.reserved.stacks mine.reserved.cells mine.reserved.references
+    rw (c.deref_mut.ensures.value, c.deref-4.ensures.value) (have_room r ours others (machine_of c.args.from.now) refl long mine.sound theirs.fits mine.reserved.stacks mine.reserved.cells mine.reserved.references)

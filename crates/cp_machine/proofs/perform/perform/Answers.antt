@@ -122,16 +122,16 @@ pub assert_that-requires : goal.assert_that-requires
 assert_that-requires c = (c.args.program.now, record { at = c.args.at; taken = c.requires; says = c.in-Assert.is })
 
 pub perform_assignment-requires-clause-taken : goal.perform_assignment-requires-clause-taken
-perform_assignment-requires-clause-taken c = (c.args.program.now, (c.args.at, c.requires))
+perform_assignment-requires-clause-taken c = (c.args.program.now, c.args.at, c.requires)
 
 pub perform_assignment-requires-in-AssignSet-clause-taken : goal.perform_assignment-requires-in-AssignSet-clause-taken
-perform_assignment-requires-in-AssignSet-clause-taken c = (c.args.program.now, (c.args.at, c.requires))
+perform_assignment-requires-in-AssignSet-clause-taken c = (c.args.program.now, c.args.at, c.requires)
 
 pub perform_choice-requires-clause-taken : goal.perform_choice-requires-clause-taken
-perform_choice-requires-clause-taken c = (c.args.program.now, (c.args.at, c.requires))
+perform_choice-requires-clause-taken c = (c.args.program.now, c.args.at, c.requires)
 
 pub perform_choice-requires-in-Case-clause-taken : goal.perform_choice-requires-in-Case-clause-taken
-perform_choice-requires-in-Case-clause-taken c = (c.args.program.now, (c.args.at, c.requires))
+perform_choice-requires-in-Case-clause-taken c = (c.args.program.now, c.args.at, c.requires)
 
 pub perform_for-requires-clause-taken : goal.perform_for-requires-clause-taken
 perform_for-requires-clause-taken c = (c.args.program.now, c.requires)

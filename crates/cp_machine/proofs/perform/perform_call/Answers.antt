@@ -20,7 +20,7 @@ returns-in-Start-clause-after c =
     λ at. ap (λ a. act c.args.program.now m c.args.pid at c.args.item.now a below) c.in-Start.is ∙ ap (λ given. start c.args.program.now m c.args.pid c.args.item.now.line c.in-Start.component c.in-Start.routine given (rest_of c.args.item.now.next below)) (sym c.deref-in-Start.ensures.value) ∙ c.start.ensures.after
 
 pub call-requires : goal.call-requires
-call-requires c = (c.in-Call.arguments, (c.deref.ensures.value, record { at = c.requires.taken.0; taken = c.requires.taken.1; says = c.in-Call.is }))
+call-requires c = (c.in-Call.arguments, c.deref.ensures.value, record { at = c.requires.taken.0; taken = c.requires.taken.1; says = c.in-Call.is })
 
 pub start-requires : goal.start-requires
-start-requires c = (c.in-Start.arguments, (c.deref-in-Start.ensures.value, record { at = c.requires.taken.0; taken = c.requires.taken.1; says = c.in-Start.is }))
+start-requires c = (c.in-Start.arguments, c.deref-in-Start.ensures.value, record { at = c.requires.taken.0; taken = c.requires.taken.1; says = c.in-Start.is })

@@ -23,4 +23,4 @@ pub branch-state-requires : goal.branch-state-requires
 branch-state-requires c = (c.requires.taken.0, record { at = c.requires.taken.1; taken = c.requires.taken.2; says = c.in-If.is })
 
 pub case_of-requires : goal.case_of-requires
-case_of-requires c = (c.requires.taken.0, (c.in-Case.arms, (c.deref.ensures.value, record { at = c.requires.taken.1; taken = c.requires.taken.2; says = c.in-Case.is })))
+case_of-requires c = (c.requires.taken.0, (c.in-Case.arms, c.deref.ensures.value, record { at = c.requires.taken.1; taken = c.requires.taken.2; says = c.in-Case.is }))

@@ -14,4 +14,4 @@ returns-clause-after c =
     λ r. ap (λ a. act r m c.args.pid c.args.at c.args.item.now a below) c.in-For.is ∙ ap (λ z. for_do m c.args.pid c.args.item.now.line c.args.at c.in-For.variable z c.in-For.high c.in-For.from c.in-For.to c.in-For.down c.in-For.body c.args.item.now.next below) (sym low_is) ∙ ap (λ z. for_do m c.args.pid c.args.item.now.line c.args.at c.in-For.variable (to_z w16 (of_z w16 c.in-For.low)) z c.in-For.from c.in-For.to c.in-For.down c.in-For.body c.args.item.now.next below) (sym high_is) ∙ c.for_do.ensures.after
 
 pub for_do-requires : goal.for_do-requires
-for_do-requires c = (c.requires.taken.0, (c.in-For.low, (c.in-For.high, record { at = c.args.at; taken = c.requires.taken.1; says = c.in-For.is })))
+for_do-requires c = (c.requires.taken.0, (c.in-For.low, c.in-For.high, record { at = c.args.at; taken = c.requires.taken.1; says = c.in-For.is }))

@@ -43,4 +43,4 @@ start_inside-requires-in-Class c = c.requires
 pub start_process-requires : goal.start_process-requires
 start_process-requires c =
     let is : (component_at c.args.program.now c.args.component).kind ≡ (kind.Process c.in-Process.number) = ap (λ x. x.kind) (sym c.component.ensures.value) ∙ c.in-Process.is in
-    record { starts = c.requires; process = subst (HasPartyOf c.args.state.now) is c.requires.opens.party }
+    record { starts = (c.args.routine, c.requires); process = subst (HasPartyOf c.args.state.now) is c.requires.opens.party }
