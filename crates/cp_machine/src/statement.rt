@@ -1,6 +1,6 @@
 //! Statements without calls.
 
-ghost use Rattle.std.specs.Prelude.{◌≡◌, ◌+◌, ◌<◌, None, if◌then◌else◌};
+ghost use Rattle.std.specs.Prelude.{◌≡◌, ◌+◌, ◌<◌, ◌≤◌, None, if◌then◌else◌, vec_capacity, vec_len};
 ghost use Rattle.cp_slots.specs.Tables.{Tables};
 ghost use Rattle.cp_slots.specs.declared.item.Action.TheVariants.{Assert, Assign, AssignSet, Copy, Display, If};
 ghost use Rattle.cp_machine.specs.Fits.{IsReserved};
@@ -213,7 +213,8 @@ fn shown_as(kind: ShownKind, value: i16) -> Shown
 
 fn show(state: &mut State, pid: u8, next: Option<usize>, value: Shown) -> Event
     requires replaces { CanReplace state.old pid None }
-    requires reserved { (r : Tables) × IsReserved r state.old }
+    requires room { MOST_SHOWN ≤ vec_capacity state.old.output }
+    requires shown { vec_len state.old.output ≤ MOST_SHOWN }
     ensures after { spec.show (machine_of state.old) pid (rest_of next (under (machine_of state.old) pid)) value ≡ record { machine = machine_of state.new; event = result } }
     ensures reserved { (r : Tables) → IsReserved r state.old → IsReserved r state.new }
 {

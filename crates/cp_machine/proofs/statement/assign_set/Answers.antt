@@ -21,3 +21,6 @@ put_set-requires c =
       pid = replaced_within s t c.args.pid _ c.replace.ensures.after lt;
       cells = replaced_has s t c.args.pid _ c.in_ok-at.at SET_CELLS c.replace.ensures.after lt (c.in_ok-at.ensures.cells SET_CELLS (takes_reads c.requires).1);
     }
+
+pub returns-clause-reserved : goal.returns-clause-reserved
+returns-clause-reserved c = λ r h. c.put_set.ensures.reserved r (c.replace.ensures.reserved r h)

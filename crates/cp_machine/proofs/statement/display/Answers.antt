@@ -5,4 +5,4 @@ pub value_of-requires : goal.value_of-requires
 value_of-requires c = record { pid = takes_within c.requires; reads = takes_reads c.requires }
 
 pub show-requires : goal.show-requires
-show-requires c = record { replaces = takes_replaces c.requires; reserved = (c.requires.0, c.requires.1.taken.own.reserved) }
+show-requires c = record { replaces = takes_replaces c.requires; room = c.requires.1.taken.own.reserved.output; shown = c.requires.1.taken.own.reserved.shown }
