@@ -1,4 +1,4 @@
-use Rattle.cp_machine.proofs.Words.{◌∙◌, ap, sym, Assert, While, Until, Display, machine_of, under, with_stack, rest_of, local, act, Block, Cycle}
+use Rattle.cp_machine.proofs.Words.{◌∙◌, ap, sym, machine_of, under, with_stack, rest_of, local, act, Block, Cycle}
 use Rattle.cp_machine.proofs.PremiseLemmas.{item_replaces}
 use Rattle.cp_machine.proofs.PremiseLemmas.{item_list}
 use Rattle.cp_machine.proofs.frames.ReadLemmas.{taken_fits}

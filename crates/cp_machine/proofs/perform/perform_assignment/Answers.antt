@@ -1,4 +1,4 @@
-use Rattle.cp_machine.proofs.Words.{Assign, AssignSet, Copy, ◌∙◌, ap, machine_of, under, act}
+use Rattle.cp_machine.proofs.Words.{◌∙◌, ap, machine_of, under, act}
 use Rattle.cp_machine.proofs.perform.perform_assignment.Goals as goal
 
 pub returns-in-Assign-clause-after : goal.returns-in-Assign-clause-after

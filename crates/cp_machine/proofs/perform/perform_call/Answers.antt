@@ -1,4 +1,4 @@
-use Rattle.cp_machine.proofs.Words.{Call, Start, machine_of, under, act, rest_of, sym, ◌∙◌, ap, call, start}
+use Rattle.cp_machine.proofs.Words.{machine_of, under, act, rest_of, sym, ◌∙◌, ap, call, start}
 use Rattle.cp_machine.proofs.perform.perform_call.Goals as goal
 
 pub returns-in-Call-clause-reserved : goal.returns-in-Call-clause-reserved

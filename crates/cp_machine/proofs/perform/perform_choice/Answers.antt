@@ -1,4 +1,4 @@
-use Rattle.cp_machine.proofs.Words.{sym, ◌∙◌, ap, If, Case, machine_of, under, act, rest_of, case_of}
+use Rattle.cp_machine.proofs.Words.{sym, ◌∙◌, ap, machine_of, under, act, rest_of, case_of}
 use Rattle.cp_machine.proofs.perform.perform_choice.Goals as goal
 
 pub returns-in-If-clause-after : goal.returns-in-If-clause-after

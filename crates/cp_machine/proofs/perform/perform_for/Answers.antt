@@ -1,5 +1,5 @@
 use Rattle.cp_machine.specs.Statements.{for_do}
-use Rattle.cp_machine.proofs.Words.{act, ◌≡◌, ◌∙◌, ap, of_z, rules, sym, to_z, w16, For, machine_of, under}
+use Rattle.cp_machine.proofs.Words.{act, ◌≡◌, ◌∙◌, ap, of_z, rules, sym, to_z, w16, machine_of, under}
 use Rattle.cp_machine.proofs.perform.perform_for.Goals as goal
 
 pub returns-clause-reserved : goal.returns-clause-reserved

@@ -1,4 +1,4 @@
-use Rattle.cp_machine.proofs.Words.{◌∙◌, ap, machine_of, under, act, Delay, Continue}
+use Rattle.cp_machine.proofs.Words.{◌∙◌, ap, machine_of, under, act}
 use Rattle.cp_machine.proofs.perform.perform_wait.Goals as goal
 
 pub returns-in-Delay-clause-after : goal.returns-in-Delay-clause-after
