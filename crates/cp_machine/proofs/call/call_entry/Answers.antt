@@ -1,6 +1,5 @@
-use Rattle.cp_machine.proofs.Words.{◌≡◌, ◌∙◌, ap, sym, component_at, call_in, machine_of, under, rest_of, local}
+use Rattle.cp_machine.proofs.Words.{◌≡◌, ◌∙◌, ap, sym, component_at, call_in, machine_of, under, rest_of, local, subst}
 use Rattle.cp_slots.specs.declared.tables.ComponentKind.TheVariants as kind
-use Rattle.cp_machine.proofs.Words.{subst}
 use Rattle.cp_machine.specs.Premises.{HasPartyOf}
 use Rattle.cp_machine.proofs.call.call_entry.Goals as goal
 

@@ -1,6 +1,5 @@
-use Rattle.cp_machine.proofs.Words.{refl}
+use Rattle.cp_machine.proofs.Words.{refl, ◌<◌, length}
 use Rattle.cp_machine.proofs.PremiseLemmas.{gate_kept}
-use Rattle.cp_machine.proofs.Words.{◌<◌, length}
 use Rattle.cp_machine.proofs.kernel.resume.Goals as goal
 
 pub let_in-requires : goal.let_in-requires

@@ -1,5 +1,4 @@
-use Rattle.cp_machine.proofs.Words.{◌∙◌, ap, sym, machine_of, under, with_stack, rest_of, assign, branch, local, outcome, while_do, until}
-use Rattle.cp_machine.proofs.Words.{act, Block, Cycle, false≢true}
+use Rattle.cp_machine.proofs.Words.{◌∙◌, ap, sym, machine_of, under, with_stack, rest_of, assign, branch, local, outcome, while_do, until, act, Block, Cycle, false≢true}
 use Rattle.cp_machine.proofs.LocalSteps.{assign_calm, branch_calm, while_calm, until_calm, done_pending, done_same}
 use Rattle.cp_machine.proofs.frames.ReadLemmas.{taken_fits}
 use Rattle.cp_machine.proofs.PremiseLemmas.{item_list}

@@ -1,5 +1,4 @@
-use Rattle.cp_machine.proofs.Words.{refl, false≢true}
-use Rattle.cp_machine.proofs.Words.{ap, machine_of, of_z, rules, Successor, sym, thread_at, to_z, under, w16, ◌∙◌, ◌∷◌, ◌≡◌}
+use Rattle.cp_machine.proofs.Words.{refl, false≢true, ap, machine_of, of_z, rules, Successor, sym, thread_at, to_z, under, w16, ◌∙◌, ◌∷◌, ◌≡◌}
 use Rattle.cp_machine.proofs.local.take_local.Goals as goal
 
 pub top_of-requires : goal.top_of-requires

@@ -1,6 +1,5 @@
 use Rattle.cp_machine.proofs.Words.{◌∙◌, ap, sym, machine_of, under, with_stack, rest_of, local, act, Block, Cycle}
-use Rattle.cp_machine.proofs.PremiseLemmas.{item_replaces}
-use Rattle.cp_machine.proofs.PremiseLemmas.{item_list}
+use Rattle.cp_machine.proofs.PremiseLemmas.{item_replaces, item_list}
 use Rattle.cp_machine.proofs.frames.ReadLemmas.{taken_fits}
 use Rattle.cp_machine.proofs.perform.perform.Goals as goal
 

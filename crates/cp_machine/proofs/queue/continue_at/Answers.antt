@@ -1,5 +1,4 @@
-use Rattle.cp_machine.proofs.Words.{◌≡◌, ◌∙◌, ◌<◌, ap, get_or-set_same, length, subst, sym, Thread, machine_of, no_thread, thread_at}
-use Rattle.cp_machine.proofs.Words.{under, from_end, Machine, continue_from}
+use Rattle.cp_machine.proofs.Words.{◌≡◌, ◌∙◌, ◌<◌, ap, get_or-set_same, length, subst, sym, Thread, machine_of, no_thread, thread_at, under, from_end, Machine, continue_from}
 use Rattle.cp_machine.specs.Calls.{continue_by, continue_in}
 use Rattle.cp_machine.specs.declared.discipline.Signals.{Signals}
 use Rattle.cp_machine.specs.declared.discipline.Signals.TheVariants as signals

@@ -1,5 +1,4 @@
-use Rattle.cp_machine.proofs.Words.{◌≡◌, ◌∙◌, ap, arith, subst, sym, machine_of}
-use Rattle.cp_machine.proofs.Words.{under, Permanent, HasCells, fault, local, outcome, rules}
+use Rattle.cp_machine.proofs.Words.{◌≡◌, ◌∙◌, ap, arith, subst, sym, machine_of, under, Permanent, HasCells, fault, local, outcome, rules}
 use Rattle.cp_machine.proofs.CallOutcomes.{continue_fails, continue_goes}
 use Rattle.cp_machine.proofs.PremiseLemmas.{item_replaces, takes_reads}
 use Rattle.cp_machine.proofs.queue.continue_with.Goals as goal

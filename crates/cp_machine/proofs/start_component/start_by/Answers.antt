@@ -1,6 +1,5 @@
-use Rattle.cp_machine.proofs.Words.{start_by, machine_of, under, rest_of, component_at, ap, sym, ◌∙◌, ◌≡◌}
+use Rattle.cp_machine.proofs.Words.{start_by, machine_of, under, rest_of, component_at, ap, sym, ◌∙◌, ◌≡◌, subst}
 use Rattle.cp_slots.specs.declared.tables.ComponentKind.TheVariants as kind
-use Rattle.cp_machine.proofs.Words.{subst}
 use Rattle.cp_machine.specs.Premises.{HasPartyOf}
 use Rattle.cp_machine.proofs.start_component.start_by.Goals as goal
 

@@ -1,5 +1,4 @@
-use Rattle.cp_machine.proofs.Words.{◌≡◌, ◌∙◌, Err, Ok, Result, ap, of_z, rules, sym, to_z, w16, ℤ, ErrorName, check_range, machine_of, under, with_stack}
-use Rattle.cp_machine.proofs.Words.{number_put, rest_of, fault, local, outcome}
+use Rattle.cp_machine.proofs.Words.{◌≡◌, ◌∙◌, Err, Ok, Result, ap, of_z, rules, sym, to_z, w16, ℤ, ErrorName, check_range, machine_of, under, with_stack, number_put, rest_of, fault, local, outcome}
 use Rattle.cp_machine.proofs.Outcomes.{assign_done, assign_left_fails, assign_range_fails, assign_right_fails, replaced_has, replaced_within}
 use Rattle.cp_machine.proofs.PremiseLemmas.{takes_reads, takes_replaces, takes_within}
 use Rattle.cp_machine.proofs.statement.assign.Goals as goal

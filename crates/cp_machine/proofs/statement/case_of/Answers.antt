@@ -1,12 +1,9 @@
-use Rattle.cp_machine.proofs.Words.{◌∙◌, machine_of, under, rest_of, arm_for, fault, local, outcome, ErrorName, ℕ, Err, Ok, Option, Result, ap, of_z}
-use Rattle.cp_machine.proofs.Words.{rules, sym, to_z, w16, ◌≡◌}
+use Rattle.cp_machine.proofs.Words.{◌∙◌, machine_of, under, rest_of, arm_for, fault, local, outcome, ErrorName, ℕ, Err, Ok, Option, Result, ap, of_z, rules, sym, to_z, w16, ◌≡◌, Case, Tables}
 use Rattle.cp_machine.proofs.rooms.KeepingSteps.{arm_is}
 use Rattle.cp_machine.proofs.CallOutcomes.{case_arm, case_fails, case_no_arm}
 use Rattle.cp_machine.proofs.Words.{◌<◌, length, subst, slice_index_or, ResolvedArm}
-use Rattle.cp_machine.specs.Premises.{CanReplace}
+use Rattle.cp_machine.specs.Premises.{CanReplace, Takes}
 use Rattle.cp_machine.proofs.PremiseLemmas.{takes_fits, takes_list, takes_reads}
-use Rattle.cp_machine.proofs.Words.{Case, Tables}
-use Rattle.cp_machine.specs.Premises.{Takes}
 use Rattle.cp_machine.proofs.statement.case_of.Goals as goal
 
 pub returns-in_err-value-clause-after : goal.returns-in_err-value-clause-after

@@ -1,8 +1,6 @@
-use Rattle.cp_machine.proofs.Words.{take_top, InitEnd, Return, ◌≡◌, ◌∷◌, ◌∙◌, ap, machine_of, thread_at, under}
-use Rattle.cp_machine.proofs.Words.{arith}
+use Rattle.cp_machine.proofs.Words.{take_top, InitEnd, Return, ◌≡◌, ◌∷◌, ◌∙◌, ap, machine_of, thread_at, under, arith, length}
 use Rattle.cp_machine.proofs.ResultLemmas.{ended_there}
 use Rattle.cp_machine.proofs.PremiseLemmas.{init_leaves, return_gate, return_leaves, step_returns}
-use Rattle.cp_machine.proofs.Words.{length}
 use Rattle.cp_machine.proofs.stepper.take_end.Goals as goal
 
 pub returns-in-Some-Return-clause-after : goal.returns-in-Some-Return-clause-after

@@ -1,5 +1,4 @@
-use Rattle.cp_machine.proofs.Words.{take_top, Rest, machine_of, thread_at, under, ◌≡◌, ◌∷◌, ◌∙◌, ap}
-use Rattle.cp_machine.proofs.Words.{of_z, refl, rules, Successor, sym, to_z, w16}
+use Rattle.cp_machine.proofs.Words.{take_top, Rest, machine_of, thread_at, under, ◌≡◌, ◌∷◌, ◌∙◌, ap, of_z, refl, rules, Successor, sym, to_z, w16}
 use Rattle.cp_machine.proofs.stepper.take_step.Goals as goal
 
 pub returns-in-Some-Rest-clause-after : goal.returns-in-Some-Rest-clause-after

@@ -1,5 +1,4 @@
-use Rattle.cp_machine.proofs.Words.{machine_of, under, Stepped, outcome, act, Event, ap, sym, ◌∙◌}
-use Rattle.cp_machine.proofs.Words.{IsTaken, subst}
+use Rattle.cp_machine.proofs.Words.{machine_of, under, Stepped, outcome, act, Event, ap, sym, ◌∙◌, IsTaken, subst}
 use Rattle.cp_machine.proofs.take.take_item.Goals as goal
 
 pub returns-in-Ok-clause-after : goal.returns-in-Ok-clause-after
