@@ -8,11 +8,11 @@ use Rattle.cp_text.proofs.scanner.pieces.Goals as goal
 
 pub returns-in-Err : goal.returns-in-Err
 returns-in-Err c = λ told.
-    let t = fault_told c.loop-rest.line c.in-Err.cause (λ (q : fault c.loop-rest.line c.in-Err.cause ≡ out_of_memory). told (c.fault.ensures ∙ q)) in
+    let t = fault_told c.loop-rest.spot c.in-Err.cause (λ (q : fault c.loop-rest.spot c.in-Err.cause ≡ out_of_memory). told (c.fault.ensures ∙ q)) in
     let count : c.len.result ≡ length c.loop-rest.items.items = grind arith in
     let h : front_piece (length c.loop-rest.items.items) c.loop-rest.left c.loop-rest.rest.now ≡ Err c.in-Err.cause = rw (← count) (c.in-Err.ensures.value t.0) in
     sym c.loop-rest.invariant.reads
-    ∙ scan_stops c.loop-rest.left c.loop-rest.line c.loop-rest.items.items c.loop-rest.rest.now c.in-Err.cause (grind arith) h ∙ ap Err (sym t.1 ∙ sym c.fault.ensures)
+    ∙ scan_stops c.loop-rest.left c.loop-rest.spot c.loop-rest.items.items c.loop-rest.rest.now c.in-Err.cause (grind arith) h ∙ ap Err (sym t.1 ∙ sym c.fault.ensures)
 
 pub loop-rest-preserved : goal.loop-rest-preserved
 loop-rest-preserved c = record {
@@ -20,15 +20,15 @@ loop-rest-preserved c = record {
       let count : c.len.result ≡ length c.loop-rest.items.items = grind arith in
       let h : front_piece (length c.loop-rest.items.items) c.loop-rest.left c.loop-rest.rest.now ≡ Ok c.in-Ok.found = rw (← count) c.in-Ok.ensures.value in
       rw (c.in_ok-add.ensures.ok, c.split_at.ensures.back, c.line_feeds-line.ensures.value, c.split_at.ensures.front)
-      (scan_goes c.loop-rest.left c.loop-rest.line c.loop-rest.items.items c.loop-rest.rest.now c.in-Ok.found.kind c.in-Ok.found.len c.in-Ok.found.left c.in-Ok.ensures.within.0 (grind arith) h ∙ c.loop-rest.invariant.reads);
+      (scan_goes c.loop-rest.left c.loop-rest.spot c.loop-rest.items.items c.loop-rest.rest.now c.in-Ok.found.kind c.in-Ok.found.len c.in-Ok.found.left c.in-Ok.ensures.within.0 (grind arith) h ∙ c.loop-rest.invariant.reads);
   counted = omega arith;
   within = omega arith;
   closes = subst (λ xs. ClosesWithin c.in-Ok.found.left xs) (sym c.split_at.ensures.back) c.in-Ok.ensures.closes;
 }
 
 pub new-requires : goal.new-requires
-new-requires c = of_text c.args.source.now (omega arith) c.loop-rest.items.items (sym c.loop-rest.invariant.reads ∙ scan_ends c.loop-rest.left c.loop-rest.line c.loop-rest.items.items c.loop-rest.rest.now (grind arith))
+new-requires c = of_text c.args.source.now (omega arith) c.loop-rest.items.items (sym c.loop-rest.invariant.reads ∙ scan_ends c.loop-rest.left c.loop-rest.spot c.loop-rest.items.items c.loop-rest.rest.now (grind arith))
 
 pub returns : goal.returns
 returns c =
-    sym c.loop-rest.invariant.reads ∙ scan_ends c.loop-rest.left c.loop-rest.line c.loop-rest.items.items c.loop-rest.rest.now (grind arith) ∙ ap Ok (cc)
+    sym c.loop-rest.invariant.reads ∙ scan_ends c.loop-rest.left c.loop-rest.spot c.loop-rest.items.items c.loop-rest.rest.now (grind arith) ∙ ap Ok (cc)
