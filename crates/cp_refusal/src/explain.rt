@@ -186,8 +186,9 @@ fn end_of(source: &[u8], at: usize, tokens: &Tokens) -> ByteRange
     requires { None ≡ slice_get (ranges tokens.now) at }
     ensures { HasTokens source.now tokens.now → spec.IsPlaceIn source.now (spec.token_line tokens.now at) (Some result) }
 {
-    let line = tokens.line(at.min(tokens.count()));
-    match tokens.range(tokens.count().saturating_sub(1)) {
+    let count = tokens.count();
+    let line = tokens.line(at.min(count));
+    match tokens.range(count.saturating_sub(1)) {
         Some(last) => in_line(source, line, after(last)),
         None => START,
     }

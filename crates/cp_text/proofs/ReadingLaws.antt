@@ -72,7 +72,7 @@ step_inside spot found s piece rest more k stands is =
 scan_inner : (spot : Spot) (qs : List Part) (us found : List Token) (left more : List ℕ) → AreLexemes spot qs us → AreCut qs left → length (found ++ us) ≤ 20000
     → scan_from 0 (Some (length (joined qs left))) spot found (joined qs left ++ more) ≡ scan_from 0 (Some (length left)) (after spot (joined qs [])) (found ++ us) (left ++ more)
 scan_inner spot [] [] found left more no_lexeme cut few =
-    rw (append-nil found, after_none spot) refl
+    rw (append-nil found) (ap (λ s. scan_from 0 (Some (length left)) s found (left ++ more)) (sym (after_none spot)))
 scan_inner spot [] (t ∷ us) found left more h cut few = elim h [ ]
 scan_inner spot (p ∷ ps) us found left more (between none tokens) cut few =
     step_inside spot found p.shape p.text (joined ps left) more None cut.0 (next_blank (length found) p.shape p.text (joined ps left) cut.0 none)
@@ -164,7 +164,7 @@ said_before t us u ts = ap (λ xs. t ∷ xs) (sym (append_assoc us (u ∷ []) ts
 pub scan_parts : (spot : Spot) (parts : List Part) (new found : List Token) (rest : List ℕ) → AreTokens spot parts new → AreCut parts rest → length (found ++ new) ≤ 20000
     → scan_from 0 None spot found (joined parts rest) ≡ scan_from 0 None (after spot (joined parts [])) (found ++ new) rest
 scan_parts spot [] [] found rest no_more cut few =
-    rw (append-nil found, after_none spot) refl
+    rw (append-nil found) (ap (λ s. scan_from 0 None s found rest) (sym (after_none spot)))
 scan_parts spot [] (t ∷ new) found rest h cut few = elim h [ ]
 scan_parts spot (p ∷ ps) new found rest (blank none alone tokens) cut few =
     step spot found p.shape p.text (joined ps rest) None cut.0 (front_blank (length found) p.shape p.text (joined ps rest) cut.0 none alone)
@@ -260,7 +260,8 @@ scan_fault spot found text cause at (closing_too_many a qs us there whole cut to
     scan_into spot found text a qs us [] there whole cut tokens (omega arith)
     ∙ scan_stops (Some 0) (after (after spot a.before) (joined qs [])) ((found ++ token_at spot a.before a.mark ∷ []) ++ us) (a.closing ++ there.rest) TooManyTokens (closing_some there.piece there.rest a made)
     (front_closing_full (length ((found ++ token_at spot a.before a.mark ∷ []) ++ us)) (a.closing ++ there.rest) (omega arith))
-    ∙ rw (is, named, inner) refl
+    ∙ ap (λ s. Err (fault_at s TooManyTokens)) (inner ∙ sym is)
+    ∙ ap (λ c. Err (fault_at at c)) (sym named)
 
 pub reading_is : (text : List ℕ) (o : Outcome) → Reading text o → scan text ≡ o
 reading_is text (Ok ts) h =
@@ -307,7 +308,7 @@ failed_at : (spot : Spot) (found : List Token) (text : List ℕ) (cause : ScanCa
     → ScanTells spot found text (scan_from 0 None spot found text)
 failed_at spot found text cause at fault few =
     subst (ScanTells spot found text) (sym (scan_fault spot found text cause at fault))
-    (record { parts = []; new = []; rest = text; cause = cause; at = at; whole = refl; cut = tt; tokens = no_more; few = rw (append-nil found) few; fault = rw (after_none spot, append-nil found) fault; is = refl })
+    (record { parts = []; new = []; rest = text; cause = cause; at = at; whole = refl; cut = tt; tokens = no_more; few = rw (append-nil found) few; fault = subst (λ s. FaultAt s (length (found ++ [])) text cause at) (sym (after_none spot)) (rw (append-nil found) fault); is = refl })
 
 -- ---- outside an annotation
 

@@ -45,7 +45,7 @@ after_none spot = let e : spot.line + 0 ≡ spot.line = omega arith in let f : s
 
 pub scan_from-drop : (n : ℕ) (o : Option ℕ) (spot : Spot) (ts : List Token) (text : List ℕ) → scan_from n o spot ts text ≡ scan_from 0 o (after spot (take n text)) ts (drop n text)
 unfolding scan_from
-scan_from-drop zero o spot ts text = rw (after_none spot) refl
+scan_from-drop zero o spot ts text = ap (λ s. scan_from 0 o s ts text) (sym (after_none spot))
 scan_from-drop (suc n) o spot ts [] = refl
 scan_from-drop (suc n) o spot ts (b ∷ text) =
     scan_from-drop n o (after_byte b spot) ts text ∙ ap (λ s. scan_from 0 o s ts (drop n text)) (after_more b spot (take n text))

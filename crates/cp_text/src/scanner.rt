@@ -84,18 +84,26 @@ fn add(items: &mut Vec<Token>, kind: Option<Kind>, spot: Spot, piece: &[u8]) -> 
 fn fault(spot: Spot, cause: ScanCause) -> ScanFault
     ensures { result ≡ spec.fault spot cause }
 {
-    let (line, from) = match cause {
-        ScanCause::Memory => (0, 0),
-        _ => (spot.line, spot.from),
-    };
-    ScanFault { line, from, cause }
+    match cause {
+        ScanCause::Memory => ScanFault {
+            line: 0,
+            from: 0,
+            cause,
+        },
+        _ => ScanFault {
+            line: spot.line,
+            from: spot.from,
+            cause,
+        },
+    }
 }
 
 /// Where the piece that begins there ends.
 fn after(spot: Spot, piece: &[u8]) -> Spot
     requires place { spot.from + length piece.now < 2 ^ 16 }
     requires line { spot.line + length piece.now < 2 ^ 17 }
-    ensures { result ≡ after spot piece.now }
+    ensures value { result ≡ after spot piece.now }
+    ensures within { result.line ≤ spot.line + length piece.now }
 {
     Spot {
         line: spot.line + line_feeds(piece),

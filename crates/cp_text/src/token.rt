@@ -208,11 +208,12 @@ impl Tokens {
     }
 
     /// The bytes of token `at`, where there is one.
+    #[tactic(auto, using(crate::proofs::PlaceLaws::range_stands))]
     pub fn range(&self, at: usize) -> Option<ByteRange>
         ensures value { result ≡ slice_get (ranges self.now) at }
         ensures stands { (text : List ℕ) → HasTokens text self.now → IfSome result (StandsAt text (line_of self.now at)) }
     {
-        Some(self.items.get(at)?.range)
+        self.items.get(at).map(|t| t.range)
     }
 
     /// The kind of token `at`, where there is one.
