@@ -42,7 +42,8 @@ pub fn advice(teller: &mut Teller) -> &'static str {
 
 // Whether a comment stands where a value is wanted.
 fn is_after_string(teller: &mut Teller) -> bool {
-    has_comment_before(teller.source, teller.tokens, teller.at) && teller.takes_one_of(&["not", "1"])
+    has_comment_before(teller.source, teller.tokens, teller.at)
+        && teller.takes_one_of(&["not", "1"])
 }
 
 // Of signs that other languages have.
@@ -572,8 +573,7 @@ fn missing_sign(teller: &mut Teller) -> &'static str {
 fn is_glued(teller: &Teller) -> bool {
     let next = teller.at.saturating_add(1);
     match (teller.tokens.range(teller.at), teller.tokens.range(next)) {
-        (Some(one), Some(other)) =>
-            end(one) == other.from && !teller.name_at(next).is_empty(),
+        (Some(one), Some(other)) => end(one) == other.from && !teller.name_at(next).is_empty(),
         _ => false,
     }
 }

@@ -39,7 +39,9 @@ fn inner_end(source: &[u8], at: usize) -> Option<usize> {
     for place in (0..at.min(source.len())).rev() {
         if source[place] == b'"' {
             let found = annotation_of(&source[place..])?;
-            let end = place.saturating_add(found.opening).saturating_add(found.inner);
+            let end = place
+                .saturating_add(found.opening)
+                .saturating_add(found.inner);
             return if at <= end { Some(end) } else { None };
         }
     }
@@ -67,8 +69,8 @@ pub fn fault_len(source: &[u8], at: usize, cause: ScanCause) -> usize {
 /// Whether a text between quotes gives a character by its code, be it one or none.
 pub fn is_coded(text: &[u8]) -> bool {
     match text {
-        [_, b'(', b':', digits @ .., b':', b')', _] =>
-            !digits.is_empty() && digits.iter().all(|digit| digit.is_ascii_digit()),
+        [_, b'(', b':', digits @ .., b':', b')', _] => !digits.is_empty()
+            && digits.iter().all(|digit| digit.is_ascii_digit()),
         _ => false,
     }
 }

@@ -1,13 +1,12 @@
 -- Tokens and faults stand in their text.
 use Rattle.std.proofs.Common.{◌≡◌, ℕ, zero, suc, ◌<◌, ◌≤◌, ◌+◌, ◌-◌, List, [], ◌∷◌, ◌++◌, length, take, min, arith, refl, sym, ap, ◌∙◌, subst, Option, Some, None, append_assoc}
 use Rattle.std.specs.Prelude.{IfSome, slice_get, unwrap_or}
-use Rattle.std.proofs.lemmas.List.{append-nil, length-append}
+use Rattle.std.proofs.lemmas.List.{length-append}
 use Rattle.std.proofs.Math.Seq.{take-append_seam}
 use Rattle.cp_text.specs.Annotations.{Annotated}
 use Rattle.cp_text.specs.Bytes.{line_feeds}
 use Rattle.cp_text.specs.declared.fault.ScanCause.{ScanCause}
 use Rattle.cp_text.specs.declared.fault.ScanFault.{ScanFault}
-use Rattle.cp_text.specs.declared.piece.Shape.TheVariants as shape
 use Rattle.cp_text.specs.declared.token.ByteRange.{ByteRange}
 use Rattle.cp_text.specs.declared.token.Kind.{Kind}
 use Rattle.cp_text.specs.declared.token.Mark.TheVariants as mark
@@ -25,10 +24,12 @@ use Rattle.cp_text.proofs.ReadingLaws.{after_both}
 
 -- what follows some bytes begins behind them
 begins_behind : (before more : List ℕ) → let spot = after beginning before in IsInLine (before ++ more) spot.line spot.from
-begins_behind before more = record {
-  within = omega (arith, length-append before more);
-  on_line = ap (λ xs. 1 + line_feeds xs) (sym (take-append_seam before more));
-}
+begins_behind before more =
+    let place : (after beginning before).from ≡ length before = omega arith in
+    record {
+      within = omega (arith, place, length-append before more);
+      on_line = ap (λ xs. 1 + line_feeds xs) (sym (ap (λ n. take n (before ++ more)) place ∙ take-append_seam before more));
+    }
 
 -- a list of tokens each of which stands in the text
 AllStand : List ℕ → List Token → Type 0
@@ -43,8 +44,9 @@ all_stand text (u ∷ us) ts h k = (h.0, all_stand text us ts h.1 k)
 piece_stands : (before piece rest text : List ℕ) (k : Kind) → text ≡ before ++ (piece ++ rest) → let t = token_of (after beginning before) piece k in StandsAt text t.line t.range
 piece_stands before piece rest text k whole =
     let long = ap length whole in
+    let place : (after beginning before).from ≡ length before = omega arith in
     record {
-      within = omega (arith, long, length-append before (piece ++ rest), length-append piece rest);
+      within = omega (arith, place, long, length-append before (piece ++ rest), length-append piece rest);
       begins = subst (λ xs. IsInLine xs (after beginning before).line (after beginning before).from) (sym whole) (begins_behind before (piece ++ rest));
     }
 
@@ -63,9 +65,10 @@ lexemes_stand spot before [] [] rest text is whole no_lexeme = tt
 lexemes_stand spot before [] (t ∷ ts) rest text is whole h = elim h [ ]
 lexemes_stand spot before (p ∷ ps) ts rest text is whole (between none more) =
     lexemes_stand (after spot p.text) (before ++ p.text) ps ts rest text (spot_behind spot before p.text is) (whole ∙ sym (append_assoc before p.text (joined ps rest))) more
-lexemes_stand spot before (p ∷ ps) (t ∷ ts) rest text is whole (one_lexeme same placed more) =
-    (subst (λ (u : Token). StandsAt text u.line u.range) (sym (placed ∙ ap (λ s. token_of s p.text t.kind) is)) (piece_stands before p.text (joined ps rest) text t.kind whole),
-    lexemes_stand (after spot p.text) (before ++ p.text) ps ts rest text (spot_behind spot before p.text is) (whole ∙ sym (append_assoc before p.text (joined ps rest))) more)
+lexemes_stand spot before (p ∷ ps) (t ∷ ts) rest text is whole (one_lexeme same placed more) = (
+  subst (λ (u : Token). StandsAt text u.line u.range) (sym (placed ∙ ap (λ s. token_of s p.text t.kind) is)) (piece_stands before p.text (joined ps rest) text t.kind whole),
+  lexemes_stand (after spot p.text) (before ++ p.text) ps ts rest text (spot_behind spot before p.text is) (whole ∙ sym (append_assoc before p.text (joined ps rest))) more,
+)
 
 -- the text around the inner text of an annotation
 around : (before piece rest text : List ℕ) (a : Annotated) → IsMadeOf piece a → text ≡ before ++ (piece ++ rest) → text ≡ (before ++ a.before) ++ (a.text ++ (a.closing ++ rest))
@@ -79,9 +82,10 @@ tokens_stand spot before [] [] text is whole cut no_more = tt
 tokens_stand spot before [] (t ∷ ts) text is whole cut h = elim h [ ]
 tokens_stand spot before (p ∷ ps) ts text is whole cut (blank none said more) =
     tokens_stand (after spot p.text) (before ++ p.text) ps ts text (spot_behind spot before p.text is) (whole ∙ sym (append_assoc before p.text (joined ps []))) cut.1 more
-tokens_stand spot before (p ∷ ps) (t ∷ ts) text is whole cut (lexeme same placed more) =
-    (subst (λ (u : Token). StandsAt text u.line u.range) (sym (placed ∙ ap (λ s. token_of s p.text t.kind) is)) (piece_stands before p.text (joined ps []) text t.kind whole),
-    tokens_stand (after spot p.text) (before ++ p.text) ps ts text (spot_behind spot before p.text is) (whole ∙ sym (append_assoc before p.text (joined ps []))) cut.1 more)
+tokens_stand spot before (p ∷ ps) (t ∷ ts) text is whole cut (lexeme same placed more) = (
+  subst (λ (u : Token). StandsAt text u.line u.range) (sym (placed ∙ ap (λ s. token_of s p.text t.kind) is)) (piece_stands before p.text (joined ps []) text t.kind whole),
+  tokens_stand (after spot p.text) (before ++ p.text) ps ts text (spot_behind spot before p.text is) (whole ∙ sym (append_assoc before p.text (joined ps []))) cut.1 more,
+)
 tokens_stand spot before (p ∷ ps) _ text is whole cut (annotated a qs us ts by inner inner_cut said more) =
     let made = made_by p.shape p.text (joined ps []) a cut.0 by in
     let all = around before p.text (joined ps []) text a made whole in
@@ -91,11 +95,12 @@ tokens_stand spot before (p ∷ ps) _ text is whole cut (annotated a qs us ts by
     let text_in = all ∙ ap (λ xs. (before ++ a.before) ++ (xs ++ (a.closing ++ joined ps []))) inner ∙ ap (λ xs. (before ++ a.before) ++ xs) (sym (joined_with qs (a.closing ++ joined ps []))) in
     let first = piece_stands before a.before (a.text ++ (a.closing ++ joined ps [])) text (token_at spot a.before a.mark).kind (all ∙ append_assoc before a.before (a.text ++ (a.closing ++ joined ps []))) in
     let last = piece_stands ((before ++ a.before) ++ a.text) a.closing (joined ps []) text (token_at spot a.closing mark.Closes).kind (all ∙ sym behind) in
-    let inside = lexemes_stand (after spot a.before) (before ++ a.before) qs us (a.closing ++ joined ps []) text opened text_in said in
-    let later = tokens_stand (after spot p.text) (before ++ p.text) ps ts text (spot_behind spot before p.text is) (whole ∙ sym (append_assoc before p.text (joined ps []))) cut.1 more in
-    (subst (λ s. StandsAt text s.line (token_of s a.before (token_at spot a.before a.mark).kind).range) (sym is) first,
-    all_stand text us (token_at (closing_spot spot a) a.closing mark.Closes ∷ ts) inside
-    (subst (λ s. StandsAt text s.line (token_of s a.closing (token_at spot a.closing mark.Closes).kind).range) (sym closed) last, later))
+    let within = lexemes_stand (after spot a.before) (before ++ a.before) qs us (a.closing ++ joined ps []) text opened text_in said in
+    let later = tokens_stand (after spot p.text) (before ++ p.text) ps ts text (spot_behind spot before p.text is) (whole ∙ sym (append_assoc before p.text (joined ps []))) cut.1 more in (
+      subst (λ s. StandsAt text s.line (token_of s a.before (token_at spot a.before a.mark).kind).range) (sym is) first,
+      all_stand text us (token_at (closing_spot spot a) a.closing mark.Closes ∷ ts) within
+          (subst (λ s. StandsAt text s.line (token_of s a.closing (token_at spot a.closing mark.Closes).kind).range) (sym closed) last, later),
+    )
 
 one_stands : (text : List ℕ) (ts : List Token) (at : ℕ) (r : ByteRange) → AllStand text ts → slice_get (ranges ts) at ≡ Some r → StandsAt text (unwrap_or (slice_get (lines ts) at) 1) r
 unfolding AllStand

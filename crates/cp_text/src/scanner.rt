@@ -62,7 +62,12 @@ fn pieces(alloc: Global, source: &[u8]) -> Result<Tokens, ScanFault>
 }
 
 /// Adds a piece as a token of this kind, if it is one.
-fn add(items: &mut Vec<Token>, kind: Option<Kind>, spot: Spot, piece: &[u8]) -> Result<(), ScanFault>
+fn add(
+    items: &mut Vec<Token>,
+    kind: Option<Kind>,
+    spot: Spot,
+    piece: &[u8],
+) -> Result<(), ScanFault>
     ensures ok { OnOk result (items.new.items ≡ spec.added items.old.items kind spot piece.now) }
     ensures err { IfErr result (λ e. e ≡ out_of_memory) }
 {
