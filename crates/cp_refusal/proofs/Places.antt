@@ -1,5 +1,5 @@
 -- The places of tokens and of faults are places of the source, in their lines.
-use Rattle.std.proofs.Common.{◌≡◌, ℕ, zero, suc, ◌+◌, ◌-◌, ◌≤◌, List, [], ◌∷◌, ◌++◌, Some, None, ap, sym, subst, arith, length, min, take, drop, take_all, refl}
+use Rattle.std.proofs.Common.{◌≡◌, ℕ, zero, suc, ◌-◌, ◌≤◌, List, [], ◌∷◌, Some, None, ap, sym, subst, arith, length, min, take, drop, take_all, refl}
 use Rattle.std.specs.Prelude.{slice_get, unwrap_or, ◌==◌, cond}
 use Rattle.std.proofs.lemmas.List.{length-map, take-append-drop}
 use Rattle.std.proofs.lemmas.List.Sums.{sum_by-append}

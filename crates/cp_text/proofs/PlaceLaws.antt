@@ -14,7 +14,7 @@ use Rattle.cp_text.specs.declared.token.Spot.{Spot}
 use Rattle.cp_text.specs.declared.token.Token.{Token}
 use Rattle.cp_text.specs.Lines.{lines, line_of}
 use Rattle.cp_text.specs.Places.{IsInLine, StandsAt, ranges}
-use Rattle.cp_text.specs.Reading.{Part, joined, AreCut, AreLexemes, no_lexeme, between, one_lexeme, AreTokens, no_more, blank, lexeme, annotated, token_at, closing_spot, AnnotationAt, FaultAt, plain, opening_too_many, inside, closing_too_many, HasTokens, HasFault, too_long, faulty}
+use Rattle.cp_text.specs.Reading.{Part, joined, AreCut, AreLexemes, no_lexeme, between, one_lexeme, AreTokens, no_more, blank, lexeme, annotated, token_at, closing_spot, FaultAt, plain, opening_too_many, inside, closing_too_many, HasTokens, HasFault, too_long, faulty}
 use Rattle.cp_text.specs.Spots.{after, beginning, token_of}
 use Rattle.cp_text.proofs.AnnotationLaws.{IsMadeOf, made_from}
 use Rattle.cp_text.proofs.FrontLaws.{made_by}

@@ -1,5 +1,5 @@
 -- Where the pieces of a text stand.
-use Rattle.std.specs.Prelude.{◌≡◌, ℕ, zero, ◌+◌, ◌≤◌, List, length, take}
+use Rattle.std.specs.Prelude.{ℕ, ◌+◌, List, length}
 use Rattle.cp_text.specs.declared.token.ByteRange.{ByteRange}
 use Rattle.cp_text.specs.declared.token.Kind.{Kind}
 use Rattle.cp_text.specs.declared.token.Spot.{Spot}
