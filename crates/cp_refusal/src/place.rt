@@ -42,7 +42,7 @@ fn inner_end(source: &[u8], at: usize) -> Option<usize> {
             let end = place
                 .saturating_add(found.opening)
                 .saturating_add(found.inner);
-            return if at <= end { Some(end) } else { None };
+            return if at < end { Some(end) } else { None };
         }
     }
     None
