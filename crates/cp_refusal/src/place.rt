@@ -36,9 +36,10 @@ fn annotation_of(text: &[u8]) -> Option<Annotation> {
 
 // Where the inner text of the annotation ends in which a place is. It has no quote, so that the last one before the place begins the annotation.
 fn inner_end(source: &[u8], at: usize) -> Option<usize> {
-    for place in (0..at.min(source.len())).rev() {
-        if source[place] == b'"' {
-            let found = annotation_of(&source[place..])?;
+    for place in (0..at).rev() {
+        let text = source.get(place..).unwrap_or(&[]);
+        if text.first().copied() == Some(b'"') {
+            let found = annotation_of(text)?;
             let end = place
                 .saturating_add(found.opening)
                 .saturating_add(found.inner);
