@@ -127,7 +127,7 @@ fn fault_span(source: &[u8], fault: ScanFault) -> Option<ByteRange>
     }
     Some(ByteRange {
         from: fault.from,
-        len: fault_len(source, fault.from, fault.cause),
+        len: fault_len(&source[fault.from.min(source.len())..]),
     })
 }
 

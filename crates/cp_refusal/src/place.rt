@@ -1,7 +1,7 @@
 //! Places in a source.
 
 use crate::page::line_len;
-use cp_text::{Annotation, ByteRange, ScanCause, Tokens, annotation_at, first_piece};
+use cp_text::{ByteRange, ScanCause, Tokens, annotation_at, first_piece};
 use std::alloc::{AllocError, Global};
 
 /// The bytes of a source in a range.
@@ -26,44 +26,19 @@ pub fn from_to(from: usize, to: usize) -> ByteRange {
 /// The longest source that has tokens.
 const MOST_BYTES: usize = 65535;
 
-// The annotation at the front of a text, if the text is no longer than a source may be.
-fn annotation_of(text: &[u8]) -> Option<Annotation> {
-    if text.is_empty() || text.len() > MOST_BYTES {
-        return None;
-    }
-    annotation_at(text)
-}
-
-// Where the inner text of the annotation ends in which a place is. It has no quote, so that the last one before the place begins the annotation.
-fn inner_end(source: &[u8], at: usize) -> Option<usize> {
-    for place in (0..at).rev() {
-        let text = source.get(place..).unwrap_or(&[]);
-        if text.first().copied() == Some(b'"') {
-            let found = annotation_of(text)?;
-            let end = place
-                .saturating_add(found.opening)
-                .saturating_add(found.inner);
-            return if at < end { Some(end) } else { None };
-        }
-    }
-    None
-}
-
-/// How many bytes belong to a fault at a place.
-pub fn fault_len(source: &[u8], at: usize, cause: ScanCause) -> usize {
-    let end = inner_end(source, at).unwrap_or(source.len());
-    let text = text_in(source, from_to(at, end));
+/// How many bytes belong to a fault at the front of a text.
+pub fn fault_len(text: &[u8]) -> usize {
     if text.is_empty() || text.len() > MOST_BYTES {
         return 1;
     }
-    if let Some(found) = annotation_of(text) {
+    if let Some(found) = annotation_at(text) {
         return found.opening;
     }
-    match (first_piece(text), cause) {
-        (Ok(found), _) => found.len,
-        (Err(_), ScanCause::OpenComment) => text.len(),
-        (Err(_), ScanCause::OpenChar) => line_len(text),
-        (Err(_), _) => 1,
+    match first_piece(text) {
+        Ok(found) => found.len,
+        Err(ScanCause::OpenComment) => text.len(),
+        Err(ScanCause::OpenChar) => line_len(text),
+        Err(_) => 1,
     }
 }
 
