@@ -118,7 +118,7 @@ token_stands text ts at r is h =
     let below = some_below ts at r is in
     let here : min at (length ts - 1) ≡ at = omega arith in
     subst (λ n. StandsAt text (unwrap_or (slice_get (lines ts) n) 1) r) (sym here)
-    (one_stands text ts at r (tokens_stand beginning [] h.reads.parts ts text refl h.reads.whole h.reads.cut h.reads.tokens) is)
+    (one_stands text ts at r (tokens_stand beginning [] h.parts ts text refl h.reads.whole h.reads.cut h.reads.tokens) is)
 
 -- where there is a token, it stands in its text
 pub range_stands : (text : List ℕ) (ts : List Token) (at : ℕ) (found : Option ByteRange) → found ≡ slice_get (ranges ts) at → HasTokens text ts → IfSome found (StandsAt text (line_of ts at))

@@ -208,10 +208,16 @@ impl Tokens {
     }
 
     /// The bytes of token `at`, where there is one.
-    #[tactic(auto, using(crate::proofs::PlaceLaws::range_stands))]
     pub fn range(&self, at: usize) -> Option<ByteRange>
         ensures value { result ≡ slice_get (ranges self.now) at }
         ensures stands { (text : List ℕ) → HasTokens text self.now → IfSome result (StandsAt text (line_of self.now at)) }
+    {
+        self.kept_range(at)
+    }
+
+    // The bytes that the token keeps, in whatever text.
+    fn kept_range(&self, at: usize) -> Option<ByteRange>
+        ensures { result ≡ slice_get (ranges self.now) at }
     {
         self.items.get(at).map(|t| t.range)
     }
