@@ -34,10 +34,13 @@ none_above [] at h = omega arith
 none_above (x ∷ xs) zero h = absurd cc
 none_above (x ∷ xs) (suc at) h = let above = none_above xs at h in omega arith
 
+no_range : (tokens : List Token) (at : ℕ) → None ≡ slice_get (ranges tokens) at → length tokens ≤ at
+no_range tokens at h = subst (λ n. n ≤ at) (length-map tokens (λ (t : Token). t.range)) (none_above (ranges tokens) at h)
+
 -- the line of the end is that of the last token
 end_line : (tokens : List Token) (at : ℕ) → None ≡ slice_get (ranges tokens) at → token_line tokens at ≡ line_of tokens (length tokens - 1)
 end_line tokens at h =
-    let above : length tokens ≤ at = rw (← length-map) (none_above (ranges tokens) at h) in
+    let above = no_range tokens at h in
     let same : min (min at (length tokens)) (length tokens - 1) ≡ min (length tokens - 1) (length tokens - 1) = omega arith in
     ap (λ n. unwrap_or (slice_get (lines tokens) n) 1) same
 
@@ -53,5 +56,5 @@ end_on_a_line source tokens at last none h =
 pub no_tokens : (source : List ℕ) (tokens : List Token) (at : ℕ) (start : ByteRange) → start.from ≡ 0 → None ≡ slice_get (ranges tokens) (length tokens - 1) → IsPlaceIn source (token_line tokens at) (Some start)
 no_tokens source [] at start begins none = (omega (arith, begins), subst (λ n. line_in source n ≡ 1) (sym begins) refl)
 no_tokens source (t ∷ ts) at start begins none =
-    let above : length (t ∷ ts) ≤ length (t ∷ ts) - 1 = rw (← length-map) (none_above (ranges (t ∷ ts)) (length (t ∷ ts) - 1) none) in
+    let above = no_range (t ∷ ts) (length (t ∷ ts) - 1) none in
     absurd (omega arith)

@@ -1,5 +1,7 @@
 //! Places in a source.
 
+ghost use Rattle.std.specs.Prelude.{◌+◌, ◌≤◌};
+
 use crate::page::line_len;
 use cp_text::{ByteRange, ScanCause, Tokens, annotation_at, first_piece};
 use std::alloc::{AllocError, Global};
@@ -11,7 +13,9 @@ pub fn text_in(source: &[u8], range: ByteRange) -> &[u8] {
 }
 
 /// Where a range ends.
-pub fn end(range: ByteRange) -> usize {
+pub fn end(range: ByteRange) -> usize
+    ensures { result ≤ range.from + range.len }
+{
     range.from.saturating_add(range.len)
 }
 

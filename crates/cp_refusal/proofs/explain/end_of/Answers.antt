@@ -21,4 +21,4 @@ pub returns-in-None : goal.returns-in-None
 returns-in-None c = λ h.
     let tokens = c.args.tokens.now in
     let before = c.saturating_sub.ensures ∙ ap (λ n. n - 1) c.count-count.ensures.value in
-    no_tokens c.args.source.now tokens c.args.at _ refl (c.in-None.ensures.value ∙ ap (λ n. slice_get (ranges tokens) n) before)
+    no_tokens c.args.source.now tokens c.args.at (record { from = 0; len = 1 }) refl (c.in-None.ensures.value ∙ ap (λ n. slice_get (ranges tokens) n) before)
