@@ -14,6 +14,7 @@ use Rattle.cp_resolved.proofs.Resolving.{read_names}
 use Rattle.cp_resolved.specs.Enumerations.{constant_names}
 use Rattle.cp_resolved.specs.Resolving.{IsProgramOf}
 use Rattle.cp_machine_laws.specs.Named.{named_discipline}
+use Rattle.cp_tool.specs.Analysis.{is_at_once, is_endless}
 use Rattle.cp_tool.specs.declared.options.Options.{Options}
 use Rattle.cp_walk.specs.Text.{Spellings}
 use Rattle.cp_expectation.specs.Plain as plain
@@ -55,7 +56,7 @@ module _ (t : Tree) (r : Tables) (ps : Processes) (read : ∥ IsRead t.program �
     meant_if false at_once h = h
 
     pub ends_meant : TellsEnds r ps o es verdict → MeansEnds t ps o es verdict
-    ends_meant h = meant_if (can_be_judged o.at_once o.discipline es) o.at_once h
+    ends_meant h = meant_if (can_be_judged (is_at_once o.analysis) o.discipline es) (is_at_once o.analysis) h
 
 -- ---- what can be asked
 
@@ -80,11 +81,11 @@ told_more true told more verdict f h = f h
 told_more false told more verdict f h = h
 
 -- by schedules of any length, or by those within the limits
-pub any_asked : (o : Options) (n : Names) (es : List Expectation) (within any : List Expectation → Type 0) (verdict : ShowVerdict) → are_asked o n es ≡ true → o.ends ≡ true → any es → TellsAsked o n es within any verdict
-any_asked o n es within any verdict can ends h = told_when (are_asked o n es) (TellsBy o.ends within any es) verdict can (subst (λ (b : Bool). TellsBy b within any es) (sym ends) h)
+pub any_asked : (o : Options) (n : Names) (es : List Expectation) (within any : List Expectation → Type 0) (verdict : ShowVerdict) → are_asked o n es ≡ true → is_endless o.analysis ≡ true → any es → TellsAsked o n es within any verdict
+any_asked o n es within any verdict can ends h = told_when (are_asked o n es) (TellsBy (is_endless o.analysis) within any es) verdict can (subst (λ (b : Bool). TellsBy b within any es) (sym ends) h)
 
-pub within_asked : (o : Options) (n : Names) (es : List Expectation) (within any : List Expectation → Type 0) (verdict : ShowVerdict) → are_asked o n es ≡ true → o.ends ≡ false → within es → TellsAsked o n es within any verdict
-within_asked o n es within any verdict can ends h = told_when (are_asked o n es) (TellsBy o.ends within any es) verdict can (subst (λ (b : Bool). TellsBy b within any es) (sym ends) h)
+pub within_asked : (o : Options) (n : Names) (es : List Expectation) (within any : List Expectation → Type 0) (verdict : ShowVerdict) → are_asked o n es ≡ true → is_endless o.analysis ≡ false → within es → TellsAsked o n es within any verdict
+within_asked o n es within any verdict can ends h = told_when (are_asked o n es) (TellsBy (is_endless o.analysis) within any es) verdict can (subst (λ (b : Bool). TellsBy b within any es) (sym ends) h)
 
 -- ---- no words spell nothing
 

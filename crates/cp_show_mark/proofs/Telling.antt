@@ -7,6 +7,7 @@ use Rattle.cp_machine_laws.specs.Named.{named, named_discipline}
 use Rattle.cp_run.specs.Slots.{slots}
 use Rattle.cp_run.specs.Table.{table}
 use Rattle.cp_run.specs.declared.limits.Limits.{Limits}
+use Rattle.cp_tool.specs.Analysis.{is_at_once}
 use Rattle.cp_tool.specs.declared.options.Options.{Options}
 use Rattle.cp_expectation.specs.declared.expectation.Expectation.{Expectation}
 use Rattle.cp_verdict.specs.endless.AtOnce.{IsMarkAtOnce, IsMarkInTurn, can_be_at_once}
@@ -53,11 +54,11 @@ tells_if true told verdict asked refused = asked refl
 tells_if false told verdict asked refused = refused refl
 
 -- a mark with calls at once, or without, as the options ask
-pub judged_at_once : (o : Options) (l : Limits) (r : Tables) (ps : Processes) (es : List Expectation) (m : ends_mark.EndsMark) (verdict : ShowVerdict) {choices : ℕ} → (l.choices ≡ choices) × (l.steps ≡ o.steps) × (l.discipline ≡ o.discipline) → o.at_once ≡ true → verdict ≡ ends_verdict_of m → (can_be_at_once l.discipline es ≡ true → IsMarkAtOnce r ps l.steps es m) → (can_be_at_once l.discipline es ≡ false → m ≡ of_ends.Misread) → TellsEnds r ps o es verdict
+pub judged_at_once : (o : Options) (l : Limits) (r : Tables) (ps : Processes) (es : List Expectation) (m : ends_mark.EndsMark) (verdict : ShowVerdict) {choices : ℕ} → (l.choices ≡ choices) × (l.steps ≡ o.steps) × (l.discipline ≡ o.discipline) → is_at_once o.analysis ≡ true → verdict ≡ ends_verdict_of m → (can_be_at_once l.discipline es ≡ true → IsMarkAtOnce r ps l.steps es m) → (can_be_at_once l.discipline es ≡ false → m ≡ of_ends.Misread) → TellsEnds r ps o es verdict
 judged_at_once o l r ps es m verdict same asked is mark refused =
     subst (λ (b : Bool). TellsIf (can_be_judged b o.discipline es) (TellsEndsBy b r ps o es verdict) verdict) (sym asked) (tells_if (can_be_at_once o.discipline es) (TellsMarkAtOnce r ps o.steps es verdict) verdict (λ can. told_at_once o l r ps es verdict same (m, is, mark (subst (λ (g : Discipline). can_be_at_once g es ≡ true) (sym same.2) can))) (λ can. is ∙ ap ends_verdict_of (refused (subst (λ (g : Discipline). can_be_at_once g es ≡ false) (sym same.2) can))))
 
-pub judged_in_turn : (o : Options) (l : Limits) (r : Tables) (ps : Processes) (es : List Expectation) (m : ends_mark.EndsMark) (verdict : ShowVerdict) {choices : ℕ} → (l.choices ≡ choices) × (l.steps ≡ o.steps) × (l.discipline ≡ o.discipline) → o.at_once ≡ false → verdict ≡ ends_verdict_of m → (can_be_asked l.discipline es ≡ true → IsMarkInTurn r ps l.discipline l.steps o.states es m) → (can_be_asked l.discipline es ≡ false → m ≡ of_ends.Misread) → TellsEnds r ps o es verdict
+pub judged_in_turn : (o : Options) (l : Limits) (r : Tables) (ps : Processes) (es : List Expectation) (m : ends_mark.EndsMark) (verdict : ShowVerdict) {choices : ℕ} → (l.choices ≡ choices) × (l.steps ≡ o.steps) × (l.discipline ≡ o.discipline) → is_at_once o.analysis ≡ false → verdict ≡ ends_verdict_of m → (can_be_asked l.discipline es ≡ true → IsMarkInTurn r ps l.discipline l.steps o.states es m) → (can_be_asked l.discipline es ≡ false → m ≡ of_ends.Misread) → TellsEnds r ps o es verdict
 judged_in_turn o l r ps es m verdict same asked is mark refused =
     subst (λ (b : Bool). TellsIf (can_be_judged b o.discipline es) (TellsEndsBy b r ps o es verdict) verdict) (sym asked) (tells_if (can_be_asked o.discipline es) (TellsEndsMark r ps o.discipline o.steps o.states es verdict) verdict (λ can. told_ends o l r ps es verdict same (m, is, mark (subst (λ (g : Discipline). can_be_asked g es ≡ true) (sym same.2) can))) (λ can. is ∙ ap ends_verdict_of (refused (subst (λ (g : Discipline). can_be_asked g es ≡ false) (sym same.2) can))))
 

@@ -12,6 +12,7 @@ use Rattle.cp_machine.specs.declared.discipline.Gates.TheVariants.{First, Any}
 use Rattle.cp_run.specs.Slots.{slots}
 use Rattle.cp_run.specs.Table.{table}
 use Rattle.cp_machine_laws.specs.Named.{named, named_discipline}
+use Rattle.cp_tool.specs.Analysis.{is_at_once, is_endless}
 use Rattle.cp_tool.specs.declared.options.Options.{Options}
 use Rattle.cp_walk.specs.Text.{Spellings}
 use Rattle.cp_expectation.specs.Objections.{objection_to}
@@ -78,7 +79,7 @@ ends_question false First = Ends
 
 -- by which schedules expectations are judged
 abbrev pub question_of : Options → Question
-question_of o = if o.ends then ends_question o.at_once o.discipline.gates else Rows
+question_of o = if is_endless o.analysis then ends_question (is_at_once o.analysis) o.discipline.gates else Rows
 
 -- a value that some display of the program can print: no name, or that of a truth value or of a constant
 abbrev pub can_be_shown : Spellings → List ℕ → Bool
@@ -114,7 +115,7 @@ TellsBy false within any es = within es
 TellsBy true within any es = any es
 
 abbrev pub TellsAsked : Options → Names → List Expectation → (List Expectation → Type 0) → (List Expectation → Type 0) → ShowVerdict → Type 0
-TellsAsked o names es within any verdict = TellsIf (are_asked o names es) (TellsBy o.ends within any es) verdict
+TellsAsked o names es within any verdict = TellsIf (are_asked o names es) (TellsBy (is_endless o.analysis) within any es) verdict
 
 abbrev pub TellsWords : Options → Names → spelling.Words → (List Expectation → Type 0) → (List Expectation → Type 0) → ShowVerdict → Type 0
 TellsWords o names ws within any verdict = TellsSpelled (Spells ws) plain.expected_of (λ es. TellsAsked o names es within any verdict) verdict
@@ -131,7 +132,7 @@ TellsEndsBy false r ps o es verdict = TellsEndsMark r ps o.discipline o.steps o.
 TellsEndsBy true r ps o es verdict = TellsMarkAtOnce r ps o.steps es verdict
 
 abbrev pub TellsEnds : Tables → Processes → Options → List Expectation → ShowVerdict → Type 0
-TellsEnds r ps o es verdict = TellsIf (can_be_judged o.at_once o.discipline es) (TellsEndsBy o.at_once r ps o es verdict) verdict
+TellsEnds r ps o es verdict = TellsIf (can_be_judged (is_at_once o.analysis) o.discipline es) (TellsEndsBy (is_at_once o.analysis) r ps o es verdict) verdict
 
 -- on the program's own names: with this limit of steps, or, by kernel calls at once, with any
 abbrev pub names_with : Tree → Processes → Names
@@ -142,7 +143,7 @@ IsTrueBy false t ps o es m = IsTrueMark (names_with t ps) (on_names t (named_dis
 IsTrueBy true t ps o es m = IsTrueMark (names_with t ps) (at_any_limit t) es m
 
 abbrev pub MeansEnds : Tree → Processes → Options → List Expectation → ShowVerdict → Type 0
-MeansEnds t ps o es verdict = TellsIf (can_be_judged o.at_once o.discipline es) ((m : EndsMark) × (verdict ≡ ends_verdict_of m) × ∥ IsTrueBy o.at_once t ps o es m ∥₁) verdict
+MeansEnds t ps o es verdict = TellsIf (can_be_judged (is_at_once o.analysis) o.discipline es) ((m : EndsMark) × (verdict ≡ ends_verdict_of m) × ∥ IsTrueBy (is_at_once o.analysis) t ps o es m ∥₁) verdict
 
 -- ---- the whole
 

@@ -10,6 +10,7 @@ ghost use Rattle.cp_run.specs.Slots.{slots};
 ghost use Rattle.cp_run.specs.Table.{table};
 ghost use Rattle.cp_tree.specs.Read.{IsRead};
 ghost use Rattle.cp_tree.specs.Syntax.{Tree};
+ghost use Rattle.cp_tool.specs.Analysis.{is_endless};
 ghost use Rattle.cp_expectation.specs.Words.{words_of};
 ghost use Rattle.cp_verdict.specs.endless.Marked.{with_tables};
 ghost use Rattle.cp_verdict.specs.endless.Naming.{processes_of};
@@ -46,7 +47,7 @@ pub fn mark_answer<O: ObserveProgress>(
 ) -> Result<ShowAnswer, AllocError>
     ensures mark { IfOk result (λ a. (text : List ℕ) × given.IsGiven words.now with_own source.now text × given.TellsGiven examinee.entry.program.now examinee.entry.options.now (processes_of examinee.entry.legend.now) (words_of text) a.verdict) }
     ensures meaning { (t : Tree) → ∥ IsRead t.program ∥₁ → IsAccepted t → IsProgramOf t examinee.entry.program.now → IfOk result (λ a. (text : List ℕ) × given.IsGiven words.now with_own source.now text × given.MeansGiven t examinee.entry.options.now (processes_of examinee.entry.legend.now) (words_of text) a.verdict) }
-    ensures text { examinee.entry.options.now.ends ≡ false → IfOk result (λ a. (text : List ℕ) × given.IsGiven words.now with_own source.now text × given.TellsGivenText (setting_of examinee.entry) examinee.entry.options.now (with_tables examinee.entry.program.now (processes_of examinee.entry.legend.now)) (words_of text) a.verdict (string_bytes a.text)) }
+    ensures text { is_endless examinee.entry.options.now.analysis ≡ false → IfOk result (λ a. (text : List ℕ) × given.IsGiven words.now with_own source.now text × given.TellsGivenText (setting_of examinee.entry) examinee.entry.options.now (with_tables examinee.entry.program.now (processes_of examinee.entry.legend.now)) (words_of text) a.verdict (string_bytes a.text)) }
 {
     let text = expectation_text(alloc, words, with_own, source)?;
     mark_given(alloc, examinee, observer, text.as_str())
@@ -61,7 +62,7 @@ fn mark_given<O: ObserveProgress>(
 ) -> Result<ShowAnswer, AllocError>
     ensures mark { IfOk result (λ a. given.TellsGiven examinee.entry.program.now examinee.entry.options.now (processes_of examinee.entry.legend.now) (words_of text.now) a.verdict) }
     ensures meaning { (t : Tree) → ∥ IsRead t.program ∥₁ → IsAccepted t → IsProgramOf t examinee.entry.program.now → IfOk result (λ a. given.MeansGiven t examinee.entry.options.now (processes_of examinee.entry.legend.now) (words_of text.now) a.verdict) }
-    ensures text { examinee.entry.options.now.ends ≡ false → IfOk result (λ a. given.TellsGivenText (setting_of examinee.entry) examinee.entry.options.now (with_tables examinee.entry.program.now (processes_of examinee.entry.legend.now)) (words_of text.now) a.verdict (string_bytes a.text)) }
+    ensures text { is_endless examinee.entry.options.now.analysis ≡ false → IfOk result (λ a. given.TellsGivenText (setting_of examinee.entry) examinee.entry.options.now (with_tables examinee.entry.program.now (processes_of examinee.entry.legend.now)) (words_of text.now) a.verdict (string_bytes a.text)) }
 {
     if text.is_empty() {
         return misread(
@@ -120,7 +121,7 @@ fn mark_by<O: ObserveProgress>(
 ) -> Result<ShowAnswer, AllocError>
     ensures mark { IfOk result (λ a. given.TellsGiven examinee.entry.program.now examinee.entry.options.now (processes_of examinee.entry.legend.now) (words_of text.now) a.verdict) }
     ensures meaning { (t : Tree) → ∥ IsRead t.program ∥₁ → IsAccepted t → IsProgramOf t examinee.entry.program.now → IfOk result (λ a. given.MeansGiven t examinee.entry.options.now (processes_of examinee.entry.legend.now) (words_of text.now) a.verdict) }
-    ensures text { examinee.entry.options.now.ends ≡ false → IfOk result (λ a. given.TellsGivenText (setting_of examinee.entry) examinee.entry.options.now (with_tables examinee.entry.program.now (processes_of examinee.entry.legend.now)) (words_of text.now) a.verdict (string_bytes a.text)) }
+    ensures text { is_endless examinee.entry.options.now.analysis ≡ false → IfOk result (λ a. given.TellsGivenText (setting_of examinee.entry) examinee.entry.options.now (with_tables examinee.entry.program.now (processes_of examinee.entry.legend.now)) (words_of text.now) a.verdict (string_bytes a.text)) }
 {
     match expectations(alloc, text) {
         Ok(reading) => mark_asked(alloc, examinee, observer, &reading),
@@ -142,13 +143,13 @@ fn mark_asked<O: ObserveProgress>(
 ) -> Result<ShowAnswer, AllocError>
     ensures mark { IfOk result (λ a. given.TellsAsked examinee.entry.options.now (with_tables examinee.entry.program.now (processes_of examinee.entry.legend.now)) reading.now.expectations.items (λ es. spec.TellsMark examinee.entry.program.now.names es (table (slots examinee.entry.program.now examinee.entry.options.now.discipline) examinee.entry.options.now.choices examinee.entry.options.now.steps) a.verdict) (λ es. given.TellsEnds examinee.entry.program.now (processes_of examinee.entry.legend.now) examinee.entry.options.now es a.verdict) a.verdict) }
     ensures meaning { (t : Tree) → ∥ IsRead t.program ∥₁ → IsAccepted t → IsProgramOf t examinee.entry.program.now → IfOk result (λ a. given.TellsAsked examinee.entry.options.now (given.names_with t (processes_of examinee.entry.legend.now)) reading.now.expectations.items (λ es. spec.TellsMark (constant_names t.program) es (table (named t (named_discipline examinee.entry.options.now.discipline)) examinee.entry.options.now.choices examinee.entry.options.now.steps) a.verdict) (λ es. given.MeansEnds t (processes_of examinee.entry.legend.now) examinee.entry.options.now es a.verdict) a.verdict) }
-    ensures text { examinee.entry.options.now.ends ≡ false → IfOk result (λ a. given.TellsIf (given.are_asked examinee.entry.options.now (with_tables examinee.entry.program.now (processes_of examinee.entry.legend.now)) reading.now.expectations.items) (TellsText (setting_of examinee.entry) reading.now.expectations.items (option_map (λ w. w.now) reading.now.doubtful) a.verdict (string_bytes a.text)) a.verdict) }
+    ensures text { is_endless examinee.entry.options.now.analysis ≡ false → IfOk result (λ a. given.TellsIf (given.are_asked examinee.entry.options.now (with_tables examinee.entry.program.now (processes_of examinee.entry.legend.now)) reading.now.expectations.items) (TellsText (setting_of examinee.entry) reading.now.expectations.items (option_map (λ w. w.now) reading.now.doubtful) a.verdict (string_bytes a.text)) a.verdict) }
 {
     let list = reading.expectations.as_slice();
     if let Some(said) = refusal(alloc, examinee, list)? {
         return misread(alloc, examinee, said.as_str());
     }
-    if examinee.options.ends {
+    if examinee.options.analysis.is_endless() {
         judge_ends(alloc, examinee, observer, list)
     } else {
         mark_of(alloc, examinee, observer, reading)
@@ -177,7 +178,7 @@ fn judge_ends<O: ObserveProgress>(
         most: options.states,
     };
     // Without calls at once they are made all the same where there are too many states.
-    if options.at_once {
+    if options.analysis.is_at_once() {
         let marked = mark_at_once(alloc, subject, list, observer)?;
         ends_answer(alloc, examinee, &marked)
     } else {

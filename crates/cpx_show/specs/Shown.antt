@@ -15,6 +15,7 @@ use Rattle.cp_run.specs.Run.{run}
 use Rattle.cp_run.specs.Table.{table}
 use Rattle.cp_run.specs.Trace.{trace}
 use Rattle.cp_machine_laws.specs.Named.{named, named_discipline}
+use Rattle.cp_tool.specs.Analysis.{is_endless}
 use Rattle.cp_tool.specs.declared.options.Options.{Options}
 use Rattle.cp_story.specs.Halted.{halted_seen}
 use Rattle.cp_story.specs.Told.{lines_of}
@@ -84,7 +85,7 @@ setting_of json o r l source = record { legend = legend_seen l; program = r; dis
 -- the mark of the expectations that the words or the comments of the source give, by the meaning; and what tells it of schedules within the limits
 abbrev pub IsGivenMark : (json : Bool) → Options → Tree → Tables → code_legend.Legend → (words : List ℕ) → (with_own : Bool) → (bytes : List ℕ) → (source : List (List ℕ)) → ShowVerdict → List ℕ → Type 0
 IsGivenMark json o t r l words with_own bytes source verdict text =
-    ((given : List ℕ) × IsGiven words with_own bytes given × MeansGiven t o (processes_of l) (words_of given) verdict) × (o.ends ≡ false → (given : List ℕ) × IsGiven words with_own bytes given × TellsGivenText (setting_of json o r l source) o (with_tables r (processes_of l)) (words_of given) verdict text)
+    ((given : List ℕ) × IsGiven words with_own bytes given × MeansGiven t o (processes_of l) (words_of given) verdict) × (is_endless o.analysis ≡ false → (given : List ℕ) × IsGiven words with_own bytes given × TellsGivenText (setting_of json o r l source) o (with_tables r (processes_of l)) (words_of given) verdict text)
 
 -- ---- the parts
 

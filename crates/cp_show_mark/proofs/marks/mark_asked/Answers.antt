@@ -4,6 +4,7 @@ use Rattle.cp_resolved.specs.Enumerations.{constant_names}
 use Rattle.cp_machine_laws.specs.Named.{named, named_discipline}
 use Rattle.cp_run.specs.Table.{table}
 use Rattle.cp_expectation.specs.declared.expectation.Expectation.{Expectation}
+use Rattle.cp_tool.specs.Analysis.{is_endless}
 use Rattle.cp_verdict.specs.endless.Marked.{with_tables}
 use Rattle.cp_verdict.specs.endless.Naming.{processes_of}
 use Rattle.cp_show_mark.specs.Given.{MeansEnds, TellsAsked, TellsBy, TellsEnds, are_asked, names_with}
@@ -20,10 +21,10 @@ returns-in-Some-clause-meaning g c = λ t read ok is.
     let es = c.args.reading.now.expectations.items in
     let can : are_asked o (with_tables r ps) es ≡ false = subst (λ (l : List Expectation). are_asked o (with_tables r ps) l ≡ false) c.as_slice-list.ensures.value (is_refused_when c.in_ok-said.field-0 c.in-Some.said (are_asked o (with_tables r ps) c.as_slice-list.result.now) c.in-Some.is c.in_ok-said.ensures) in
     IfOk-weaker c.misread.result _ (λ a. TellsAsked o (names_with t ps) es (λ es. TellsMark (constant_names t.program) es (table (named t (named_discipline o.discipline)) o.choices o.steps) a.verdict) (λ es. MeansEnds t ps o es a.verdict) a.verdict)
-    (λ a e. misread_when (are_asked o (names_with t ps) es) (TellsBy o.ends (λ es. TellsMark (constant_names t.program) es (table (named t (named_discipline o.discipline)) o.choices o.steps) a.verdict) (λ es. MeansEnds t ps o es a.verdict) es) a.verdict (sym (same_asked t r ps read ok is o es) ∙ can) e) c.misread.ensures)
+    (λ a e. misread_when (are_asked o (names_with t ps) es) (TellsBy (is_endless o.analysis) (λ es. TellsMark (constant_names t.program) es (table (named t (named_discipline o.discipline)) o.choices o.steps) a.verdict) (λ es. MeansEnds t ps o es a.verdict) es) a.verdict (sym (same_asked t r ps read ok is o es) ∙ can) e) c.misread.ensures)
 
-pub returns-then-examinee-clause-meaning : goal.returns-then-examinee-clause-meaning
-returns-then-examinee-clause-meaning g c = λ t read ok is.
+pub returns-then-is_endless-clause-meaning : goal.returns-then-is_endless-clause-meaning
+returns-then-is_endless-clause-meaning g c = λ t read ok is.
     (let x = c.args.examinee in
     let o = x.options.now in
     let r = x.program.now in
@@ -31,11 +32,11 @@ returns-then-examinee-clause-meaning g c = λ t read ok is.
     let es = c.args.reading.now.expectations.items in
     let can : are_asked o (with_tables r ps) es ≡ true = subst (λ (l : List Expectation). are_asked o (with_tables r ps) l ≡ true) c.as_slice-list.ensures.value (is_asked_when c.in_ok-said.field-0 (are_asked o (with_tables r ps) c.as_slice-list.result.now) c.in_default.is c.in_ok-said.ensures) in
     IfOk-weaker c.judge_ends.result _ (λ a. TellsAsked o (names_with t ps) es (λ es. TellsMark (constant_names t.program) es (table (named t (named_discipline o.discipline)) o.choices o.steps) a.verdict) (λ es. MeansEnds t ps o es a.verdict) a.verdict)
-    (λ a told. any_asked o (names_with t ps) es (λ es. TellsMark (constant_names t.program) es (table (named t (named_discipline o.discipline)) o.choices o.steps) a.verdict) (λ es. MeansEnds t ps o es a.verdict) a.verdict (sym (same_asked t r ps read ok is o es) ∙ can) c.if-examinee.true
+    (λ a told. any_asked o (names_with t ps) es (λ es. TellsMark (constant_names t.program) es (table (named t (named_discipline o.discipline)) o.choices o.steps) a.verdict) (λ es. MeansEnds t ps o es a.verdict) a.verdict (sym (same_asked t r ps read ok is o es) ∙ can) (sym c.is_endless.ensures ∙ c.if-is_endless.true)
     (ends_meant t r ps read ok is o es a.verdict (subst (λ (l : List Expectation). TellsEnds r ps o l a.verdict) c.as_slice-list.ensures.value told))) c.judge_ends.ensures)
 
-pub returns-else-examinee-clause-meaning : goal.returns-else-examinee-clause-meaning
-returns-else-examinee-clause-meaning g c = λ t read ok is.
+pub returns-else-is_endless-clause-meaning : goal.returns-else-is_endless-clause-meaning
+returns-else-is_endless-clause-meaning g c = λ t read ok is.
     (let x = c.args.examinee in
     let o = x.options.now in
     let r = x.program.now in
@@ -43,4 +44,4 @@ returns-else-examinee-clause-meaning g c = λ t read ok is.
     let es = c.args.reading.now.expectations.items in
     let can : are_asked o (with_tables r ps) es ≡ true = subst (λ (l : List Expectation). are_asked o (with_tables r ps) l ≡ true) c.as_slice-list.ensures.value (is_asked_when c.in_ok-said.field-0 (are_asked o (with_tables r ps) c.as_slice-list.result.now) c.in_default.is c.in_ok-said.ensures) in
     IfOk-weaker c.mark_of.result _ (λ a. TellsAsked o (names_with t ps) es (λ es. TellsMark (constant_names t.program) es (table (named t (named_discipline o.discipline)) o.choices o.steps) a.verdict) (λ es. MeansEnds t ps o es a.verdict) a.verdict)
-    (λ a told. within_asked o (names_with t ps) es (λ es. TellsMark (constant_names t.program) es (table (named t (named_discipline o.discipline)) o.choices o.steps) a.verdict) (λ es. MeansEnds t ps o es a.verdict) a.verdict (sym (same_asked t r ps read ok is o es) ∙ can) c.if-examinee.false told) (c.mark_of.ensures.meaning t read ok is))
+    (λ a told. within_asked o (names_with t ps) es (λ es. TellsMark (constant_names t.program) es (table (named t (named_discipline o.discipline)) o.choices o.steps) a.verdict) (λ es. MeansEnds t ps o es a.verdict) a.verdict (sym (same_asked t r ps read ok is o es) ∙ can) (sym c.is_endless.ensures ∙ c.if-is_endless.false) told) (c.mark_of.ensures.meaning t read ok is))
