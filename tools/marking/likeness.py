@@ -1,7 +1,12 @@
-"""Whether a solution comes to the same as a model solution: to the same outcomes, or with --ends to the same ends, values and who may wait for ever."""
+"""Whether a solution comes to the same as a model solution: to the same outcomes, or with --ends to the same ends, values and who may wait for ever; and who waits at
+the ends at which all wait."""
 import json
 
 from .cells import Cell, unmarked
+
+
+# The status of a mark that fails.
+FAILS = 6
 
 
 class Ways:
@@ -15,8 +20,10 @@ class Ways:
 def compared(asked):
     """Returns the words for what is compared."""
     if "--ends" not in asked.options:
-        return "outcomes"
-    return "ends, values and who may wait" if asks_waits(asked) else "ends and values"
+        return "outcomes and who waits"
+    if "--at-once" in asked.options:
+        return "ends and values"
+    return "ends, who waits there, values and who may wait for ever" if asks_waits(asked) else "ends, who waits there and values"
 
 
 def asks_waits(asked):
@@ -33,7 +40,29 @@ def ways(solution, asked):
     if answer.status not in (0, 5) or not answer.text.startswith("{"):
         return unmarked(solution, answer)
     told = json.loads(answer.text)
-    return ends_told(told) if "--ends" in asked.options else outcomes_told(told)
+    made = ends_told(told) if "--ends" in asked.options else outcomes_told(told)
+    if "--at-once" not in asked.options:
+        add_waiting(solution, asked, told, made)
+    return made
+
+
+def add_waiting(solution, asked, told, made):
+    """Adds who waits at the ends at which all wait. Each question leaves out those who are known, so that its first schedule has others."""
+    names = [it["name"] for it in told.get("known", told).get("processes", [])]
+    topics = ["finished", "run-error", *(["alone", "spins"] if "--ends" in asked.options else [])]
+    known = []
+    while True:
+        words = [*topics, *(f"all-waiting {' '.join(map(str, who))}" for who in known)]
+        answer = solution.run("mark", "--json", *asked.options, "only", *" or ".join(words).split())
+        if answer.status != FAILS:
+            return
+        row = json.loads(answer.text)["expectations"][0]
+        if "final" not in row:
+            return
+        who = [it["process"] for it in row["final"]]
+        known.append(who)
+        waiting = " and ".join(names[it] if it < len(names) else str(it) for it in who)
+        made.found.setdefault(f"all-waiting: {waiting}", (word_of(row), None))
 
 
 def outcomes_told(told):

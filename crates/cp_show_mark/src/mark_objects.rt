@@ -1,6 +1,6 @@
 //! The same as JSON.
 
-ghost use Rattle.std.specs.Prelude.{◌≡◌, ◌++◌, ◌∷◌, [], IfOk, OnOk, if◌then◌else◌, map, option_map, string_bytes};
+ghost use Rattle.std.specs.Prelude.{◌≡◌, ◌≤◌, ◌++◌, ◌∷◌, [], IfOk, OnOk, if◌then◌else◌, length, map, option_map, string_bytes};
 ghost use Rattle.std.specs.List.{zip};
 ghost use Rattle.serde_json.specs.View.{view};
 ghost use Rattle.serde_json.specs.Written.{compact_text};
@@ -224,28 +224,33 @@ fn put_row(
     put_kind(object, row.outcome.kind)?;
     let output = output_words(alloc, examinee.legend, row.outcome.output.as_slice())?;
     object.text("output", output.as_str())?;
-    put_end(alloc, examinee, object, row)
+    let word = row.schedule.as_slice();
+    put_end(alloc, examinee, object, word, row.outcome.kind)
 }
 
-fn put_end(
+/// Who waits where at the end of a schedule, or the text of the line of its error.
+pub fn put_end(
     alloc: Global,
     examinee: Examinee<'_>,
     object: &mut Object,
-    row: &SeenRow,
+    word: &[u8],
+    kind: OutcomeKind,
 ) -> Result<(), AllocError>
-    ensures { OnOk result (members_in object.new ≡ with_members (members_in object.old) (spec.end_members (setting_of examinee.entry) row.now.schedule.items row.now.outcome.kind)) }
+    requires { length word.now ≤ 100 }
+    ensures { OnOk result (members_in object.new ≡ with_members (members_in object.old) (spec.end_members (setting_of examinee.entry) word.now kind)) }
 {
-    match row.outcome.kind {
-        OutcomeKind::AllWaiting => object.put("final", final_waits(alloc, examinee, row)?),
+    match kind {
+        OutcomeKind::AllWaiting => object.put("final", final_waits(alloc, examinee, word)?),
         OutcomeKind::RunError { line, .. } => object.text("text", examinee.line(line)),
         _ => Ok(()),
     }
 }
 
 // Who waits where at the end of a schedule.
-fn final_waits(alloc: Global, examinee: Examinee<'_>, row: &SeenRow) -> Result<Value, AllocError>
-    ensures { IfOk result (λ v. view v ≡ spec.final_data (setting_of examinee.entry) row.now.schedule.items) }
+fn final_waits(alloc: Global, examinee: Examinee<'_>, word: &[u8]) -> Result<Value, AllocError>
+    requires { length word.now ≤ 100 }
+    ensures { IfOk result (λ v. view v ≡ spec.final_data (setting_of examinee.entry) word.now) }
 {
-    let all = waits_of(alloc, examinee, row.schedule.as_slice())?;
+    let all = waits_of(alloc, examinee, word)?;
     waits(alloc, examinee.legend, &all)
 }

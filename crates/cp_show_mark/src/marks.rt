@@ -32,7 +32,7 @@ use cp_outcomes::completing::greatest_known;
 use cp_outcomes::known::Known;
 use cp_progress::ObserveProgress;
 use cp_verdict::endless::{EndsMark, MarkSubject, MarkedEnds, mark_at_once, mark_in_turn};
-use cp_verdict::{MarkFault, Marked, Standing, expectations_in, mark_program, mark_tallies};
+use cp_verdict::{MarkFault, Marked, Standing, expectations_in, mark_known, mark_named};
 use cp_walk::Job;
 use std::alloc::{AllocError, Global};
 
@@ -230,7 +230,8 @@ fn mark_of<O: ObserveProgress>(
         limits,
     };
     let list = reading.expectations.as_slice();
-    match mark_program(alloc, job, examinee.options.states, list, observer) {
+    let states = examinee.options.states;
+    match mark_named(alloc, job, examinee.legend, states, list, observer) {
         Ok(marked) => told_answer(alloc, examinee, reading, &marked),
         Err(MarkFault::Memory) => Err(AllocError),
         Err(MarkFault::TooManyStates) => {
@@ -314,39 +315,50 @@ fn too_many_text<O: ObserveProgress>(
     };
     let found = greatest_known(alloc, job, examinee.options.states, observer)?;
     match found {
-        Some(known) => known_text(alloc, examinee, reading, excess, &known),
+        Some(known) => known_text(alloc, examinee, observer, reading, excess, &known),
         None => excess_text(alloc, examinee, excess, None),
     }
 }
 
 // The same with what is said of all schedules of fewer choices.
-fn known_text(
+fn known_text<O: ObserveProgress>(
     alloc: Global,
     examinee: Examinee<'_>,
+    observer: &mut O,
     reading: &Reading,
     excess: MarkExcess,
     known: &Known,
 ) -> Result<String, AllocError>
     ensures { IfOk result (λ t. (said : List ℕ) × SaysOfTallies (setting_of examinee.entry) reading.now.expectations.items (option_map (λ w. w.now) reading.now.doubtful) (map tally_of known.now.tallies) said × (string_bytes t ≡ told_spec.excess_saying (setting_of examinee.entry) excess (Some (known.now.choices, said)))) }
 {
-    let said = saying_of_known(alloc, examinee, reading, known)?;
-    excess_text(
-        alloc,
-        examinee,
-        excess,
-        Some((known.choices, said.as_str())),
-    )
+    match saying_of_known(alloc, examinee, observer, reading, known)? {
+        Some(said) => {
+            let told = Some((known.choices, said.as_str()));
+            excess_text(alloc, examinee, excess, told)
+        }
+        None => excess_text(alloc, examinee, excess, None),
+    }
 }
 
-fn saying_of_known(
+fn saying_of_known<O: ObserveProgress>(
     alloc: Global,
     examinee: Examinee<'_>,
+    observer: &mut O,
     reading: &Reading,
     known: &Known,
-) -> Result<String, AllocError>
+) -> Result<Option<String>, AllocError>
     ensures { IfOk result (λ t. SaysOfTallies (setting_of examinee.entry) reading.now.expectations.items (option_map (λ w. w.now) reading.now.doubtful) (map tally_of known.now.tallies) (string_bytes t)) }
 {
+    let job = Job {
+        program: examinee.program,
+        limits: examinee.options.limits().with_choices(known.choices),
+    };
     let list = reading.expectations.as_slice();
-    let marked = mark_tallies(alloc, examinee.program, list, known.tallies.as_slice())?;
-    mark_text(alloc, examinee, reading, &marked)
+    let tallies = known.tallies.as_slice();
+    let states = examinee.options.states;
+    match mark_known(alloc, job, examinee.legend, states, list, tallies, observer) {
+        Ok(marked) => Ok(Some(mark_text(alloc, examinee, reading, &marked)?)),
+        Err(MarkFault::Memory) => Err(AllocError),
+        Err(MarkFault::TooManyStates | MarkFault::TooManyOutcomes) => Ok(None),
+    }
 }
