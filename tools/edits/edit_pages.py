@@ -74,10 +74,10 @@ class Page:
 
 @functools.lru_cache(maxsize=None)
 def pages():
-    """All pages of edits, lowest crate first. A page about edits is none."""
+    """All pages of edits, lowest crate first. A README is none, nor is an edit of another crate's definitions, which begins with 'of: '."""
     paths = [it for crate in crates_listed() for it in sorted((ROOT / "crates" / crate / "must-fail").glob("*.md"))]
     texts = {it: it.read_text(encoding="utf-8") for it in paths}
-    return [Page(it, text) for it, text in texts.items() if text.startswith("file: ")]
+    return [Page(it, text) for it, text in texts.items() if it.name != "README.md" and not text.startswith("of: ")]
 
 
 @functools.lru_cache(maxsize=None)
