@@ -56,11 +56,14 @@ copied_next old mine theirs at x was y lm lt read_mine read same stack cells ref
     record {
       copied = copied_more mine theirs at x y lm lt same read h.copied;
       rest = λ k d le. get_or-set_other mine at k x d (λ e. omega (arith, e, le)) ∙ h.rest k d (omega (arith, le));
-      room = λ q d l. (
-        of_stack (λ q d. vec_len (slice_index_or theirs q d).stack) (λ q d l. (h.room q d l).0) q d l,
-        of_cells (λ q d. vec_len (slice_index_or theirs q d).room.cells) (λ q d l. (h.room q d l).1) q d l,
-        of_references (λ q d. vec_len (slice_index_or theirs q d).room.references) (λ q d l. (h.room q d l).2) q d l,
-      );
+      room = record {
+        count = length-set mine at x ∙ h.room.count;
+        each = λ q d l. record {
+          stack = of_stack (λ q d. vec_len (slice_index_or theirs q d).stack) (λ q d l. (h.room.each q d l).stack) q d l;
+          cells = of_cells (λ q d. vec_len (slice_index_or theirs q d).room.cells) (λ q d l. (h.room.each q d l).cells) q d l;
+          references = of_references (λ q d. vec_len (slice_index_or theirs q d).room.references) (λ q d l. (h.room.each q d l).references) q d l;
+        };
+      };
       stacks = λ depth few. of_stack (λ q d. depth) (h.stacks depth few);
       cells = λ n few. of_cells (λ q d. n) (h.cells n few);
       references = λ n few. of_references (λ q d. n) (h.references n few);
@@ -110,16 +113,19 @@ thread_within r t sound h =
 
 -- the processes of a state of the program have room for those of another
 pub have_room : (r : Tables) (mine theirs : List ProcessState) (m : Machine) → map thread_of theirs ≡ m.threads → length mine ≡ length theirs → IsSound r → MachineFits r m → HaveStacks r.depth mine → HaveCells r.cells mine → HaveReferences r.references mine → HaveRoom mine theirs
-have_room r mine theirs m same long sound fits stacks cells references = λ q d lt.
-    (let within : q < length theirs = omega (arith, long, lt) in
-    let p = slice_index_or theirs q d in
-    let read : thread_at (map thread_of theirs) q ≡ thread_of p = get_or-map thread_of theirs q d no_thread within in
-    let count : length (map thread_of theirs) ≡ length theirs = length-map theirs thread_of in
-    let Q : List Thread → Type 0 = λ ts. (k : ℕ) → k < length ts → ThreadFits r (thread_at ts k) in
-    let all : (k : ℕ) → k < length (map thread_of theirs) → ThreadFits r (thread_at (map thread_of theirs) k) = subst Q (sym same) fits.each in
-    let few = thread_within r (thread_of p) sound (subst (ThreadFits r) read (all q (omega (arith, count, within)))) in
-    let turned : length (top_first p.stack) ≡ length p.stack.items = length-reverse p.stack.items in
-    let depth : vec_len p.stack ≡ length p.stack.items = p.stack.ok.0 in
-    let size : vec_len p.room.cells ≡ length p.room.cells.items = p.room.cells.ok.0 in
-    let named : vec_len p.room.references ≡ length p.room.references.items = p.room.references.ok.0 in
-    (omega (arith, few.0, turned, depth, stacks q d lt), omega (arith, few.1, size, cells q d lt), omega (arith, few.2, named, references q d lt)))
+have_room r mine theirs m same long sound fits stacks cells references = record {
+  count = long;
+  each = λ q d lt.
+      (let within : q < length theirs = omega (arith, long, lt) in
+      let p = slice_index_or theirs q d in
+      let read : thread_at (map thread_of theirs) q ≡ thread_of p = get_or-map thread_of theirs q d no_thread within in
+      let count : length (map thread_of theirs) ≡ length theirs = length-map theirs thread_of in
+      let Q : List Thread → Type 0 = λ ts. (k : ℕ) → k < length ts → ThreadFits r (thread_at ts k) in
+      let all : (k : ℕ) → k < length (map thread_of theirs) → ThreadFits r (thread_at (map thread_of theirs) k) = subst Q (sym same) fits.each in
+      let few = thread_within r (thread_of p) sound (subst (ThreadFits r) read (all q (omega (arith, count, within)))) in
+      let turned : length (top_first p.stack) ≡ length p.stack.items = length-reverse p.stack.items in
+      let depth : vec_len p.stack ≡ length p.stack.items = p.stack.ok.0 in
+      let size : vec_len p.room.cells ≡ length p.room.cells.items = p.room.cells.ok.0 in
+      let named : vec_len p.room.references ≡ length p.room.references.items = p.room.references.ok.0 in
+      record { stack = omega (arith, few.0, turned, depth, stacks q d lt); cells = omega (arith, few.1, size, cells q d lt); references = omega (arith, few.2, named, references q d lt) });
+}

@@ -8,6 +8,7 @@ pub mod LocalReady
 pub mod LocalSteps
 pub mod Outcomes
 pub mod Overwriting
+pub mod PremiseLemmas
 pub mod ResultLemmas
 pub mod StackLemmas
 pub mod StartLemmas

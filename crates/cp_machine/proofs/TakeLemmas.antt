@@ -1,9 +1,8 @@
 -- What the item that a process takes needs is there.
-use Rattle.cp_machine.proofs.Words.{◌≡◌, ◌∙◌, ℕ, ◌<◌, List, ◌∷◌, length, Option, ap, sym, subst, arith, true, ℤ, length-map, Tables, item_at, InnerFits, CallFits}
-use Rattle.cp_machine.proofs.Words.{ActionFits, Action, Item, Argument, Entry, Rest, Successor, State, is_ready, machine_of, monitor_of, thread_of}
-use Rattle.cp_machine.specs.Fits.{EntryFits, ThreadFits, IsStateOf, IsBusy, HasRoom, HasCallRoom, HaveGateRoom}
+use Rattle.cp_machine.proofs.Words.{◌≡◌, ◌∙◌, ℕ, ◌<◌, List, ◌∷◌, length, Option, ap, sym, subst, ℤ, length-map, Tables, item_at, InnerFits, CallFits}
+use Rattle.cp_machine.proofs.Words.{ActionFits, Action, Item, Argument, Entry, Rest, Successor, State, machine_of, monitor_of, thread_of}
+use Rattle.cp_machine.specs.Fits.{EntryFits, ThreadFits, IsStateOf, IsBusy, HasRoom, HasCallRoom}
 use Rattle.cp_machine.proofs.rooms.KeepingAct.{action_fits}
-use Rattle.cp_machine.proofs.lines.KernelLines.{line_short}
 use Rattle.cp_machine.proofs.rooms.RoomLemmas.{thread, within, is_busy, rest_stands, successor_stands, has_room, call_room}
 
 module _ (r : Tables) (s : State) (pid at : ℕ) (e : Entry) (es : List Entry) (item : Item) (lt : pid < length s.processes.items) (own : IsStateOf r s) (top : (thread s pid).stack ≡ e ∷ es) (stands : EntryFits r (thread s pid).frame at (length es)) (same : item ≡ item_at r at) where
@@ -49,7 +48,3 @@ processes_count r s own = sym (length-map s.processes.items thread_of) ∙ own.f
 
 pub own_thread : (r : Tables) (s : State) (pid : ℕ) → pid < length s.processes.items → IsStateOf r s → ThreadFits r (thread s pid)
 own_thread r s pid lt own = own.fits.each pid (within s pid lt)
-
--- there is room in each line for a process that is ready
-pub gate_room : (r : Tables) (s : State) (pid : ℕ) → IsStateOf r s → is_ready (machine_of s) pid ≡ true → HaveGateRoom (machine_of s)
-gate_room r s pid own ready = λ monitor. omega (arith, line_short (machine_of s) monitor pid own.lines ready, length-map s.processes.items thread_of, s.few)

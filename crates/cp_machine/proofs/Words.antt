@@ -36,7 +36,7 @@ pub use Rattle.cp_store.specs.declared.memory.Address.TheVariants.{Local, Perman
 pub use Rattle.cp_store.specs.declared.memory.Frame.{Frame}
 pub use Rattle.cp_store.specs.declared.set.SetValue.{SetValue}
 pub use Rattle.cp_machine.specs.Calls.{call, open_call, call_by, call_in, continue_from, frame_behind, leave_frame, open_frame, start, start_by}
-pub use Rattle.cp_machine.specs.Fits.{AreFirstKnown, EntryFits, Follows, FrameFits, HasCallRoom, HasRoom, HaveCells, HaveGateRoom, HaveReferences, HaveStacks, IsBusy}
+pub use Rattle.cp_machine.specs.Fits.{EntryFits, Follows, FrameFits, HasCallRoom, HasRoom, HaveCells, HaveReferences, HaveStacks, IsBusy}
 pub use Rattle.cp_machine.specs.Fits.{IsFirstKnown, IsReserved, IsStateOf, IsTaken, LinesFit, MachineFits, StackFits, ThreadFits, size_of}
 pub use Rattle.cp_machine.specs.Kernel.{resume, delay_caller, enter_caller, enter_by, first_in, free, goes_in, let_in, let_in_by, one_in, go_on_inside, waits_in}
 pub use Rattle.cp_machine.specs.Machine.{Machine, Monitor, Thread, in_line, is_at_gate, is_delayed_at, is_initialised, is_pending, is_ready, is_ready_status, is_some}

@@ -65,13 +65,6 @@ abbrev pub IsFirstKnown : (processes : ℕ) → List ℕ → Type 0
 IsFirstKnown processes [] = Unit {0}
 IsFirstKnown processes (q ∷ line) = q < processes
 
-abbrev pub AreFirstKnown : Machine → Type 0
-AreFirstKnown m = (monitor : ℕ) → IsFirstKnown (length m.threads) (monitor_at m monitor).line
-
--- each line has room for one process more
-abbrev pub HaveGateRoom : Machine → Type 0
-HaveGateRoom m = (monitor : ℕ) → length (monitor_at m monitor).line < 16
-
 -- each process has this much room for its control stack, its cells and its references
 
 abbrev pub HaveStacks : ℕ → List ProcessState → Type 0
@@ -116,12 +109,16 @@ abbrev pub HasRoom : State → ℕ → Option ℕ → Type 0
 HasRoom s pid None = Unit {0}
 HasRoom s pid (Some at) = (d : ProcessState) → vec_len (slice_index_or s.processes.items pid d).stack < vec_capacity (slice_index_or s.processes.items pid d).stack
 
--- each process has room for what the other has
-abbrev pub HaveRoom : List ProcessState → List ProcessState → Type 0
-HaveRoom mine theirs = (q : ℕ) (d : ProcessState) → q < length mine →
-    (vec_len (slice_index_or theirs q d).stack ≤ vec_capacity (slice_index_or mine q d).stack)
-    × (vec_len (slice_index_or theirs q d).room.cells ≤ vec_capacity (slice_index_or mine q d).room.cells)
-    × (vec_len (slice_index_or theirs q d).room.references ≤ vec_capacity (slice_index_or mine q d).room.references)
+-- a process has room for what another one has
+pub record HasRoomFor (mine theirs : ProcessState) : Type 0 where
+  pub stack : vec_len theirs.stack ≤ vec_capacity mine.stack
+  pub cells : vec_len theirs.room.cells ≤ vec_capacity mine.room.cells
+  pub references : vec_len theirs.room.references ≤ vec_capacity mine.room.references
+
+-- as many processes, where each has room for what the other has
+pub record HaveRoom (mine theirs : List ProcessState) : Type 0 where
+  pub count : length mine ≡ length theirs
+  pub each : (q : ℕ) (d : ProcessState) → q < length mine → HasRoomFor (slice_index_or mine q d) (slice_index_or theirs q d)
 
 -- room for the frame of a routine, and for two entries more
 pub record HasCallRoom (r : Tables) (ps : List ProcessState) (pid routine : ℕ) : Type 0 where

@@ -8,6 +8,7 @@ pub mod Kinds
 pub mod Machine
 pub mod Memory
 pub mod Opening
+pub mod Premises
 pub mod Reach
 pub mod Results
 pub mod Stack

@@ -1,12 +1,11 @@
 //! Calls, and starts of components.
 
-ghost use Rattle.std.specs.Prelude.{◌≡◌, ◌<◌, ◌≤◌, length, vec_capacity};
-ghost use Rattle.cp_slots.specs.Fits.{IsSound};
+ghost use Rattle.std.specs.Prelude.{◌≡◌, ◌<◌, length};
 ghost use Rattle.cp_slots.specs.Tables.{Tables, component_at};
 ghost use Rattle.cp_machine.specs.Calls as spec;
-ghost use Rattle.cp_machine.specs.Fits.{HasCallRoom, HaveGateRoom, IsBusy, IsReserved};
+ghost use Rattle.cp_machine.specs.Fits.{IsReserved};
 ghost use Rattle.cp_machine.specs.Machine.{machine_of, phase_at, under, with_phase};
-ghost use Rattle.cp_machine.specs.Reach.{CanCall, FitsNew};
+ghost use Rattle.cp_machine.specs.Premises.{CanCallIn, IsGate, TakesCall};
 ghost use Rattle.cp_machine.specs.Stack.{rest_of};
 ghost use Rattle.cp_machine.specs.Statements as statements;
 
@@ -39,13 +38,7 @@ fn open_call(
     arguments: &[Argument],
     monitor: Option<u8>,
 )
-    requires pid { pid < length state.old.processes.items }
-    requires busy { IsBusy state.old pid }
-    requires routine { callee.routine < length program.now.routines }
-    requires room { HasCallRoom program.now state.old.processes.items pid callee.routine }
-    requires count { length state.old.bounds.items ≡ length arguments.now }
-    requires fit { FitsNew program.now (machine_of state.old) pid callee.routine component arguments.now state.old.bounds.items }
-    requires there { component < length program.now.components }
+    requires { CanCallIn program.now state.old pid callee.routine component arguments.now }
     ensures after { machine_of state.new ≡ spec.open_call program.now (machine_of state.old) pid callee.routine component arguments.now state.old.bounds.items callee.result monitor (rest_of item.now.next (under (machine_of state.old) pid)) }
     ensures reserved { (r : Tables) → IsReserved r state.old → IsReserved r state.new }
 {
@@ -73,15 +66,8 @@ fn call_monitor(
     arguments: &[Argument],
     monitor: u8,
 ) -> Event
-    requires pid { pid < length state.old.processes.items }
-    requires busy { IsBusy state.old pid }
-    requires routine { callee.routine < length program.now.routines }
-    requires room { HasCallRoom program.now state.old.processes.items pid callee.routine }
-    requires count { length state.old.bounds.items ≡ length arguments.now }
-    requires fit { FitsNew program.now (machine_of state.old) pid callee.routine component arguments.now state.old.bounds.items }
-    requires monitor { monitor < length state.old.guards.items }
-    requires line { HaveGateRoom (machine_of state.old) }
-    requires there { component < length program.now.components }
+    requires calls { CanCallIn program.now state.old pid callee.routine component arguments.now }
+    requires gate { IsGate state.old monitor }
     ensures after { spec.call_in program.now (machine_of state.old) pid (ComponentKind.Monitor monitor) callee.routine component arguments.now state.old.bounds.items callee.result (rest_of item.now.next (under (machine_of state.old) pid)) ≡ record { machine = machine_of state.new; event = result } }
     ensures reserved { (r : Tables) → IsReserved r state.old → IsReserved r state.new }
 {
@@ -109,16 +95,7 @@ fn call_entry(
     component: usize,
     arguments: &[Argument],
 ) -> Event
-    requires pid { pid < length state.old.processes.items }
-    requires busy { IsBusy state.old pid }
-    requires routine { callee.routine < length program.now.routines }
-    requires room { HasCallRoom program.now state.old.processes.items pid callee.routine }
-    requires count { length state.old.bounds.items ≡ length arguments.now }
-    requires fit { FitsNew program.now (machine_of state.old) pid callee.routine component arguments.now state.old.bounds.items }
-    requires guards { length state.old.guards.items ≡ program.now.monitors }
-    requires sound { IsSound program.now }
-    requires line { HaveGateRoom (machine_of state.old) }
-    requires there { component < length program.now.components }
+    requires { CanCallIn program.now state.old pid callee.routine component arguments.now }
     ensures after { spec.call_in program.now (machine_of state.old) pid (component_at program.now component).kind callee.routine component arguments.now state.old.bounds.items callee.result (rest_of item.now.next (under (machine_of state.old) pid)) ≡ record { machine = machine_of state.new; event = result } }
     ensures reserved { (r : Tables) → IsReserved r state.old → IsReserved r state.new }
 {
@@ -168,17 +145,7 @@ fn call_by(
     component: usize,
     arguments: &[Argument],
 ) -> Result<Event, ErrorName>
-    requires pid { pid < length state.old.processes.items }
-    requires busy { IsBusy state.old pid }
-    requires known { component < length state.old.phases.items }
-    requires routine { callee.routine < length program.now.routines }
-    requires room { HasCallRoom program.now state.old.processes.items pid callee.routine }
-    requires count { length state.old.bounds.items ≡ length arguments.now }
-    requires fit { FitsNew program.now (machine_of state.old) pid callee.routine component arguments.now state.old.bounds.items }
-    requires guards { length state.old.guards.items ≡ program.now.monitors }
-    requires sound { IsSound program.now }
-    requires line { HaveGateRoom (machine_of state.old) }
-    requires there { component < length program.now.components }
+    requires { CanCallIn program.now state.old pid callee.routine component arguments.now }
     ensures after { spec.call_by program.now (machine_of state.old) pid item.now.line callee.is_entry callee.routine component arguments.now state.old.bounds.items callee.result (rest_of item.now.next (under (machine_of state.old) pid)) ≡ statements.outcome result (machine_of state.new) pid item.now.line }
     ensures reserved { (r : Tables) → IsReserved r state.old → IsReserved r state.new }
 {
@@ -205,16 +172,7 @@ pub fn call(
     place: &ComponentPlace,
     arguments: &[Argument],
 ) -> Result<Event, ErrorName>
-    requires pid { pid < length state.old.processes.items }
-    requires busy { IsBusy state.old pid }
-    requires phases { length state.old.phases.items ≡ length program.now.components }
-    requires reads { CanCall program.now (machine_of state.old) pid callee.routine place.now arguments.now }
-    requires routine { callee.routine < length program.now.routines }
-    requires room { HasCallRoom program.now state.old.processes.items pid callee.routine }
-    requires most { length arguments.now ≤ vec_capacity state.old.bounds }
-    requires guards { length state.old.guards.items ≡ program.now.monitors }
-    requires sound { IsSound program.now }
-    requires line { HaveGateRoom (machine_of state.old) }
+    requires { TakesCall program.now state.old pid item.now callee place.now arguments.now }
     ensures after { spec.call program.now (machine_of state.old) pid item.now.line callee.routine place.now callee.is_entry arguments.now callee.result (rest_of item.now.next (under (machine_of state.old) pid)) ≡ statements.outcome result (machine_of state.new) pid item.now.line }
     ensures reserved { (r : Tables) → IsReserved r state.old → IsReserved r state.new }
 {

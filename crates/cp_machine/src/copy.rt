@@ -2,7 +2,7 @@
 
 ghost use Rattle.std.specs.Prelude.{◌≡◌, ◌≤◌, false, length, ℕ, IfOk, map, vec_capacity, vec_len};
 ghost use Rattle.cp_slots.specs.Tables.{Tables};
-ghost use Rattle.cp_machine.specs.Fits.{HaveCells, HaveReferences, HaveRoom, HaveStacks, IsReserved, IsStateOf};
+ghost use Rattle.cp_machine.specs.Fits.{HasRoomFor, HaveCells, HaveReferences, HaveRoom, HaveStacks, IsReserved, IsStateOf};
 ghost use Rattle.cp_machine.specs.Bodies.{body_at, body_of, has_moved, KeepBodies};
 ghost use Rattle.cp_machine.specs.Machine.{machine_of, monitor_of, thread_at, thread_of};
 
@@ -58,13 +58,7 @@ impl State {
 
 #[inline(always)]
 fn take_state<W: Watch>(to: &mut State, from: &State, watch: &W)
-    requires permanents { length to.old.permanents.items ≡ length from.now.permanents.items }
-    requires bindings { length to.old.bindings.items ≡ length from.now.bindings.items }
-    requires phases { length to.old.phases.items ≡ length from.now.phases.items }
-    requires processes { length to.old.processes.items ≡ length from.now.processes.items }
-    requires guards { length to.old.guards.items ≡ length from.now.guards.items }
-    requires room { HaveRoom to.old.processes.items from.now.processes.items }
-    requires output { vec_len from.now.output ≤ vec_capacity to.old.output }
+    requires own { (r : Tables) × IsStateOf r to.old × IsStateOf r from.now }
     requires kept { (pid : ℕ) → W.moved watch.now pid ≡ false → body_at (machine_of to.old) pid ≡ body_at (machine_of from.now) pid }
     ensures same { machine_of to.new ≡ machine_of from.now }
     ensures reserved { (r : Tables) → IsReserved r to.old → IsReserved r from.now → IsReserved r to.new }
@@ -218,7 +212,6 @@ fn copy_of_guard(from: &Gate) -> Gate
 
 #[inline(always)]
 fn take_processes<W: Watch>(mine: &mut [ProcessState], theirs: &[ProcessState], watch: &W)
-    requires length { length mine.old ≡ length theirs.now }
     requires room { HaveRoom mine.old theirs.now }
     requires kept { (pid : ℕ) → W.moved watch.now pid ≡ false → body_of (thread_at (map thread_of mine.old) pid) ≡ body_of (thread_at (map thread_of theirs.now) pid) }
     ensures same { map thread_of mine.new ≡ map thread_of theirs.now }
@@ -237,9 +230,7 @@ fn take_processes<W: Watch>(mine: &mut [ProcessState], theirs: &[ProcessState], 
 
 #[inline(always)]
 fn take_process(to: &mut ProcessState, from: &ProcessState)
-    requires stack { vec_len from.now.stack ≤ vec_capacity to.old.stack }
-    requires cells { vec_len from.now.room.cells ≤ vec_capacity to.old.room.cells }
-    requires references { vec_len from.now.room.references ≤ vec_capacity to.old.room.references }
+    requires { HasRoomFor to.old from.now }
     ensures same { thread_of to.new ≡ thread_of from.now }
     ensures stack { vec_capacity to.old.stack ≤ vec_capacity to.new.stack }
     ensures cells { vec_capacity to.old.room.cells ≤ vec_capacity to.new.room.cells }

@@ -1,11 +1,11 @@
 //! The ends of calls and of initial statements.
 
-ghost use Rattle.std.specs.Prelude.{◌≡◌, ◌<◌, IfSome, length};
-ghost use Rattle.cp_slots.specs.Tables.{Tables, routine_at};
+ghost use Rattle.std.specs.Prelude.{◌≡◌, ◌<◌, IfSome, None, length};
+ghost use Rattle.cp_slots.specs.Tables.{Tables};
 ghost use Rattle.cp_machine.specs.Calls as spec;
-ghost use Rattle.cp_machine.specs.Fits.{AreFirstKnown, IsReserved};
-ghost use Rattle.cp_machine.specs.Machine.{machine_of, thread_at, under};
-ghost use Rattle.cp_machine.specs.Results.{HasResult};
+ghost use Rattle.cp_machine.specs.Fits.{IsReserved};
+ghost use Rattle.cp_machine.specs.Machine.{machine_of, under};
+ghost use Rattle.cp_machine.specs.Premises.{CanLeave, IsGate};
 ghost use Rattle.cp_machine.specs.Statements as statements;
 
 use crate::call::set_phase;
@@ -26,11 +26,8 @@ pub fn return_to(
     slot: Option<usize>,
     monitor: Option<u8>,
 ) -> Event
-    requires pid { pid < length state.old.processes.items }
-    requires routine { (thread_at (machine_of state.old).threads pid).frame.routine < length program.now.routines }
-    requires result { HasResult (thread_at (machine_of state.old).threads pid) caller (routine_at program.now (thread_at (machine_of state.old).threads pid).frame.routine).result slot }
-    requires monitor { IfSome monitor (λ number. number < length state.old.guards.items) }
-    requires lines { AreFirstKnown (machine_of state.old) }
+    requires leaves { CanLeave program.now state.old pid caller slot }
+    requires gate { IfSome monitor (IsGate state.old) }
     ensures after { spec.return_to program.now (machine_of state.old) pid caller slot monitor (under (machine_of state.old) pid) ≡ record { machine = machine_of state.new; event = result } }
     ensures reserved { (r : Tables) → IsReserved r state.old → IsReserved r state.new }
 {
@@ -47,8 +44,7 @@ pub fn return_to(
 /// The end of an initial statement, which is the topmost entry: the component is initialised.
 #[inline(never)]
 pub fn end_init(program: &Resolved, state: &mut State, pid: u8, caller: Frame, component: usize)
-    requires pid { pid < length state.old.processes.items }
-    requires routine { (thread_at (machine_of state.old).threads pid).frame.routine < length program.now.routines }
+    requires leaves { CanLeave program.now state.old pid caller None }
     requires known { component < length state.old.phases.items }
     ensures after { spec.end_init program.now (machine_of state.old) pid caller component (under (machine_of state.old) pid) ≡ statements.local (machine_of state.new) }
     ensures reserved { (r : Tables) → IsReserved r state.old → IsReserved r state.new }

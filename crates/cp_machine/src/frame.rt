@@ -1,11 +1,12 @@
 //! Frames are opened by calls and starts, and given up at their ends.
 
-ghost use Rattle.std.specs.Prelude.{◌≡◌, ◌+◌, ◌∷◌, ◌<◌, ◌≤◌, drop, length, slice_index_or, slice_set, pos, take, vec_capacity, vec_len};
-ghost use Rattle.cp_slots.specs.Tables.{Tables, routine_at};
+ghost use Rattle.std.specs.Prelude.{◌≡◌, ◌+◌, ◌<◌, ◌≤◌, drop, length, slice_index_or, slice_set, pos, take, vec_capacity};
+ghost use Rattle.cp_slots.specs.Tables.{Tables};
 ghost use Rattle.cp_store.specs.Memory.{KeepsRoom};
 ghost use Rattle.cp_machine.specs.Calls as spec;
-ghost use Rattle.cp_machine.specs.Fits.{HasCallRoom, IsBusy, IsReserved};
-ghost use Rattle.cp_machine.specs.Machine.{machine_of, thread_at, thread_of, under};
+ghost use Rattle.cp_machine.specs.Fits.{IsReserved};
+ghost use Rattle.cp_machine.specs.Machine.{machine_of, thread_of, under};
+ghost use Rattle.cp_machine.specs.Premises.{CanLeave, CanOpen};
 ghost use Rattle.cp_machine.specs.Results.{HasResult};
 ghost use Rattle.cp_machine.specs.Stack.{rest_of};
 
@@ -26,11 +27,7 @@ pub fn open(
     component: usize,
     end: Entry,
 )
-    requires pid { pid < length state.old.processes.items }
-    requires busy { IsBusy state.old pid }
-    requires routine { routine < length program.now.routines }
-    requires room { HasCallRoom program.now state.old.processes.items pid routine }
-    requires there { component < length program.now.components }
+    requires { CanOpen program.now state.old pid routine component }
     ensures after { machine_of state.new ≡ spec.open_frame program.now (machine_of state.old) pid routine component end (rest_of next (under (machine_of state.old) pid)) }
     ensures bounds { state.new.bounds ≡ state.old.bounds }
     ensures reserved { (r : Tables) → IsReserved r state.old → IsReserved r state.new }
@@ -80,9 +77,7 @@ fn give_up(process: &mut ProcessState, caller: Frame, from: usize, slot: Option<
 
 /// Gives up the innermost frame of a process with the end of its call, which is the topmost entry.
 pub fn leave(program: &Resolved, state: &mut State, pid: u8, caller: Frame, slot: Option<usize>)
-    requires pid { pid < length state.old.processes.items }
-    requires routine { (thread_at (machine_of state.old).threads pid).frame.routine < length program.now.routines }
-    requires result { HasResult (thread_at (machine_of state.old).threads pid) caller (routine_at program.now (thread_at (machine_of state.old).threads pid).frame.routine).result slot }
+    requires { CanLeave program.now state.old pid caller slot }
     ensures after { machine_of state.new ≡ spec.leave_frame program.now (machine_of state.old) pid caller slot (under (machine_of state.old) pid) }
     ensures reserved { (r : Tables) → IsReserved r state.old → IsReserved r state.new }
 {

@@ -2,9 +2,10 @@
 
 ghost use Rattle.std.specs.Prelude.{◌≡◌, ◌<◌, ◌∷◌, [], IfNone, IfSome, Some, length, position, slice_set};
 ghost use Rattle.cp_slots.specs.Tables.{Tables};
-ghost use Rattle.cp_machine.specs.Fits.{AreFirstKnown, HaveGateRoom, IsReserved};
+ghost use Rattle.cp_machine.specs.Fits.{IsReserved};
 ghost use Rattle.cp_machine.specs.Kernel as spec;
 ghost use Rattle.cp_machine.specs.Machine.{is_delayed_at, machine_of, monitor_at};
+ghost use Rattle.cp_machine.specs.Premises.{CanEnter, IsGate};
 
 use crate::discipline::{Gates, Signals};
 use crate::memory::set_status;
@@ -13,8 +14,7 @@ use crate::state::{Gate, State};
 
 /// Lets the line of a monitor in, which nobody is inside any more.
 pub fn let_in(state: &mut State, monitor: u8)
-    requires gate { monitor < length state.old.guards.items }
-    requires lines { AreFirstKnown (machine_of state.old) }
+    requires { IsGate state.old monitor }
     ensures after { machine_of state.new ≡ spec.let_in (machine_of state.old) monitor }
     ensures reserved { (r : Tables) → IsReserved r state.old → IsReserved r state.new }
 {
@@ -26,8 +26,7 @@ pub fn let_in(state: &mut State, monitor: u8)
 
 // The first of the line goes in.
 fn let_first_in(state: &mut State, monitor: u8)
-    requires gate { monitor < length state.old.guards.items }
-    requires lines { AreFirstKnown (machine_of state.old) }
+    requires { IsGate state.old monitor }
     ensures after { machine_of state.new ≡ spec.first_in (machine_of state.old) monitor (monitor_at (machine_of state.old) monitor).line }
     ensures reserved { (r : Tables) → IsReserved r state.old → IsReserved r state.new }
 {
@@ -39,8 +38,7 @@ fn let_first_in(state: &mut State, monitor: u8)
 
 // One alone goes in; of more, one has to be admitted.
 fn let_one_in(state: &mut State, monitor: u8)
-    requires gate { monitor < length state.old.guards.items }
-    requires lines { AreFirstKnown (machine_of state.old) }
+    requires { IsGate state.old monitor }
     ensures after { machine_of state.new ≡ spec.one_in (machine_of state.old) monitor (monitor_at (machine_of state.old) monitor).line }
     ensures reserved { (r : Tables) → IsReserved r state.old → IsReserved r state.new }
 {
@@ -69,9 +67,7 @@ fn take_first(guard: &mut Gate) -> Option<u8>
 
 /// The caller goes in if nobody is inside, and else to the end of the line.
 pub fn enter(state: &mut State, pid: u8, monitor: u8)
-    requires pid { pid < length state.old.processes.items }
-    requires gate { monitor < length state.old.guards.items }
-    requires line { HaveGateRoom (machine_of state.old) }
+    requires { CanEnter state.old pid monitor }
     ensures after { machine_of state.new ≡ spec.enter_caller (machine_of state.old) pid monitor }
     ensures reserved { (r : Tables) → IsReserved r state.old → IsReserved r state.new }
 {
@@ -87,10 +83,8 @@ pub fn enter(state: &mut State, pid: u8, monitor: u8)
 
 /// The caller waits in the queue of a permanent cell, and the line is let in.
 pub fn delay(state: &mut State, pid: u8, monitor: u8, cell: usize)
-    requires pid { pid < length state.old.processes.items }
-    requires gate { monitor < length state.old.guards.items }
+    requires enters { CanEnter state.old pid monitor }
     requires cell { cell < length state.old.permanents.items }
-    requires lines { AreFirstKnown (machine_of state.old) }
     ensures after { machine_of state.new ≡ spec.delay_caller (machine_of state.old) pid monitor cell }
     ensures reserved { (r : Tables) → IsReserved r state.old → IsReserved r state.new }
 {
@@ -101,9 +95,8 @@ pub fn delay(state: &mut State, pid: u8, monitor: u8, cell: usize)
 
 /// The process in the queue of a permanent cell is ready and inside; where there is none, the line is let in.
 pub fn resume(state: &mut State, monitor: u8, cell: usize)
-    requires gate { monitor < length state.old.guards.items }
+    requires gate { IsGate state.old monitor }
     requires cell { cell < length state.old.permanents.items }
-    requires lines { AreFirstKnown (machine_of state.old) }
     ensures after { machine_of state.new ≡ spec.resume (machine_of state.old) monitor cell }
     ensures reserved { (r : Tables) → IsReserved r state.old → IsReserved r state.new }
 {
@@ -117,8 +110,7 @@ pub fn resume(state: &mut State, monitor: u8, cell: usize)
 
 // A process is ready and inside, and the line stays.
 fn hand_over(state: &mut State, monitor: u8, pid: u8)
-    requires pid { pid < length state.old.processes.items }
-    requires gate { monitor < length state.old.guards.items }
+    requires { CanEnter state.old pid monitor }
     ensures after { machine_of state.new ≡ spec.goes_in (machine_of state.old) monitor pid (monitor_at (machine_of state.old) monitor).line }
     ensures reserved { (r : Tables) → IsReserved r state.old → IsReserved r state.new }
 {
@@ -129,10 +121,8 @@ fn hand_over(state: &mut State, monitor: u8, pid: u8)
 
 /// The caller goes on in the monitor, or waits until it is let in again; who waits in the queue of a permanent cell is resumed.
 pub fn signal(state: &mut State, pid: u8, monitor: u8, cell: usize)
-    requires pid { pid < length state.old.processes.items }
-    requires gate { monitor < length state.old.guards.items }
+    requires enters { CanEnter state.old pid monitor }
     requires cell { cell < length state.old.permanents.items }
-    requires line { HaveGateRoom (machine_of state.old) }
     ensures after { machine_of state.new ≡ spec.signal (machine_of state.old) pid monitor cell }
     ensures reserved { (r : Tables) → IsReserved r state.old → IsReserved r state.new }
 {
@@ -145,10 +135,8 @@ pub fn signal(state: &mut State, pid: u8, monitor: u8, cell: usize)
 
 // Who was resumed comes to the gate, or the caller does.
 fn bring_to_gate(state: &mut State, pid: u8, monitor: u8, resumed: u8)
-    requires pid { pid < length state.old.processes.items }
+    requires enters { CanEnter state.old pid monitor }
     requires resumed { resumed < length state.old.processes.items }
-    requires gate { monitor < length state.old.guards.items }
-    requires line { HaveGateRoom (machine_of state.old) }
     ensures after { machine_of state.new ≡ spec.signal_by state.old.discipline.signals (Some resumed) (machine_of state.old) pid monitor }
     ensures reserved { (r : Tables) → IsReserved r state.old → IsReserved r state.new }
 {
@@ -160,9 +148,7 @@ fn bring_to_gate(state: &mut State, pid: u8, monitor: u8, resumed: u8)
 
 // A process comes to the end of the line.
 fn join_line(state: &mut State, monitor: u8, pid: u8)
-    requires pid { pid < length state.old.processes.items }
-    requires gate { monitor < length state.old.guards.items }
-    requires line { HaveGateRoom (machine_of state.old) }
+    requires { CanEnter state.old pid monitor }
     ensures after { machine_of state.new ≡ spec.join_line (machine_of state.old) monitor pid }
     ensures reserved { (r : Tables) → IsReserved r state.old → IsReserved r state.new }
 {
@@ -173,10 +159,8 @@ fn join_line(state: &mut State, monitor: u8, pid: u8)
 
 // The caller is the first of the line, and who was resumed is ready and inside.
 fn change_places(state: &mut State, monitor: u8, caller: u8, resumed: u8)
-    requires caller { caller < length state.old.processes.items }
+    requires enters { CanEnter state.old caller monitor }
     requires resumed { resumed < length state.old.processes.items }
-    requires gate { monitor < length state.old.guards.items }
-    requires line { HaveGateRoom (machine_of state.old) }
     ensures after { machine_of state.new ≡ spec.change_places (machine_of state.old) monitor caller resumed }
     ensures reserved { (r : Tables) → IsReserved r state.old → IsReserved r state.new }
 {

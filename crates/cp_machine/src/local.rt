@@ -1,9 +1,10 @@
 //! Local steps: steps that neither call the kernel nor end anything.
 
-ghost use Rattle.std.specs.Prelude.{◌≡◌, ◌+◌, ◌<◌, ◌∷◌, Ok, IsTrue, true, false, if◌then◌else◌, length};
+ghost use Rattle.std.specs.Prelude.{◌≡◌, ◌+◌, ◌<◌, Ok, IsTrue, true, false, if◌then◌else◌, length};
 ghost use Rattle.cp_slots.specs.Tables.{item_at};
 ghost use Rattle.cp_machine.specs.Fits.{IsReserved, IsStateOf, IsTaken};
-ghost use Rattle.cp_machine.specs.Machine.{is_pending, is_ready, machine_of, thread_at, under};
+ghost use Rattle.cp_machine.specs.Machine.{is_pending, is_ready, machine_of, under};
+ghost use Rattle.cp_machine.specs.Premises.{CanStep, IsTurn};
 ghost use Rattle.cp_machine.specs.Statements.{local, successor_step};
 ghost use Rattle.cp_machine.specs.Step.{act, step_at};
 ghost use Rattle.cp_machine.specs.declared.event.Event.TheVariants.{Local};
@@ -42,9 +43,7 @@ pub fn local_step<C: Count>(program: &Resolved, state: &mut State, pid: u8, tick
 
 #[inline(always)]
 fn take_local(program: &Resolved, state: &mut State, pid: u8) -> bool
-    requires own { IsStateOf program.now state.old }
-    requires pid { pid < length state.old.processes.items }
-    requires ready { IsTrue (is_ready (machine_of state.old) pid) }
+    requires { CanStep program.now state.old pid }
     ensures taken { result ≡ true → step_at program.now (machine_of state.old) pid ≡ local (machine_of state.new) }
     ensures same { result ≡ false → machine_of state.new ≡ machine_of state.old }
     ensures pending { (machine_of state.new).pending ≡ (machine_of state.old).pending }
@@ -61,10 +60,7 @@ fn take_local(program: &Resolved, state: &mut State, pid: u8) -> bool
 
 #[inline(always)]
 fn take_local_item(program: &Resolved, state: &mut State, pid: u8, at: usize) -> bool
-    requires own { IsStateOf program.now state.old }
-    requires pid { pid < length state.old.processes.items }
-    requires ready { IsTrue (is_ready (machine_of state.old) pid) }
-    requires top { (thread_at (machine_of state.old).threads pid).stack ≡ Entry.Rest at ∷ under (machine_of state.old) pid }
+    requires { IsTaken program.now state.old pid at (item_at program.now at) }
     ensures taken { result ≡ true → act program.now (machine_of state.old) pid at (item_at program.now at) (item_at program.now at).action (under (machine_of state.old) pid) ≡ local (machine_of state.new) }
     ensures same { result ≡ false → machine_of state.new ≡ machine_of state.old }
     ensures pending { (machine_of state.new).pending ≡ (machine_of state.old).pending }
@@ -77,7 +73,7 @@ fn take_local_item(program: &Resolved, state: &mut State, pid: u8, at: usize) ->
 // Does what an item says, which is the topmost entry, where it is of a frequent kind.
 #[inline(always)]
 fn perform_local(program: &Resolved, state: &mut State, pid: u8, at: usize, item: &Item) -> bool
-    requires taken { IsTaken program.now state.old pid at item.now }
+    requires { IsTaken program.now state.old pid at item.now }
     ensures taken { result ≡ true → act program.now (machine_of state.old) pid at item.now item.now.action (under (machine_of state.old) pid) ≡ local (machine_of state.new) }
     ensures same { result ≡ false → machine_of state.new ≡ machine_of state.old }
     ensures pending { (machine_of state.new).pending ≡ (machine_of state.old).pending }
@@ -122,9 +118,7 @@ fn take_local_successor(
     value: i16,
     last: i16,
 ) -> bool
-    requires own { IsStateOf program.now state.old }
-    requires pid { pid < length state.old.processes.items }
-    requires top { (thread_at (machine_of state.old).threads pid).stack ≡ Entry.Successor at value last ∷ under (machine_of state.old) pid }
+    requires { IsTurn program.now state.old pid at value last (item_at program.now at) }
     ensures taken { result ≡ true → successor_step (machine_of state.old) pid at (item_at program.now at) (item_at program.now at).action (under (machine_of state.old) pid) value last ≡ local (machine_of state.new) }
     ensures same { result ≡ false → machine_of state.new ≡ machine_of state.old }
     ensures pending { (machine_of state.new).pending ≡ (machine_of state.old).pending }

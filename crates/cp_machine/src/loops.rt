@@ -1,12 +1,12 @@
 //! Loops.
 
-ghost use Rattle.std.specs.Prelude.{◌≡◌, ◌∷◌, ◌<◌, ◌≤◌, if◌then◌else◌, length};
+ghost use Rattle.std.specs.Prelude.{◌≡◌, ◌<◌, if◌then◌else◌};
 ghost use Rattle.std.specs.Ordering.{int_eq};
 ghost use Rattle.cp_slots.specs.Tables.{Tables};
-ghost use Rattle.cp_machine.specs.Fits.{HasRoom, IsBusy, IsReserved};
+ghost use Rattle.cp_slots.specs.declared.item.Action.TheVariants.{Until, While};
+ghost use Rattle.cp_machine.specs.Fits.{IsReserved};
 ghost use Rattle.cp_machine.specs.Machine.{machine_of, under};
-ghost use Rattle.cp_machine.specs.Reach.{CanName, CanRead};
-ghost use Rattle.cp_machine.specs.Stack.{rest_of};
+ghost use Rattle.cp_machine.specs.Premises.{CanTurn, Takes, TakesFor};
 ghost use Rattle.cp_machine.specs.Statements as spec;
 
 use crate::event::{ErrorName, Event};
@@ -27,10 +27,7 @@ pub fn while_do(
     list: Option<usize>,
     again: usize,
 ) -> Result<Event, ErrorName>
-    requires pid { pid < length state.old.processes.items }
-    requires busy { IsBusy state.old pid }
-    requires reads { CanRead (machine_of state.old) pid test.now }
-    requires room { HasRoom state.old pid list }
+    requires { (r : Tables) × Takes r state.old pid item.now (While test.now list again) }
     ensures after { spec.while_do (machine_of state.old) pid item.now.line test.now list again item.now.next (under (machine_of state.old) pid) ≡ spec.outcome result (machine_of state.new) pid item.now.line }
     ensures reserved { (r : Tables) → IsReserved r state.old → IsReserved r state.new }
 {
@@ -53,10 +50,7 @@ pub fn until(
     list: Option<usize>,
     again: usize,
 ) -> Result<Event, ErrorName>
-    requires pid { pid < length state.old.processes.items }
-    requires busy { IsBusy state.old pid }
-    requires reads { CanRead (machine_of state.old) pid test.now }
-    requires room { HasRoom state.old pid list }
+    requires { (r : Tables) × Takes r state.old pid item.now (Until test.now list again) }
     ensures after { spec.until (machine_of state.old) pid item.now.line test.now list again item.now.next (under (machine_of state.old) pid) ≡ spec.outcome result (machine_of state.new) pid item.now.line }
     ensures reserved { (r : Tables) → IsReserved r state.old → IsReserved r state.new }
 {
@@ -85,10 +79,7 @@ pub struct Course {
 // The variable takes a value; then come the list, and the successor of the value.
 #[inline(always)]
 fn go_on(state: &mut State, pid: u8, course: Course, last: i16, value: i16)
-    requires pid { pid < length state.old.processes.items }
-    requires busy { IsBusy state.old pid }
-    requires name { CanName (machine_of state.old) pid course.variable 1 }
-    requires room { HasRoom state.old pid course.list }
+    requires { CanTurn state.old pid course }
     ensures after { machine_of state.new ≡ spec.gone_on (machine_of state.old) pid course.at course.variable course.list (under (machine_of state.old) pid) last value }
     ensures reserved { (r : Tables) → IsReserved r state.old → IsReserved r state.new }
 {
@@ -126,10 +117,7 @@ fn for_from(
     first: i16,
     last: i16,
 ) -> Result<Event, ErrorName>
-    requires pid { pid < length state.old.processes.items }
-    requires busy { IsBusy state.old pid }
-    requires name { CanName (machine_of state.old) pid course.variable 1 }
-    requires room { HasRoom state.old pid course.list }
+    requires { CanTurn state.old pid course }
     ensures after { spec.for_from (machine_of state.old) pid item.now.line course.at course.variable course.low course.high course.down course.list item.now.next (under (machine_of state.old) pid) first last ≡ spec.outcome result (machine_of state.new) pid item.now.line }
     ensures reserved { (r : Tables) → IsReserved r state.old → IsReserved r state.new }
 {
@@ -151,12 +139,7 @@ pub fn for_do(
     first: &OrdinalExpression,
     last: &OrdinalExpression,
 ) -> Result<Event, ErrorName>
-    requires pid { pid < length state.old.processes.items }
-    requires busy { IsBusy state.old pid }
-    requires name { CanName (machine_of state.old) pid course.variable 1 }
-    requires reads { CanRead (machine_of state.old) pid first.now }
-    requires reads_last { CanRead (machine_of state.old) pid last.now }
-    requires room { HasRoom state.old pid course.list }
+    requires { (r : Tables) × TakesFor r state.old pid item.now course first.now last.now }
     ensures after { spec.for_do (machine_of state.old) pid item.now.line course.at course.variable course.low course.high first.now last.now course.down course.list item.now.next (under (machine_of state.old) pid) ≡ spec.outcome result (machine_of state.new) pid item.now.line }
     ensures reserved { (r : Tables) → IsReserved r state.old → IsReserved r state.new }
 {
@@ -181,10 +164,7 @@ pub fn successor(
     value: i16,
     last: i16,
 ) -> Result<Event, ErrorName>
-    requires pid { pid < length state.old.processes.items }
-    requires busy { IsBusy state.old pid }
-    requires name { CanName (machine_of state.old) pid course.variable 1 }
-    requires room { HasRoom state.old pid course.list }
+    requires { CanTurn state.old pid course }
     ensures after { spec.next_turn (machine_of state.old) pid item.now.line course.at course.variable course.low course.high course.down course.list item.now.next (under (machine_of state.old) pid) value last ≡ spec.outcome result (machine_of state.new) pid item.now.line }
     ensures reserved { (r : Tables) → IsReserved r state.old → IsReserved r state.new }
 {

@@ -1,8 +1,8 @@
 //! What the items say, by kinds of statements.
 
-ghost use Rattle.std.specs.Prelude.{◌≡◌, ◌∷◌, ℕ, IsTrue, length};
+ghost use Rattle.std.specs.Prelude.{◌≡◌, ℕ, IsTrue};
 ghost use Rattle.cp_slots.specs.Tables.{Tables};
-ghost use Rattle.cp_machine.specs.Fits.{HaveGateRoom, IsReserved, IsTaken};
+ghost use Rattle.cp_machine.specs.Fits.{IsReserved, IsTaken};
 ghost use Rattle.cp_machine.specs.Kinds.{is_assignment, is_call, is_choice, is_for, is_of_queue};
 ghost use Rattle.cp_machine.specs.Machine.{machine_of, under};
 ghost use Rattle.cp_machine.specs.Statements.{outcome};
@@ -27,8 +27,7 @@ pub fn perform(
     at: usize,
     item: &Item,
 ) -> Result<Event, ErrorName>
-    requires taken { IsTaken program.now state.old pid at item.now }
-    requires line { HaveGateRoom (machine_of state.old) }
+    requires { IsTaken program.now state.old pid at item.now }
     ensures after { act program.now (machine_of state.old) pid at item.now item.now.action (under (machine_of state.old) pid) ≡ outcome result (machine_of state.new) pid item.now.line }
     ensures reserved { IsReserved program.now state.new }
 {
@@ -149,7 +148,6 @@ fn perform_call(
     item: &Item,
 ) -> Result<Event, ErrorName>
     requires taken { (at : ℕ) × IsTaken program.now state.old pid at item.now }
-    requires line { HaveGateRoom (machine_of state.old) }
     requires kind { IsTrue (is_call item.now.action) }
     ensures after { (at : ℕ) → act program.now (machine_of state.old) pid at item.now item.now.action (under (machine_of state.old) pid) ≡ outcome result (machine_of state.new) pid item.now.line }
     ensures reserved { IsReserved program.now state.new }
@@ -188,7 +186,6 @@ fn perform_wait(
 ) -> Result<Event, ErrorName>
     requires taken { (at : ℕ) × IsTaken program.now state.old pid at item.now }
     requires kind { IsTrue (is_of_queue item.now.action) }
-    requires line { HaveGateRoom (machine_of state.old) }
     ensures after { (at : ℕ) → act program.now (machine_of state.old) pid at item.now item.now.action (under (machine_of state.old) pid) ≡ outcome result (machine_of state.new) pid item.now.line }
     ensures reserved { IsReserved program.now state.new }
 {

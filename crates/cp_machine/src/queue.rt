@@ -1,12 +1,12 @@
 //! `delay` and `continue`.
 
-ghost use Rattle.std.specs.Prelude.{◌≡◌, ◌<◌, ◌≤◌, drop, length, pos, reverse, slice_index_or, vec_capacity, vec_len};
-ghost use Rattle.cp_slots.specs.Fits.{IsSound};
+ghost use Rattle.std.specs.Prelude.{◌≡◌, ◌<◌, ◌≤◌, ℕ, drop, length, reverse, vec_capacity, vec_len};
 ghost use Rattle.cp_slots.specs.Tables.{Tables, component_at};
+ghost use Rattle.cp_slots.specs.declared.item.Action.TheVariants.{Continue, Delay};
 ghost use Rattle.cp_machine.specs.Calls as spec;
-ghost use Rattle.cp_machine.specs.Fits.{AreFirstKnown, HaveGateRoom, IsBusy, IsReserved, StackFits, ThreadFits};
+ghost use Rattle.cp_machine.specs.Fits.{IsReserved, IsTaken};
 ghost use Rattle.cp_machine.specs.Machine.{machine_of, thread_at, under, with_stack};
-ghost use Rattle.cp_machine.specs.Reach.{CanReach, StackReaches, ThreadReaches};
+ghost use Rattle.cp_machine.specs.Premises.{CanReturn, CanWait, Takes};
 ghost use Rattle.cp_machine.specs.Stack.{above, from_end, is_inner as is_inner_of, rest_of, top_first};
 ghost use Rattle.cp_machine.specs.Statements as statements;
 
@@ -30,11 +30,7 @@ fn delay_in(
     cell: usize,
     monitor: u8,
 ) -> Result<Event, ErrorName>
-    requires pid { pid < length state.old.processes.items }
-    requires busy { IsBusy state.old pid }
-    requires cell { cell < length state.old.permanents.items }
-    requires monitor { monitor < length state.old.guards.items }
-    requires lines { AreFirstKnown (machine_of state.old) }
+    requires { CanWait state.old pid cell monitor }
     ensures after { spec.delay_in (machine_of state.old) pid item.now.line cell (ComponentKind.Monitor monitor) (rest_of item.now.next (under (machine_of state.old) pid)) ≡ statements.outcome result (machine_of state.new) pid item.now.line }
     ensures reserved { (r : Tables) → IsReserved r state.old → IsReserved r state.new }
 {
@@ -54,13 +50,8 @@ fn delay_at(
     item: &Item,
     cell: usize,
 ) -> Result<Event, ErrorName>
-    requires pid { pid < length state.old.processes.items }
-    requires busy { IsBusy state.old pid }
+    requires taken { (at : ℕ) × IsTaken program.now state.old pid at item.now }
     requires cell { cell < length state.old.permanents.items }
-    requires guards { length state.old.guards.items ≡ program.now.monitors }
-    requires sound { IsSound program.now }
-    requires component { (thread_at (machine_of state.old).threads pid).frame.component < length program.now.components }
-    requires lines { AreFirstKnown (machine_of state.old) }
     ensures after { spec.delay_in (machine_of state.old) pid item.now.line cell (component_at program.now (thread_at (machine_of state.old).threads pid).frame.component).kind (rest_of item.now.next (under (machine_of state.old) pid)) ≡ statements.outcome result (machine_of state.new) pid item.now.line }
     ensures reserved { (r : Tables) → IsReserved r state.old → IsReserved r state.new }
 {
@@ -83,13 +74,7 @@ pub fn delay(
     item: &Item,
     place: &Place,
 ) -> Result<Event, ErrorName>
-    requires pid { pid < length state.old.processes.items }
-    requires busy { IsBusy state.old pid }
-    requires reach { CanReach (machine_of state.old) pid place.now 1 }
-    requires guards { length state.old.guards.items ≡ program.now.monitors }
-    requires sound { IsSound program.now }
-    requires component { (thread_at (machine_of state.old).threads pid).frame.component < length program.now.components }
-    requires lines { AreFirstKnown (machine_of state.old) }
+    requires { Takes program.now state.old pid item.now (Delay place.now) }
     ensures after { spec.delay program.now (machine_of state.old) pid item.now.line place.now (rest_of item.now.next (under (machine_of state.old) pid)) ≡ statements.outcome result (machine_of state.new) pid item.now.line }
     ensures reserved { (r : Tables) → IsReserved r state.old → IsReserved r state.new }
 {
@@ -146,12 +131,8 @@ fn unwind(state: &mut State, pid: u8)
 
 // The end of the entry is the topmost entry: it returns, and the kernel goes on.
 fn continue_from(program: &Resolved, state: &mut State, pid: u8, cell: usize) -> Event
-    requires pid { pid < length state.old.processes.items }
+    requires ends { CanReturn program.now state.old pid }
     requires cell { cell < length state.old.permanents.items }
-    requires reaches { ThreadReaches program.now (thread_at (machine_of state.old).threads pid) }
-    requires fits { ThreadFits program.now (thread_at (machine_of state.old).threads pid) }
-    requires guards { length state.old.guards.items ≡ program.now.monitors }
-    requires lines { AreFirstKnown (machine_of state.old) }
     ensures after { spec.continue_from program.now (machine_of state.old) pid cell (thread_at (machine_of state.old).threads pid).stack ≡ record { machine = machine_of state.new; event = result } }
     ensures reserved { (r : Tables) → IsReserved r state.old → IsReserved r state.new }
 {
@@ -167,11 +148,7 @@ fn continue_from(program: &Resolved, state: &mut State, pid: u8, cell: usize) ->
 
 // The statement alone is removed, in a monitor.
 fn continue_in(state: &mut State, pid: u8, item: &Item, cell: usize, monitor: u8) -> Event
-    requires pid { pid < length state.old.processes.items }
-    requires busy { IsBusy state.old pid }
-    requires cell { cell < length state.old.permanents.items }
-    requires monitor { monitor < length state.old.guards.items }
-    requires line { HaveGateRoom (machine_of state.old) }
+    requires { CanWait state.old pid cell monitor }
     ensures after { spec.continue_in (machine_of state.old) pid cell (ComponentKind.Monitor monitor) (rest_of item.now.next (under (machine_of state.old) pid)) ≡ record { machine = machine_of state.new; event = result } }
     ensures reserved { (r : Tables) → IsReserved r state.old → IsReserved r state.new }
 {
@@ -182,13 +159,8 @@ fn continue_in(state: &mut State, pid: u8, item: &Item, cell: usize, monitor: u8
 
 // The statement alone is removed.
 fn continue_on(program: &Resolved, state: &mut State, pid: u8, item: &Item, cell: usize) -> Event
-    requires pid { pid < length state.old.processes.items }
-    requires busy { IsBusy state.old pid }
+    requires taken { (at : ℕ) × IsTaken program.now state.old pid at item.now }
     requires cell { cell < length state.old.permanents.items }
-    requires guards { length state.old.guards.items ≡ program.now.monitors }
-    requires sound { IsSound program.now }
-    requires component { (thread_at (machine_of state.old).threads pid).frame.component < length program.now.components }
-    requires line { HaveGateRoom (machine_of state.old) }
     ensures after { spec.continue_in (machine_of state.old) pid cell (component_at program.now (thread_at (machine_of state.old).threads pid).frame.component).kind (rest_of item.now.next (under (machine_of state.old) pid)) ≡ record { machine = machine_of state.new; event = result } }
     ensures reserved { (r : Tables) → IsReserved r state.old → IsReserved r state.new }
 {
@@ -204,17 +176,8 @@ fn continue_on(program: &Resolved, state: &mut State, pid: u8, item: &Item, cell
 
 // By the discipline: the rest of the entry procedure and its end are removed, or the statement alone.
 fn continue_at(program: &Resolved, state: &mut State, pid: u8, item: &Item, cell: usize) -> Event
-    requires pid { pid < length state.old.processes.items }
-    requires busy { IsBusy state.old pid }
+    requires taken { (at : ℕ) × IsTaken program.now state.old pid at item.now }
     requires cell { cell < length state.old.permanents.items }
-    requires fits { ThreadFits program.now (thread_at (machine_of state.old).threads pid) }
-    requires below { StackFits program.now (thread_at (machine_of state.old).threads pid).frame (under (machine_of state.old) pid) }
-    requires reaches { StackReaches program.now (thread_at (machine_of state.old).threads pid).references (thread_at (machine_of state.old).threads pid).frame (under (machine_of state.old) pid) }
-    requires guards { length state.old.guards.items ≡ program.now.monitors }
-    requires sound { IsSound program.now }
-    requires component { (thread_at (machine_of state.old).threads pid).frame.component < length program.now.components }
-    requires lines { AreFirstKnown (machine_of state.old) }
-    requires line { HaveGateRoom (machine_of state.old) }
     ensures after { spec.continue_by (machine_of state.old).discipline.signals program.now (machine_of state.old) pid cell item.now.next (under (machine_of state.old) pid) ≡ record { machine = machine_of state.new; event = result } }
     ensures reserved { (r : Tables) → IsReserved r state.old → IsReserved r state.new }
 {
@@ -236,17 +199,7 @@ pub fn continue_with(
     item: &Item,
     place: &Place,
 ) -> Result<Event, ErrorName>
-    requires pid { pid < length state.old.processes.items }
-    requires busy { IsBusy state.old pid }
-    requires reach { CanReach (machine_of state.old) pid place.now 1 }
-    requires fits { ThreadFits program.now (thread_at (machine_of state.old).threads pid) }
-    requires below { StackFits program.now (thread_at (machine_of state.old).threads pid).frame (under (machine_of state.old) pid) }
-    requires reaches { StackReaches program.now (thread_at (machine_of state.old).threads pid).references (thread_at (machine_of state.old).threads pid).frame (under (machine_of state.old) pid) }
-    requires guards { length state.old.guards.items ≡ program.now.monitors }
-    requires sound { IsSound program.now }
-    requires component { (thread_at (machine_of state.old).threads pid).frame.component < length program.now.components }
-    requires lines { AreFirstKnown (machine_of state.old) }
-    requires line { HaveGateRoom (machine_of state.old) }
+    requires { Takes program.now state.old pid item.now (Continue place.now) }
     ensures after { spec.continue program.now (machine_of state.old) pid item.now.line place.now item.now.next (under (machine_of state.old) pid) ≡ statements.outcome result (machine_of state.new) pid item.now.line }
     ensures reserved { (r : Tables) → IsReserved r state.old → IsReserved r state.new }
 {

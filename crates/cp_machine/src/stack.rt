@@ -1,10 +1,11 @@
 //! Control stacks, which never grow past what was reserved.
 
-ghost use Rattle.std.specs.Prelude.{◌≡◌, ◌+◌, ◌<◌, ◌≤◌, ◌∷◌, vec_len, vec_capacity, drop, length, IfSome, map, option_copied};
+ghost use Rattle.std.specs.Prelude.{◌≡◌, ◌+◌, ◌<◌, ◌≤◌, ◌∷◌, vec_len, vec_capacity, drop, length, IfSome, option_copied};
 ghost use Rattle.cp_slots.specs.Tables.{Tables};
-ghost use Rattle.cp_machine.specs.Fits.{HasRoom, IsBusy, IsReserved};
+ghost use Rattle.cp_machine.specs.Fits.{IsReserved};
 ghost use Rattle.cp_machine.specs.Machine.{machine_of, thread_at, with_stack};
-ghost use Rattle.cp_machine.specs.Stack.{above, from_end, top_first, rest_of};
+ghost use Rattle.cp_machine.specs.Premises.{CanReplace};
+ghost use Rattle.cp_machine.specs.Stack.{above, top_first, rest_of};
 
 use crate::process::Entry;
 use crate::state::State;
@@ -74,9 +75,7 @@ pub fn top_of(state: &State, pid: u8) -> Option<&Entry>
 /// Puts the rest of a list in place of the topmost entry of a process, and a list above it.
 #[inline(always)]
 pub fn replace(state: &mut State, pid: u8, list: Option<usize>, next: Option<usize>)
-    requires pid { pid < length state.old.processes.items }
-    requires busy { IsBusy state.old pid }
-    requires room { HasRoom state.old pid list }
+    requires { CanReplace state.old pid list }
     ensures after { machine_of state.new ≡ with_stack (machine_of state.old) pid (rest_of list (rest_of next (drop 1 (thread_at (machine_of state.old).threads pid).stack))) }
     ensures bounds { state.new.bounds ≡ state.old.bounds }
     ensures reserved { (r : Tables) → IsReserved r state.old → IsReserved r state.new }
@@ -89,9 +88,7 @@ pub fn replace(state: &mut State, pid: u8, list: Option<usize>, next: Option<usi
 /// Puts an entry in place of the topmost entry of a process, and a list above it.
 #[inline(always)]
 pub fn replace_by(state: &mut State, pid: u8, list: Option<usize>, entry: Entry)
-    requires pid { pid < length state.old.processes.items }
-    requires busy { IsBusy state.old pid }
-    requires room { HasRoom state.old pid list }
+    requires { CanReplace state.old pid list }
     ensures after { machine_of state.new ≡ with_stack (machine_of state.old) pid (rest_of list (entry ∷ drop 1 (thread_at (machine_of state.old).threads pid).stack)) }
     ensures reserved { (r : Tables) → IsReserved r state.old → IsReserved r state.new }
 {
@@ -103,8 +100,7 @@ pub fn replace_by(state: &mut State, pid: u8, list: Option<usize>, entry: Entry)
 /// Puts a list above the topmost entry of a process.
 #[inline(always)]
 pub fn repeat(state: &mut State, pid: u8, list: Option<usize>)
-    requires pid { pid < length state.old.processes.items }
-    requires room { HasRoom state.old pid list }
+    requires { CanReplace state.old pid list }
     ensures after { machine_of state.new ≡ with_stack (machine_of state.old) pid (rest_of list (thread_at (machine_of state.old).threads pid).stack) }
     ensures reserved { (r : Tables) → IsReserved r state.old → IsReserved r state.new }
 {

@@ -1,12 +1,11 @@
 //! Starts of classes, monitors and processes.
 
-ghost use Rattle.std.specs.Prelude.{◌≡◌, ◌<◌, ◌≤◌, length, vec_capacity};
-ghost use Rattle.cp_slots.specs.Fits.{IsSound};
+ghost use Rattle.std.specs.Prelude.{◌≡◌, ◌<◌, ℕ, length};
 ghost use Rattle.cp_slots.specs.Tables.{Tables, component_at};
 ghost use Rattle.cp_machine.specs.Calls as spec;
-ghost use Rattle.cp_machine.specs.Fits.{HasCallRoom, IsBusy, IsReserved};
+ghost use Rattle.cp_machine.specs.Fits.{IsReserved};
 ghost use Rattle.cp_machine.specs.Machine.{machine_of, under};
-ghost use Rattle.cp_machine.specs.Reach.{CanStart, FitsComponent};
+ghost use Rattle.cp_machine.specs.Premises.{CanStartIn, TakesStart};
 ghost use Rattle.cp_machine.specs.Stack.{rest_of};
 ghost use Rattle.cp_machine.specs.Statements as statements;
 
@@ -29,12 +28,8 @@ fn start_process(
     component: usize,
     arguments: &[Argument],
 ) -> Result<Event, ErrorName>
-    requires pid { pid < length state.old.processes.items }
-    requires busy { IsBusy state.old pid }
-    requires count { length state.old.bounds.items ≡ length arguments.now }
-    requires fit { FitsComponent program.now (machine_of state.old) pid component arguments.now state.old.bounds.items }
+    requires starts { (routine : ℕ) × CanStartIn program.now state.old pid routine component arguments.now }
     requires process { number < length state.old.processes.items }
-    requires there { component < length program.now.components }
     ensures after { spec.start_process program.now (machine_of state.old) pid item.now.line number component arguments.now state.old.bounds.items (rest_of item.now.next (under (machine_of state.old) pid)) ≡ statements.outcome result (machine_of state.new) pid item.now.line }
     ensures reserved { (r : Tables) → IsReserved r state.old → IsReserved r state.new }
 {
@@ -58,14 +53,7 @@ fn start_inside(
     component: usize,
     arguments: &[Argument],
 ) -> Result<Event, ErrorName>
-    requires pid { pid < length state.old.processes.items }
-    requires busy { IsBusy state.old pid }
-    requires known { component < length state.old.phases.items }
-    requires count { length state.old.bounds.items ≡ length arguments.now }
-    requires fit { FitsComponent program.now (machine_of state.old) pid component arguments.now state.old.bounds.items }
-    requires routine { routine < length program.now.routines }
-    requires room { HasCallRoom program.now state.old.processes.items pid routine }
-    requires there { component < length program.now.components }
+    requires { CanStartIn program.now state.old pid routine component arguments.now }
     ensures after { spec.start_inside program.now (machine_of state.old) pid item.now.line routine component arguments.now state.old.bounds.items (rest_of item.now.next (under (machine_of state.old) pid)) ≡ statements.outcome result (machine_of state.new) pid item.now.line }
     ensures reserved { (r : Tables) → IsReserved r state.old → IsReserved r state.new }
 {
@@ -90,16 +78,7 @@ fn start_by(
     component: usize,
     arguments: &[Argument],
 ) -> Result<Event, ErrorName>
-    requires pid { pid < length state.old.processes.items }
-    requires busy { IsBusy state.old pid }
-    requires known { component < length state.old.phases.items }
-    requires count { length state.old.bounds.items ≡ length arguments.now }
-    requires fit { FitsComponent program.now (machine_of state.old) pid component arguments.now state.old.bounds.items }
-    requires routine { routine < length program.now.routines }
-    requires room { HasCallRoom program.now state.old.processes.items pid routine }
-    requires threads { length state.old.processes.items ≡ length program.now.processes }
-    requires sound { IsSound program.now }
-    requires there { component < length program.now.components }
+    requires { CanStartIn program.now state.old pid routine component arguments.now }
     ensures after { spec.start_by program.now (machine_of state.old) pid item.now.line (component_at program.now component).kind routine component arguments.now state.old.bounds.items (rest_of item.now.next (under (machine_of state.old) pid)) ≡ statements.outcome result (machine_of state.new) pid item.now.line }
     ensures reserved { (r : Tables) → IsReserved r state.old → IsReserved r state.new }
 {
@@ -127,15 +106,7 @@ pub fn start(
     place: &ComponentPlace,
     arguments: &[Argument],
 ) -> Result<Event, ErrorName>
-    requires pid { pid < length state.old.processes.items }
-    requires busy { IsBusy state.old pid }
-    requires phases { length state.old.phases.items ≡ length program.now.components }
-    requires reads { CanStart program.now (machine_of state.old) pid routine place.now arguments.now }
-    requires routine { routine < length program.now.routines }
-    requires room { HasCallRoom program.now state.old.processes.items pid routine }
-    requires most { length arguments.now ≤ vec_capacity state.old.bounds }
-    requires threads { length state.old.processes.items ≡ length program.now.processes }
-    requires sound { IsSound program.now }
+    requires { TakesStart program.now state.old pid item.now place.now routine arguments.now }
     ensures after { spec.start program.now (machine_of state.old) pid item.now.line place.now routine arguments.now (rest_of item.now.next (under (machine_of state.old) pid)) ≡ statements.outcome result (machine_of state.new) pid item.now.line }
     ensures reserved { (r : Tables) → IsReserved r state.old → IsReserved r state.new }
 {

@@ -1,11 +1,11 @@
 //! Statements without calls.
 
-ghost use Rattle.std.specs.Prelude.{◌≡◌, ℕ, ◌+◌, ◌<◌, ◌≤◌, drop, if◌then◌else◌, length, slice_index_or, vec_len, vec_capacity};
-ghost use Rattle.cp_slots.specs.Inside.{SET_CELLS};
+ghost use Rattle.std.specs.Prelude.{◌≡◌, ◌+◌, ◌<◌, ◌≤◌, None, if◌then◌else◌, vec_capacity, vec_len};
 ghost use Rattle.cp_slots.specs.Tables.{Tables};
-ghost use Rattle.cp_machine.specs.Fits.{HasRoom, IsBusy, IsReserved};
-ghost use Rattle.cp_machine.specs.Machine.{machine_of, under, with_stack};
-ghost use Rattle.cp_machine.specs.Reach.{CanReach, CanRead, CanReadSet};
+ghost use Rattle.cp_slots.specs.declared.item.Action.TheVariants.{Assert, Assign, AssignSet, Copy, Display, If};
+ghost use Rattle.cp_machine.specs.Fits.{IsReserved};
+ghost use Rattle.cp_machine.specs.Machine.{machine_of, under};
+ghost use Rattle.cp_machine.specs.Premises.{CanReplace, Takes, TakesCase};
 ghost use Rattle.cp_machine.specs.Stack.{rest_of};
 ghost use Rattle.cp_machine.specs.Statements as spec;
 
@@ -29,10 +29,7 @@ pub fn assign(
     low: &i16,
     high: &i16,
 ) -> Result<Event, ErrorName>
-    requires pid { pid < length state.old.processes.items }
-    requires busy { IsBusy state.old pid }
-    requires reads { CanRead (machine_of state.old) pid value.now }
-    requires reach { CanReach (machine_of state.old) pid target.now 1 }
+    requires { (r : Tables) × Takes r state.old pid item.now (Assign target.now value.now low.now high.now) }
     ensures after { spec.assign (machine_of state.old) pid item.now.line target.now value.now low.now high.now (rest_of item.now.next (under (machine_of state.old) pid)) ≡ spec.outcome result (machine_of state.new) pid item.now.line }
     ensures reserved { (r : Tables) → IsReserved r state.old → IsReserved r state.new }
 {
@@ -55,10 +52,7 @@ pub fn assign_set(
     low: u8,
     high: u8,
 ) -> Result<Event, ErrorName>
-    requires pid { pid < length state.old.processes.items }
-    requires busy { IsBusy state.old pid }
-    requires reads { CanReadSet (machine_of state.old) pid value.now }
-    requires reach { CanReach (machine_of state.old) pid target.now SET_CELLS }
+    requires { (r : Tables) × Takes r state.old pid item.now (AssignSet target.now value.now low high) }
     ensures after { spec.assign_set (machine_of state.old) pid item.now.line target.now value.now low high (rest_of item.now.next (under (machine_of state.old) pid)) ≡ spec.outcome result (machine_of state.new) pid item.now.line }
     ensures reserved { (r : Tables) → IsReserved r state.old → IsReserved r state.new }
 {
@@ -80,10 +74,7 @@ pub fn copy(
     source: &Place,
     size: usize,
 ) -> Result<Event, ErrorName>
-    requires pid { pid < length state.old.processes.items }
-    requires busy { IsBusy state.old pid }
-    requires from { CanReach (machine_of state.old) pid source.now size }
-    requires reach { CanReach (machine_of state.old) pid target.now size }
+    requires { (r : Tables) × Takes r state.old pid item.now (Copy target.now source.now size) }
     ensures after { spec.copy (machine_of state.old) pid item.now.line target.now source.now size (rest_of item.now.next (under (machine_of state.old) pid)) ≡ spec.outcome result (machine_of state.new) pid item.now.line }
     ensures reserved { (r : Tables) → IsReserved r state.old → IsReserved r state.new }
 {
@@ -104,11 +95,7 @@ pub fn branch(
     list: Option<usize>,
     other: Option<usize>,
 ) -> Result<Event, ErrorName>
-    requires pid { pid < length state.old.processes.items }
-    requires busy { IsBusy state.old pid }
-    requires reads { CanRead (machine_of state.old) pid test.now }
-    requires room { HasRoom state.old pid list }
-    requires other_room { HasRoom state.old pid other }
+    requires { (r : Tables) × Takes r state.old pid item.now (If test.now list other) }
     ensures after { spec.branch (machine_of state.old) pid item.now.line test.now list other (rest_of item.now.next (under (machine_of state.old) pid)) ≡ spec.outcome result (machine_of state.new) pid item.now.line }
     ensures reserved { (r : Tables) → IsReserved r state.old → IsReserved r state.new }
 {
@@ -140,9 +127,7 @@ pub fn assert_that(
     test: &OrdinalExpression,
     said: Said,
 ) -> Result<Event, ErrorName>
-    requires pid { pid < length state.old.processes.items }
-    requires busy { IsBusy state.old pid }
-    requires reads { CanRead (machine_of state.old) pid test.now }
+    requires { (r : Tables) × Takes r state.old pid item.now (Assert test.now said) }
     ensures after { spec.assert_that (machine_of state.old) pid item.now.line test.now said (rest_of item.now.next (under (machine_of state.old) pid)) ≡ spec.outcome result (machine_of state.new) pid item.now.line }
     ensures reserved { (r : Tables) → IsReserved r state.old → IsReserved r state.new }
 {
@@ -182,10 +167,7 @@ pub fn case_of(
     selector: &OrdinalExpression,
     arms: &[ResolvedArm],
 ) -> Result<Event, ErrorName>
-    requires pid { pid < length state.old.processes.items }
-    requires busy { IsBusy state.old pid }
-    requires reads { CanRead (machine_of state.old) pid selector.now }
-    requires room { (k : ℕ) (d : ResolvedArm) → k < length arms.now → HasRoom state.old pid (slice_index_or arms.now k d).body }
+    requires { (r : Tables) × TakesCase r state.old pid item.now selector.now arms.now }
     ensures after { spec.case_of (machine_of state.old) pid item.now.line selector.now arms.now (rest_of item.now.next (under (machine_of state.old) pid)) ≡ spec.outcome result (machine_of state.new) pid item.now.line }
     ensures reserved { (r : Tables) → IsReserved r state.old → IsReserved r state.new }
 {
@@ -230,8 +212,7 @@ fn shown_as(kind: ShownKind, value: i16) -> Shown
 }
 
 fn show(state: &mut State, pid: u8, next: Option<usize>, value: Shown) -> Event
-    requires pid { pid < length state.old.processes.items }
-    requires busy { IsBusy state.old pid }
+    requires replaces { CanReplace state.old pid None }
     requires room { MOST_SHOWN ≤ vec_capacity state.old.output }
     requires shown { vec_len state.old.output ≤ MOST_SHOWN }
     ensures after { spec.show (machine_of state.old) pid (rest_of next (under (machine_of state.old) pid)) value ≡ record { machine = machine_of state.new; event = result } }
@@ -254,11 +235,7 @@ pub fn display(
     value: &OrdinalExpression,
     kind: ShownKind,
 ) -> Result<Event, ErrorName>
-    requires pid { pid < length state.old.processes.items }
-    requires busy { IsBusy state.old pid }
-    requires reads { CanRead (machine_of state.old) pid value.now }
-    requires room { MOST_SHOWN ≤ vec_capacity state.old.output }
-    requires shown { vec_len state.old.output ≤ MOST_SHOWN }
+    requires { (r : Tables) × Takes r state.old pid item.now (Display value.now kind) }
     ensures after { spec.display (machine_of state.old) pid item.now.line value.now kind (rest_of item.now.next (under (machine_of state.old) pid)) ≡ spec.outcome result (machine_of state.new) pid item.now.line }
     ensures reserved { (r : Tables) → IsReserved r state.old → IsReserved r state.new }
 {

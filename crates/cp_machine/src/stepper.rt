@@ -3,6 +3,7 @@
 ghost use Rattle.std.specs.Prelude.{◌≡◌, ◌+◌, ◌<◌, IsTrue, false, if◌then◌else◌, length};
 ghost use Rattle.cp_machine.specs.Fits.{IsReserved, IsStateOf};
 ghost use Rattle.cp_machine.specs.Machine.{is_pending, is_ready, machine_of, thread_at};
+ghost use Rattle.cp_machine.specs.Premises.{CanStep};
 ghost use Rattle.cp_machine.specs.Stack.{is_end};
 ghost use Rattle.cp_machine.specs.Step.{step_at, succeeds};
 
@@ -36,9 +37,7 @@ pub fn step<C: Count>(program: &Resolved, state: &mut State, pid: u8, ticks: &mu
 
 #[inline(always)]
 fn take_step(program: &Resolved, state: &mut State, pid: u8) -> Event
-    requires own { IsStateOf program.now state.old }
-    requires pid { pid < length state.old.processes.items }
-    requires ready { IsTrue (is_ready (machine_of state.old) pid) }
+    requires { CanStep program.now state.old pid }
     ensures after { step_at program.now (machine_of state.old) pid ≡ record { machine = machine_of state.new; event = result } }
     ensures reserved { IsReserved program.now state.new }
 {
@@ -60,8 +59,7 @@ fn take_step(program: &Resolved, state: &mut State, pid: u8) -> Event
 // The end of a call or of an initial statement: apart, since frames go through memory.
 #[inline(never)]
 fn take_end(program: &Resolved, state: &mut State, pid: u8) -> Event
-    requires own { IsStateOf program.now state.old }
-    requires pid { pid < length state.old.processes.items }
+    requires steps { CanStep program.now state.old pid }
     requires end { IsTrue (is_end (thread_at (machine_of state.old).threads pid).stack) }
     ensures after { step_at program.now (machine_of state.old) pid ≡ record { machine = machine_of state.new; event = result } }
     ensures reserved { IsReserved program.now state.new }

@@ -1,9 +1,10 @@
 //! Items that are taken.
 
-ghost use Rattle.std.specs.Prelude.{◌≡◌, ◌∷◌, ◌<◌, IsTrue, length};
+ghost use Rattle.std.specs.Prelude.{◌≡◌};
 ghost use Rattle.cp_slots.specs.Tables.{Tables, item_at};
-ghost use Rattle.cp_machine.specs.Fits.{HaveGateRoom, IsReserved, IsStateOf};
-ghost use Rattle.cp_machine.specs.Machine.{is_ready, machine_of, thread_at, under};
+ghost use Rattle.cp_machine.specs.Fits.{IsReserved, IsTaken};
+ghost use Rattle.cp_machine.specs.Machine.{machine_of, under};
+ghost use Rattle.cp_machine.specs.Premises.{IsTurn};
 ghost use Rattle.cp_machine.specs.Statements.{outcome, successor_step};
 ghost use Rattle.cp_machine.specs.Step.{act};
 
@@ -28,11 +29,7 @@ fn fault_event(pid: u8, item: &Item, name: ErrorName) -> Event
 /// Takes an item, which is the topmost entry of a process.
 #[inline(always)]
 pub fn take_item(program: &Resolved, state: &mut State, pid: u8, at: usize) -> Event
-    requires own { IsStateOf program.now state.old }
-    requires pid { pid < length state.old.processes.items }
-    requires ready { IsTrue (is_ready (machine_of state.old) pid) }
-    requires line { HaveGateRoom (machine_of state.old) }
-    requires top { (thread_at (machine_of state.old).threads pid).stack ≡ Entry.Rest at ∷ under (machine_of state.old) pid }
+    requires { IsTaken program.now state.old pid at (item_at program.now at) }
     ensures after { act program.now (machine_of state.old) pid at (item_at program.now at) (item_at program.now at).action (under (machine_of state.old) pid) ≡ record { machine = machine_of state.new; event = result } }
     ensures reserved { IsReserved program.now state.new }
 {
@@ -53,9 +50,7 @@ pub fn perform_successor(
     value: i16,
     last: i16,
 ) -> Result<Event, ErrorName>
-    requires own { (r : Tables) × IsStateOf r state.old × (item.now ≡ item_at r at) }
-    requires pid { pid < length state.old.processes.items }
-    requires top { (thread_at (machine_of state.old).threads pid).stack ≡ Entry.Successor at value last ∷ under (machine_of state.old) pid }
+    requires { (r : Tables) × IsTurn r state.old pid at value last item.now }
     ensures after { successor_step (machine_of state.old) pid at item.now item.now.action (under (machine_of state.old) pid) value last ≡ outcome result (machine_of state.new) pid item.now.line }
     ensures reserved { (r : Tables) → IsReserved r state.old → IsReserved r state.new }
 {
@@ -95,9 +90,7 @@ pub fn take_successor(
     value: i16,
     last: i16,
 ) -> Event
-    requires own { IsStateOf program.now state.old }
-    requires pid { pid < length state.old.processes.items }
-    requires top { (thread_at (machine_of state.old).threads pid).stack ≡ Entry.Successor at value last ∷ under (machine_of state.old) pid }
+    requires { IsTurn program.now state.old pid at value last (item_at program.now at) }
     ensures after { successor_step (machine_of state.old) pid at (item_at program.now at) (item_at program.now at).action (under (machine_of state.old) pid) value last ≡ record { machine = machine_of state.new; event = result } }
     ensures reserved { IsReserved program.now state.new }
 {

@@ -1,6 +1,6 @@
 -- Who is first in a line is one of the processes.
-use Rattle.cp_machine.proofs.Words.{◌≡◌, ◌∙◌, ℕ, ◌<◌, List, [], ◌∷◌, length, Some, true, sym, subst, length-set, Machine, Thread, monitor_at, with_thread}
-use Rattle.cp_machine.specs.Fits.{AreFirstKnown, IsFirstKnown, LinesFit}
+use Rattle.cp_machine.proofs.Words.{◌≡◌, ◌∙◌, ℕ, ◌<◌, List, [], ◌∷◌, length, Some, true, Machine, monitor_at}
+use Rattle.cp_machine.specs.Fits.{IsFirstKnown, LinesFit}
 use Rattle.cp_machine.proofs.CallerLemmas.{in_line_within}
 use Rattle.cp_machine.proofs.lines.LineLists.{has, has_first}
 
@@ -8,9 +8,5 @@ first_known : (processes : ℕ) (line : List ℕ) → ((q : ℕ) → has line q 
 first_known processes [] each = tt
 first_known processes (q ∷ line) each = each q (has_first q line)
 
-pub firsts_known : (m : Machine) → LinesFit m → AreFirstKnown m
+pub firsts_known : (m : Machine) → LinesFit m → (monitor : ℕ) → IsFirstKnown (length m.threads) (monitor_at m monitor).line
 firsts_known m lines monitor = first_known (length m.threads) (monitor_at m monitor).line (λ q there. in_line_within (Some monitor) m.threads q (lines.gate monitor q ∙ there))
-
--- another thread in a place makes no difference
-pub thread_known : (m : Machine) (pid : ℕ) (x : Thread) → AreFirstKnown m → AreFirstKnown (with_thread m pid x)
-thread_known m pid x known monitor = subst (λ k. IsFirstKnown k (monitor_at m monitor).line) (sym (length-set m.threads pid x)) (known monitor)

@@ -2,27 +2,6 @@ use Rattle.cp_machine.proofs.CallOutcomes.{called_entry, called_inside, initiali
 use Rattle.cp_machine.proofs.Words.{is_initialised, machine_of, phase_at, under, rest_of, local, ap, false, sym, true, ◌∙◌, ◌≡◌}
 use Rattle.cp_machine.proofs.call.call_by.Goals as goal
 
-pub open_call-requires-clause-pid : goal.open_call-requires-clause-pid
-open_call-requires-clause-pid c = c.requires.pid
-
-pub open_call-requires-clause-busy : goal.open_call-requires-clause-busy
-open_call-requires-clause-busy c = c.requires.busy
-
-pub open_call-requires-clause-routine : goal.open_call-requires-clause-routine
-open_call-requires-clause-routine c = c.requires.routine
-
-pub open_call-requires-clause-room : goal.open_call-requires-clause-room
-open_call-requires-clause-room c = c.requires.room
-
-pub open_call-requires-clause-count : goal.open_call-requires-clause-count
-open_call-requires-clause-count c = c.requires.count
-
-pub open_call-requires-clause-fit : goal.open_call-requires-clause-fit
-open_call-requires-clause-fit c = c.requires.fit
-
-pub open_call-requires-clause-there : goal.open_call-requires-clause-there
-open_call-requires-clause-there c = c.requires.there
-
 pub returns-then-not-callee-clause-after : goal.returns-then-not-callee-clause-after
 returns-then-not-callee-clause-after c =
     let m = machine_of c.args.state.now in
@@ -32,7 +11,7 @@ pub returns-then-not-callee-clause-reserved : goal.returns-then-not-callee-claus
 returns-then-not-callee-clause-reserved c = c.open_call.ensures.reserved
 
 pub phase_of-requires : goal.phase_of-requires
-phase_of-requires c = c.requires.known
+phase_of-requires c = c.requires.opens.known
 
 pub returns-then-ne-clause-after : goal.returns-then-ne-clause-after
 returns-then-ne-clause-after c =
@@ -43,36 +22,6 @@ returns-then-ne-clause-after c =
 pub returns-then-ne-clause-reserved : goal.returns-then-ne-clause-reserved
 returns-then-ne-clause-reserved c = λ r h. h
 
-pub call_entry-requires-clause-pid : goal.call_entry-requires-clause-pid
-call_entry-requires-clause-pid c = c.requires.pid
-
-pub call_entry-requires-clause-busy : goal.call_entry-requires-clause-busy
-call_entry-requires-clause-busy c = c.requires.busy
-
-pub call_entry-requires-clause-routine : goal.call_entry-requires-clause-routine
-call_entry-requires-clause-routine c = c.requires.routine
-
-pub call_entry-requires-clause-room : goal.call_entry-requires-clause-room
-call_entry-requires-clause-room c = c.requires.room
-
-pub call_entry-requires-clause-count : goal.call_entry-requires-clause-count
-call_entry-requires-clause-count c = c.requires.count
-
-pub call_entry-requires-clause-fit : goal.call_entry-requires-clause-fit
-call_entry-requires-clause-fit c = c.requires.fit
-
-pub call_entry-requires-clause-guards : goal.call_entry-requires-clause-guards
-call_entry-requires-clause-guards c = c.requires.guards
-
-pub call_entry-requires-clause-sound : goal.call_entry-requires-clause-sound
-call_entry-requires-clause-sound c = c.requires.sound
-
-pub call_entry-requires-clause-line : goal.call_entry-requires-clause-line
-call_entry-requires-clause-line c = c.requires.line
-
-pub call_entry-requires-clause-there : goal.call_entry-requires-clause-there
-call_entry-requires-clause-there c = c.requires.there
-
 pub returns-clause-after : goal.returns-clause-after
 returns-clause-after c =
     let m = machine_of c.args.state.now in
@@ -81,3 +30,9 @@ returns-clause-after c =
 
 pub returns-clause-reserved : goal.returns-clause-reserved
 returns-clause-reserved c = c.call_entry.ensures.reserved
+
+pub open_call-requires : goal.open_call-requires
+open_call-requires c = c.requires
+
+pub call_entry-requires : goal.call_entry-requires
+call_entry-requires c = c.requires

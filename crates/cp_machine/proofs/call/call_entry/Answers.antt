@@ -1,5 +1,6 @@
-use Rattle.cp_machine.proofs.Words.{◌≡◌, ◌∙◌, ap, sym, component_at, call_in, machine_of, under, rest_of, local}
+use Rattle.cp_machine.proofs.Words.{◌≡◌, ◌∙◌, ap, sym, component_at, call_in, machine_of, under, rest_of, local, subst}
 use Rattle.cp_slots.specs.declared.tables.ComponentKind.TheVariants as kind
+use Rattle.cp_machine.specs.Premises.{HasPartyOf}
 use Rattle.cp_machine.proofs.call.call_entry.Goals as goal
 
 pub returns-in-Monitor-clause-after : goal.returns-in-Monitor-clause-after
@@ -29,17 +30,16 @@ returns-in-Class-clause-reserved c = c.open_call.ensures.reserved
 pub returns-in-Process-clause-reserved : goal.returns-in-Process-clause-reserved
 returns-in-Process-clause-reserved c = c.replace.ensures.reserved
 
-pub call_monitor-requires-clause-busy : goal.call_monitor-requires-clause-busy
-call_monitor-requires-clause-busy c = c.requires.busy
+pub component-requires : goal.component-requires
+component-requires c = c.requires.opens.there
 
-pub open_call-requires-clause-busy : goal.open_call-requires-clause-busy
-open_call-requires-clause-busy c = c.requires.busy
+pub open_call-requires : goal.open_call-requires
+open_call-requires c = c.requires
 
-pub replace-requires-clause-busy : goal.replace-requires-clause-busy
-replace-requires-clause-busy c = c.requires.busy
+pub replace-requires : goal.replace-requires
+replace-requires c = c.requires.opens.replaces
 
-pub call_monitor-requires-clause-count : goal.call_monitor-requires-clause-count
-call_monitor-requires-clause-count c = c.requires.count
-
-pub open_call-requires-clause-count : goal.open_call-requires-clause-count
-open_call-requires-clause-count c = c.requires.count
+pub call_monitor-requires : goal.call_monitor-requires
+call_monitor-requires c =
+    let is : (component_at c.args.program.now c.args.component).kind ≡ (kind.Monitor c.in-Monitor.monitor) = ap (λ x. x.kind) (sym c.component.ensures.value) ∙ c.in-Monitor.is in
+    record { calls = c.requires; gate = subst (HasPartyOf c.args.state.now) is c.requires.opens.party }

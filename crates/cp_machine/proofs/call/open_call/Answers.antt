@@ -10,28 +10,13 @@ returns-clause-reserved c = λ r h. c.bind_arguments.ensures.reserved r (c.open.
 pub bind_arguments-requires-clause-fit : goal.bind_arguments-requires-clause-fit
 bind_arguments-requires-clause-fit c =
     subst (λ bounds. FitsOwn (machine_of c.open.new.state) c.args.pid c.args.arguments.now bounds.items) (sym c.open.ensures.bounds)
-    (opened_fits c.args.program.now c.args.state.now _ c.args.pid c.args.callee.routine c.args.component _ _ c.args.arguments.now c.args.state.now.bounds.items c.requires.pid c.open.ensures.after c.requires.fit)
+    (opened_fits c.args.program.now c.args.state.now _ c.args.pid c.args.callee.routine c.args.component _ _ c.args.arguments.now c.args.state.now.bounds.items c.requires.opens.replaces.within c.open.ensures.after c.requires.fit)
 
 pub frame_of-requires : goal.frame_of-requires
-frame_of-requires c = c.requires.pid
-
-pub open-requires-clause-pid : goal.open-requires-clause-pid
-open-requires-clause-pid c = c.requires.pid
-
-pub open-requires-clause-busy : goal.open-requires-clause-busy
-open-requires-clause-busy c = c.requires.busy
-
-pub open-requires-clause-routine : goal.open-requires-clause-routine
-open-requires-clause-routine c = c.requires.routine
-
-pub open-requires-clause-room : goal.open-requires-clause-room
-open-requires-clause-room c = c.requires.room
-
-pub open-requires-clause-there : goal.open-requires-clause-there
-open-requires-clause-there c = c.requires.there
+frame_of-requires c = c.requires.opens.replaces.within
 
 pub bind_arguments-requires-clause-pid : goal.bind_arguments-requires-clause-pid
-bind_arguments-requires-clause-pid c = set_within c.args.state.now c.open.new.state c.args.pid c.args.pid _ (ap (λ k. k.threads) c.open.ensures.after) c.requires.pid
+bind_arguments-requires-clause-pid c = set_within c.args.state.now c.open.new.state c.args.pid c.args.pid _ (ap (λ k. k.threads) c.open.ensures.after) c.requires.opens.replaces.within
 
 pub bind_arguments-requires-clause-count : goal.bind_arguments-requires-clause-count
 bind_arguments-requires-clause-count c = ap (λ b. length b.items) c.open.ensures.bounds ∙ c.requires.count
@@ -43,3 +28,6 @@ returns-clause-after c =
     let given = c.args.arguments.now in
     let bounds = c.open.new.state.bounds.items in
     c.bind_arguments.ensures.after ∙ ap (λ n. frame_bound n c.args.pid given bounds) c.open.ensures.after ∙ ap (λ f. frame_bound (opening f) c.args.pid given bounds) c.frame_of.ensures ∙ ap (λ b. frame_bound (opening (thread_at m.threads c.args.pid).frame) c.args.pid given b.items) c.open.ensures.bounds
+
+pub open-requires : goal.open-requires
+open-requires c = c.requires.opens

@@ -7,7 +7,7 @@ pub loop-at-preserved : goal.loop-at-preserved
 loop-at-preserved g c =
     let mine : c.loop-at.at < length c.loop-at.mine = omega arith in
     let theirs : c.loop-at.at < length c.args.theirs.now = omega arith in
-    let before : c.loop-at.at < length c.args.mine.now = omega (arith, c.requires.length, theirs) in
+    let before : c.loop-at.at < length c.args.mine.now = omega (arith, c.requires.room.count, theirs) in
     let Next : List ProcessState → Type 0 = λ ps. AreCopied c.args.mine.now ps c.args.theirs.now (c.loop-at.at + 1) in
     let next = copied_next c.args.mine.now c.loop-at.mine c.args.theirs.now c.loop-at.at in
     elim c.if-has.branch [

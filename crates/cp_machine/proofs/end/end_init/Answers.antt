@@ -8,3 +8,6 @@ pub set_phase-requires : goal.set_phase-requires
 set_phase-requires c =
     let P : Machine → Type 0 = λ m. c.args.component < length m.phases in
     record { known = subst P (sym c.leave.ensures.after) c.requires.known }
+
+pub leave-requires : goal.leave-requires
+leave-requires c = c.requires.leaves

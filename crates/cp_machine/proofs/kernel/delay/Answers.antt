@@ -1,8 +1,6 @@
-use Rattle.cp_machine.proofs.Words.{subst, sym, pos, slice_set, AreFirstKnown, machine_of}
-use Rattle.cp_machine.proofs.lines.LineLemmas.{thread_known}
+use Rattle.cp_machine.proofs.Words.{◌∙◌, ap, length, length-set}
+use Rattle.cp_machine.proofs.PremiseLemmas.{gate_kept}
 use Rattle.cp_machine.proofs.kernel.delay.Goals as goal
 
-pub let_in-requires-clause-lines : goal.let_in-requires-clause-lines
-let_in-requires-clause-lines c =
-    let m = machine_of c.args.state.now in
-    subst AreFirstKnown (sym c.set_status.ensures.after) (thread_known (record m { permanents = slice_set m.permanents c.args.cell (pos 1) }) c.args.pid _ c.requires.lines)
+pub let_in-requires : goal.let_in-requires
+let_in-requires c = gate_kept c.args.state.now c.set_status.new.state c.args.monitor (ap (λ k. k.monitors) c.set_status.ensures.after) (ap (λ k. length k.threads) c.set_status.ensures.after ∙ length-set _ c.args.pid _) c.requires.enters.gate

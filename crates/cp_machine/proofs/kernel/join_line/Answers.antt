@@ -4,10 +4,10 @@ use Rattle.cp_machine.proofs.kernel.join_line.Goals as goal
 
 pub push-requires : goal.push-requires
 push-requires c =
-    let read : monitor_at (machine_of c.args.state.now) c.args.monitor ≡ monitor_of c.index_mut-guard.result.now = guard_read _ _ _ c.requires.gate c.index_mut-guard.ensures.value in
-    omega (arith, ap (λ (m : Monitor). length m.line) read, c.requires.line c.args.monitor)
+    let read : monitor_at (machine_of c.args.state.now) c.args.monitor ≡ monitor_of c.index_mut-guard.result.now = guard_read _ _ _ c.requires.gate.there c.index_mut-guard.ensures.value in
+    omega (arith, ap (λ (m : Monitor). length m.line) read, c.requires.gate.room)
 
 pub returns-clause-after : goal.returns-clause-after
 returns-clause-after c =
-    let read : monitor_at (machine_of c.args.state.now) c.args.monitor ≡ monitor_of c.index_mut-guard.result.now = guard_read _ _ _ c.requires.gate c.index_mut-guard.ensures.value in
+    let read : monitor_at (machine_of c.args.state.now) c.args.monitor ≡ monitor_of c.index_mut-guard.result.now = guard_read _ _ _ c.requires.gate.there c.index_mut-guard.ensures.value in
     c.set_status.ensures.after ∙ rw (map-set, read, c.push.ensures.items) refl

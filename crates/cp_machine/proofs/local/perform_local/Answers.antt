@@ -1,16 +1,8 @@
-use Rattle.cp_machine.proofs.Words.{◌∙◌, ap, sym, Assign, If, While, Until, Rest, machine_of, under, with_stack, rest_of, assign, branch, local, outcome, while_do, until}
-use Rattle.cp_machine.proofs.Words.{act, Block, Cycle, false≢true}
+use Rattle.cp_machine.proofs.Words.{◌∙◌, ap, sym, machine_of, under, with_stack, rest_of, assign, branch, local, outcome, while_do, until, act, Block, Cycle, false≢true}
 use Rattle.cp_machine.proofs.LocalSteps.{assign_calm, branch_calm, while_calm, until_calm, done_pending, done_same}
-use Rattle.cp_machine.proofs.frames.ReadLemmas.{taken_fits, taken_reads, taken_room}
-use Rattle.cp_machine.proofs.rooms.RoomLemmas.{is_busy}
-use Rattle.cp_machine.proofs.TakeLemmas.{item_room, item_taken}
+use Rattle.cp_machine.proofs.frames.ReadLemmas.{taken_fits}
+use Rattle.cp_machine.proofs.PremiseLemmas.{item_list}
 use Rattle.cp_machine.proofs.local.perform_local.Goals as goal
-
-pub assign-requires-clause-reads : goal.assign-requires-clause-reads
-assign-requires-clause-reads c = (taken_reads c.args.program.now c.args.state.now c.args.pid c.args.at c.args.item.now c.requires.taken (Assign c.in-Assign.target c.in-Assign.value c.in-Assign.low c.in-Assign.high) c.in-Assign.is).0
-
-pub assign-requires-clause-reach : goal.assign-requires-clause-reach
-assign-requires-clause-reach c = (taken_reads c.args.program.now c.args.state.now c.args.pid c.args.at c.args.item.now c.requires.taken (Assign c.in-Assign.target c.in-Assign.value c.in-Assign.low c.in-Assign.high) c.in-Assign.is).1
 
 pub returns-in-Assign-clause-same : goal.returns-in-Assign-clause-same
 returns-in-Assign-clause-same c =
@@ -23,16 +15,7 @@ returns-in-Assign-clause-pending c =
     done_pending m (machine_of c.assign.new.state) c.args.pid c.args.item.now.line (assign m c.args.pid c.args.item.now.line c.in-Assign.target c.in-Assign.value c.in-Assign.low c.in-Assign.high (rest_of c.args.item.now.next (under m c.args.pid))) (assign_calm m c.args.pid c.args.item.now.line c.in-Assign.target c.in-Assign.value c.in-Assign.low c.in-Assign.high (rest_of c.args.item.now.next (under m c.args.pid))) c.assign.result c.assign.ensures.after
 
 pub returns-in-Assign-clause-reserved : goal.returns-in-Assign-clause-reserved
-returns-in-Assign-clause-reserved c = c.assign.ensures.reserved c.args.program.now c.requires.taken.own.reserved
-
-pub branch-state-requires-clause-reads : goal.branch-state-requires-clause-reads
-branch-state-requires-clause-reads c = (taken_reads c.args.program.now c.args.state.now c.args.pid c.args.at c.args.item.now c.requires.taken (If c.in-If.test c.in-If.then c.in-If.otherwise) c.in-If.is)
-
-pub branch-state-requires-clause-room : goal.branch-state-requires-clause-room
-branch-state-requires-clause-room c = taken_room c.args.program.now c.args.state.now c.args.pid c.args.at c.args.item.now c.requires.taken c.in-If.then ((taken_fits c.args.program.now c.args.state.now c.args.pid c.args.at c.args.item.now c.requires.taken (If c.in-If.test c.in-If.then c.in-If.otherwise) c.in-If.is).0)
-
-pub branch-state-requires-clause-other_room : goal.branch-state-requires-clause-other_room
-branch-state-requires-clause-other_room c = taken_room c.args.program.now c.args.state.now c.args.pid c.args.at c.args.item.now c.requires.taken c.in-If.otherwise ((taken_fits c.args.program.now c.args.state.now c.args.pid c.args.at c.args.item.now c.requires.taken (If c.in-If.test c.in-If.then c.in-If.otherwise) c.in-If.is).1)
+returns-in-Assign-clause-reserved c = c.assign.ensures.reserved c.args.program.now c.requires.own.reserved
 
 pub returns-in-If-clause-same : goal.returns-in-If-clause-same
 returns-in-If-clause-same c =
@@ -45,13 +28,7 @@ returns-in-If-clause-pending c =
     done_pending m (machine_of c.branch-state.new.state) c.args.pid c.args.item.now.line (branch m c.args.pid c.args.item.now.line c.in-If.test c.in-If.then c.in-If.otherwise (rest_of c.args.item.now.next (under m c.args.pid))) (branch_calm m c.args.pid c.args.item.now.line c.in-If.test c.in-If.then c.in-If.otherwise (rest_of c.args.item.now.next (under m c.args.pid))) c.branch-state.result c.branch-state.ensures.after
 
 pub returns-in-If-clause-reserved : goal.returns-in-If-clause-reserved
-returns-in-If-clause-reserved c = c.branch-state.ensures.reserved c.args.program.now c.requires.taken.own.reserved
-
-pub while_do-requires-clause-reads : goal.while_do-requires-clause-reads
-while_do-requires-clause-reads c = (taken_reads c.args.program.now c.args.state.now c.args.pid c.args.at c.args.item.now c.requires.taken (While c.in-While.test c.in-While.body c.in-While.again) c.in-While.is)
-
-pub while_do-requires-clause-room : goal.while_do-requires-clause-room
-while_do-requires-clause-room c = taken_room c.args.program.now c.args.state.now c.args.pid c.args.at c.args.item.now c.requires.taken c.in-While.body ((taken_fits c.args.program.now c.args.state.now c.args.pid c.args.at c.args.item.now c.requires.taken (While c.in-While.test c.in-While.body c.in-While.again) c.in-While.is).0)
+returns-in-If-clause-reserved c = c.branch-state.ensures.reserved c.args.program.now c.requires.own.reserved
 
 pub returns-in-While-clause-same : goal.returns-in-While-clause-same
 returns-in-While-clause-same c =
@@ -64,13 +41,7 @@ returns-in-While-clause-pending c =
     done_pending m (machine_of c.while_do.new.state) c.args.pid c.args.item.now.line (while_do m c.args.pid c.args.item.now.line c.in-While.test c.in-While.body c.in-While.again c.args.item.now.next (under m c.args.pid)) (while_calm m c.args.pid c.args.item.now.line c.in-While.test c.in-While.body c.in-While.again c.args.item.now.next (under m c.args.pid)) c.while_do.result c.while_do.ensures.after
 
 pub returns-in-While-clause-reserved : goal.returns-in-While-clause-reserved
-returns-in-While-clause-reserved c = c.while_do.ensures.reserved c.args.program.now c.requires.taken.own.reserved
-
-pub until-requires-clause-reads : goal.until-requires-clause-reads
-until-requires-clause-reads c = (taken_reads c.args.program.now c.args.state.now c.args.pid c.args.at c.args.item.now c.requires.taken (Until c.in-Until.test c.in-Until.body c.in-Until.again) c.in-Until.is)
-
-pub until-requires-clause-room : goal.until-requires-clause-room
-until-requires-clause-room c = taken_room c.args.program.now c.args.state.now c.args.pid c.args.at c.args.item.now c.requires.taken c.in-Until.body ((taken_fits c.args.program.now c.args.state.now c.args.pid c.args.at c.args.item.now c.requires.taken (Until c.in-Until.test c.in-Until.body c.in-Until.again) c.in-Until.is).0)
+returns-in-While-clause-reserved c = c.while_do.ensures.reserved c.args.program.now c.requires.own.reserved
 
 pub returns-in-Until-clause-same : goal.returns-in-Until-clause-same
 returns-in-Until-clause-same c =
@@ -83,7 +54,7 @@ returns-in-Until-clause-pending c =
     done_pending m (machine_of c.until.new.state) c.args.pid c.args.item.now.line (until m c.args.pid c.args.item.now.line c.in-Until.test c.in-Until.body c.in-Until.again c.args.item.now.next (under m c.args.pid)) (until_calm m c.args.pid c.args.item.now.line c.in-Until.test c.in-Until.body c.in-Until.again c.args.item.now.next (under m c.args.pid)) c.until.result c.until.ensures.after
 
 pub returns-in-Until-clause-reserved : goal.returns-in-Until-clause-reserved
-returns-in-Until-clause-reserved c = c.until.ensures.reserved c.args.program.now c.requires.taken.own.reserved
+returns-in-Until-clause-reserved c = c.until.ensures.reserved c.args.program.now c.requires.own.reserved
 
 pub returns-in-Block-clause-taken : goal.returns-in-Block-clause-taken
 returns-in-Block-clause-taken c =
@@ -98,13 +69,13 @@ pub returns-in-Block-clause-pending : goal.returns-in-Block-clause-pending
 returns-in-Block-clause-pending c = ap (λ m. m.pending) c.replace.ensures.after
 
 pub returns-in-Block-clause-reserved : goal.returns-in-Block-clause-reserved
-returns-in-Block-clause-reserved c = c.replace.ensures.reserved c.args.program.now c.requires.taken.own.reserved
+returns-in-Block-clause-reserved c = c.replace.ensures.reserved c.args.program.now c.requires.own.reserved
 
 pub returns-in-Cycle-clause-taken : goal.returns-in-Cycle-clause-taken
 returns-in-Cycle-clause-taken c =
     let m = machine_of c.args.state.now in
     let below = under m c.args.pid in
-    λ yes. ap (λ a. act c.args.program.now m c.args.pid c.args.at c.args.item.now a below) c.in-Cycle.is ∙ ap (λ es. local (with_stack m c.args.pid (rest_of c.in-Cycle.list es))) (sym c.requires.taken.top) ∙ ap local (sym c.repeat.ensures.after)
+    λ yes. ap (λ a. act c.args.program.now m c.args.pid c.args.at c.args.item.now a below) c.in-Cycle.is ∙ ap (λ es. local (with_stack m c.args.pid (rest_of c.in-Cycle.list es))) (sym c.requires.top) ∙ ap local (sym c.repeat.ensures.after)
 
 pub returns-in-Cycle-clause-same : goal.returns-in-Cycle-clause-same
 returns-in-Cycle-clause-same c = λ off. absurd (false≢true (sym off))
@@ -113,7 +84,7 @@ pub returns-in-Cycle-clause-pending : goal.returns-in-Cycle-clause-pending
 returns-in-Cycle-clause-pending c = ap (λ m. m.pending) c.repeat.ensures.after
 
 pub returns-in-Cycle-clause-reserved : goal.returns-in-Cycle-clause-reserved
-returns-in-Cycle-clause-reserved c = c.repeat.ensures.reserved c.args.program.now c.requires.taken.own.reserved
+returns-in-Cycle-clause-reserved c = c.repeat.ensures.reserved c.args.program.now c.requires.own.reserved
 
 pub returns-in-Assign-clause-taken : goal.returns-in-Assign-clause-taken
 returns-in-Assign-clause-taken c =
@@ -139,40 +110,20 @@ returns-in-Until-clause-taken c =
     let below = under m c.args.pid in
     λ yes. ap (λ a. act c.args.program.now m c.args.pid c.args.at c.args.item.now a below) c.in-Until.is ∙ c.until.ensures.after ∙ ap (λ o. outcome o (machine_of c.until.new.state) c.args.pid c.args.item.now.line) (c.is_done-in-Until.ensures.yes yes)
 
-pub replace-requires-clause-busy : goal.replace-requires-clause-busy
-replace-requires-clause-busy c = is_busy c.args.state.now c.args.pid (Rest c.args.at) (under (machine_of c.args.state.now) c.args.pid) c.requires.taken.within c.requires.taken.top
+pub assign-requires : goal.assign-requires
+assign-requires c = (c.args.program.now, record { at = c.args.at; taken = c.requires; says = c.in-Assign.is })
 
-pub assign-requires-clause-busy : goal.assign-requires-clause-busy
-assign-requires-clause-busy c = is_busy c.args.state.now c.args.pid (Rest c.args.at) (under (machine_of c.args.state.now) c.args.pid) c.requires.taken.within c.requires.taken.top
+pub branch-state-requires : goal.branch-state-requires
+branch-state-requires c = (c.args.program.now, record { at = c.args.at; taken = c.requires; says = c.in-If.is })
 
-pub branch-state-requires-clause-busy : goal.branch-state-requires-clause-busy
-branch-state-requires-clause-busy c = is_busy c.args.state.now c.args.pid (Rest c.args.at) (under (machine_of c.args.state.now) c.args.pid) c.requires.taken.within c.requires.taken.top
+pub while_do-requires : goal.while_do-requires
+while_do-requires c = (c.args.program.now, record { at = c.args.at; taken = c.requires; says = c.in-While.is })
 
-pub while_do-requires-clause-busy : goal.while_do-requires-clause-busy
-while_do-requires-clause-busy c = is_busy c.args.state.now c.args.pid (Rest c.args.at) (under (machine_of c.args.state.now) c.args.pid) c.requires.taken.within c.requires.taken.top
+pub until-requires : goal.until-requires
+until-requires c = (c.args.program.now, record { at = c.args.at; taken = c.requires; says = c.in-Until.is })
 
-pub until-requires-clause-busy : goal.until-requires-clause-busy
-until-requires-clause-busy c = is_busy c.args.state.now c.args.pid (Rest c.args.at) (under (machine_of c.args.state.now) c.args.pid) c.requires.taken.within c.requires.taken.top
+pub replace-requires : goal.replace-requires
+replace-requires c = item_list c.requires c.in-Block.list (taken_fits c.args.program.now c.args.state.now c.args.pid c.args.at c.args.item.now c.requires (Block c.in-Block.list) c.in-Block.is)
 
-pub replace-requires-clause-pid : goal.replace-requires-clause-pid
-replace-requires-clause-pid c = c.requires.taken.within
-
-pub replace-requires-clause-room : goal.replace-requires-clause-room
-replace-requires-clause-room c =
-    item_room c.args.program.now c.args.state.now c.args.pid c.args.at (under (machine_of c.args.state.now) c.args.pid) c.args.item.now c.requires.taken.within c.requires.taken.own c.requires.taken.top c.requires.taken.same c.in-Block.list (item_taken c.args.program.now c.args.state.now c.args.pid c.args.at (under (machine_of c.args.state.now) c.args.pid) c.args.item.now c.requires.taken.within c.requires.taken.own c.requires.taken.top c.requires.taken.same (Block c.in-Block.list) c.in-Block.is)
-
-pub repeat-requires-clause-pid : goal.repeat-requires-clause-pid
-repeat-requires-clause-pid c = c.requires.taken.within
-
-pub repeat-requires-clause-room : goal.repeat-requires-clause-room
-repeat-requires-clause-room c =
-    item_room c.args.program.now c.args.state.now c.args.pid c.args.at (under (machine_of c.args.state.now) c.args.pid) c.args.item.now c.requires.taken.within c.requires.taken.own c.requires.taken.top c.requires.taken.same c.in-Cycle.list (item_taken c.args.program.now c.args.state.now c.args.pid c.args.at (under (machine_of c.args.state.now) c.args.pid) c.args.item.now c.requires.taken.within c.requires.taken.own c.requires.taken.top c.requires.taken.same (Cycle c.in-Cycle.list) c.in-Cycle.is)
-
-pub assign-requires-clause-pid : goal.assign-requires-clause-pid
-assign-requires-clause-pid c = c.requires.taken.within
-
-pub while_do-requires-clause-pid : goal.while_do-requires-clause-pid
-while_do-requires-clause-pid c = c.requires.taken.within
-
-pub until-requires-clause-pid : goal.until-requires-clause-pid
-until-requires-clause-pid c = c.requires.taken.within
+pub repeat-requires : goal.repeat-requires
+repeat-requires c = item_list c.requires c.in-Cycle.list (taken_fits c.args.program.now c.args.state.now c.args.pid c.args.at c.args.item.now c.requires (Cycle c.in-Cycle.list) c.in-Cycle.is)

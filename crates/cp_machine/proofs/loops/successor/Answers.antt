@@ -45,11 +45,8 @@ returns-in_err-value-clause-after c =
 pub returns-in_err-value-clause-reserved : goal.returns-in_err-value-clause-reserved
 returns-in_err-value-clause-reserved c = λ r h. h
 
-pub go_on-requires-clause-busy : goal.go_on-requires-clause-busy
-go_on-requires-clause-busy c = c.requires.busy
+pub replace-requires : goal.replace-requires
+replace-requires c = record { within = c.requires.replaces.within; busy = c.requires.replaces.busy; room = tt }
 
-pub replace-requires-clause-busy : goal.replace-requires-clause-busy
-replace-requires-clause-busy c = c.requires.busy
-
-pub go_on-requires-clause-name : goal.go_on-requires-clause-name
-go_on-requires-clause-name c = c.requires.name
+pub go_on-requires : goal.go_on-requires
+go_on-requires c = c.requires

@@ -1,12 +1,7 @@
 use Rattle.cp_machine.proofs.CallOutcomes.{while_fails, while_goes}
 use Rattle.cp_machine.proofs.Words.{machine_of, under, fault, local, outcome, is_true, Bool, ap, false, of_z, rules, sym, to_z, true, w16, ◌∙◌, ◌≡◌}
+use Rattle.cp_machine.proofs.PremiseLemmas.{takes_fits, takes_list, takes_reads, takes_replaces, takes_within}
 use Rattle.cp_machine.proofs.loops.while_do.Goals as goal
-
-pub value_of-requires-clause-pid : goal.value_of-requires-clause-pid
-value_of-requires-clause-pid c = c.requires.pid
-
-pub value_of-requires-clause-reads : goal.value_of-requires-clause-reads
-value_of-requires-clause-reads c = c.requires.reads
 
 pub returns-in_err-value-clause-after : goal.returns-in_err-value-clause-after
 returns-in_err-value-clause-after c =
@@ -16,24 +11,6 @@ returns-in_err-value-clause-after c =
 
 pub returns-in_err-value-clause-reserved : goal.returns-in_err-value-clause-reserved
 returns-in_err-value-clause-reserved c = λ r h. h
-
-pub replace_by-requires-clause-pid : goal.replace_by-requires-clause-pid
-replace_by-requires-clause-pid c = c.requires.pid
-
-pub replace_by-requires-clause-busy : goal.replace_by-requires-clause-busy
-replace_by-requires-clause-busy c = c.requires.busy
-
-pub replace_by-requires-clause-room : goal.replace_by-requires-clause-room
-replace_by-requires-clause-room c = c.requires.room
-
-pub replace-requires-clause-pid : goal.replace-requires-clause-pid
-replace-requires-clause-pid c = c.requires.pid
-
-pub replace-requires-clause-busy : goal.replace-requires-clause-busy
-replace-requires-clause-busy c = c.requires.busy
-
-pub replace-requires-clause-room : goal.replace-requires-clause-room
-replace-requires-clause-room c = tt
 
 pub returns-then-is_true-clause-after : goal.returns-then-is_true-clause-after
 returns-then-is_true-clause-after c =
@@ -54,3 +31,12 @@ returns-else-is_true-clause-after c =
 
 pub returns-else-is_true-clause-reserved : goal.returns-else-is_true-clause-reserved
 returns-else-is_true-clause-reserved c = c.replace.ensures.reserved
+
+pub value_of-requires : goal.value_of-requires
+value_of-requires c = record { pid = takes_within c.requires; reads = takes_reads c.requires }
+
+pub replace-requires : goal.replace-requires
+replace-requires c = takes_replaces c.requires
+
+pub replace_by-requires : goal.replace_by-requires
+replace_by-requires c = takes_list c.requires c.args.list (takes_fits c.requires).0

@@ -1,5 +1,4 @@
-use Rattle.cp_machine.proofs.Words.{◌<◌, length, subst, sym, Machine, AreFirstKnown, machine_of}
-use Rattle.cp_machine.proofs.lines.LineLemmas.{thread_known}
+use Rattle.cp_machine.proofs.Words.{◌<◌, length, subst, sym, Machine}
 use Rattle.cp_machine.proofs.queue.continue_from.Goals as goal
 
 pub returns-in-Some-Return-default-default-Some-clause-reserved : goal.returns-in-Some-Return-default-default-Some-clause-reserved
@@ -10,5 +9,5 @@ resume-requires-clause-cell c =
     let P : Machine → Type 0 = λ m. c.args.cell < length m.permanents in
     subst P (sym c.leave.ensures.after) c.requires.cell
 
-pub resume-requires-clause-lines : goal.resume-requires-clause-lines
-resume-requires-clause-lines c = subst AreFirstKnown (sym c.leave.ensures.after) (thread_known (machine_of c.args.state.now) c.args.pid _ c.requires.lines)
+pub top_of-requires : goal.top_of-requires
+top_of-requires c = c.requires.ends.within

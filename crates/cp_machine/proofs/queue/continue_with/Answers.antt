@@ -1,13 +1,7 @@
-use Rattle.cp_machine.proofs.Words.{◌≡◌, ◌∙◌, ap, arith, subst, sym, machine_of}
-use Rattle.cp_machine.proofs.Words.{under, Permanent, HasCells, fault, local, outcome, rules}
+use Rattle.cp_machine.proofs.Words.{◌≡◌, ◌∙◌, ap, arith, subst, sym, machine_of, under, Permanent, HasCells, fault, local, outcome, rules}
 use Rattle.cp_machine.proofs.CallOutcomes.{continue_fails, continue_goes}
+use Rattle.cp_machine.proofs.PremiseLemmas.{item_replaces, takes_reads}
 use Rattle.cp_machine.proofs.queue.continue_with.Goals as goal
-
-pub address_of-requires-clause-pid : goal.address_of-requires-clause-pid
-address_of-requires-clause-pid c = c.requires.pid
-
-pub address_of-requires-clause-reach : goal.address_of-requires-clause-reach
-address_of-requires-clause-reach c = (1, c.requires.reach)
 
 pub returns-in_err-cell-clause-after : goal.returns-in_err-cell-clause-after
 returns-in_err-cell-clause-after c =
@@ -17,15 +11,6 @@ returns-in_err-cell-clause-after c =
 
 pub returns-in_err-cell-clause-reserved : goal.returns-in_err-cell-clause-reserved
 returns-in_err-cell-clause-reserved c = λ r h. h
-
-pub replace-requires-clause-pid : goal.replace-requires-clause-pid
-replace-requires-clause-pid c = c.requires.pid
-
-pub replace-requires-clause-busy : goal.replace-requires-clause-busy
-replace-requires-clause-busy c = c.requires.busy
-
-pub replace-requires-clause-room : goal.replace-requires-clause-room
-replace-requires-clause-room c = tt
 
 pub returns-in-Local-clause-after : goal.returns-in-Local-clause-after
 returns-in-Local-clause-after c =
@@ -38,10 +23,19 @@ returns-in-Local-clause-reserved c = c.replace.ensures.reserved
 pub continue_at-requires-clause-cell : goal.continue_at-requires-clause-cell
 continue_at-requires-clause-cell c =
     let m = machine_of c.args.state.now in
-    let has : HasCells m c.args.pid (Permanent c.in-Permanent.cell) 1 = subst (λ a. HasCells m c.args.pid a 1) c.in-Permanent.is (c.in_ok-cell.ensures.cells 1 c.requires.reach) in
+    let has : HasCells m c.args.pid (Permanent c.in-Permanent.cell) 1 = subst (λ a. HasCells m c.args.pid a 1) c.in-Permanent.is (c.in_ok-cell.ensures.cells 1 (takes_reads (c.args.program.now, c.requires))) in
     omega (arith, has)
 
 pub returns-in-Permanent-clause-after : goal.returns-in-Permanent-clause-after
 returns-in-Permanent-clause-after c =
     let m = machine_of c.args.state.now in
     continue_goes c.args.program.now m c.args.pid c.args.item.now.line c.args.place.now c.args.item.now.next (under m c.args.pid) _ _ (sym c.address_of.ensures.value ∙ c.in_ok-cell.was {u = tt}) c.in-Permanent.is ∙ c.continue_at.ensures.after
+
+pub address_of-requires : goal.address_of-requires
+address_of-requires c = record { pid = c.requires.taken.within; reach = (1, takes_reads (c.args.program.now, c.requires)) }
+
+pub continue_at-requires-clause-taken : goal.continue_at-requires-clause-taken
+continue_at-requires-clause-taken c = (c.requires.at, c.requires.taken)
+
+pub replace-requires : goal.replace-requires
+replace-requires c = item_replaces c.requires.taken

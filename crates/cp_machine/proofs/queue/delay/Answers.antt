@@ -1,18 +1,13 @@
 use Rattle.cp_machine.proofs.Words.{arith, subst, Permanent, machine_of, HasCells, under, rest_of, fault, local, outcome, ap, rules, sym, ◌∙◌, ◌≡◌}
 use Rattle.cp_machine.proofs.CallOutcomes.{delay_fails, delay_goes}
+use Rattle.cp_machine.proofs.PremiseLemmas.{item_replaces, takes_reads}
 use Rattle.cp_machine.proofs.queue.delay.Goals as goal
 
 pub delay_at-requires-clause-cell : goal.delay_at-requires-clause-cell
 delay_at-requires-clause-cell c =
     let m = machine_of c.args.state.now in
-    let has : HasCells m c.args.pid (Permanent c.in-Permanent.cell) 1 = subst (λ a. HasCells m c.args.pid a 1) c.in-Permanent.is (c.in_ok-cell.ensures.cells 1 c.requires.reach) in
+    let has : HasCells m c.args.pid (Permanent c.in-Permanent.cell) 1 = subst (λ a. HasCells m c.args.pid a 1) c.in-Permanent.is (c.in_ok-cell.ensures.cells 1 (takes_reads (c.args.program.now, c.requires))) in
     omega (arith, has)
-
-pub address_of-requires-clause-pid : goal.address_of-requires-clause-pid
-address_of-requires-clause-pid c = c.requires.pid
-
-pub address_of-requires-clause-reach : goal.address_of-requires-clause-reach
-address_of-requires-clause-reach c = (1, c.requires.reach)
 
 pub returns-in_err-cell-clause-after : goal.returns-in_err-cell-clause-after
 returns-in_err-cell-clause-after c =
@@ -22,33 +17,6 @@ returns-in_err-cell-clause-after c =
 
 pub returns-in_err-cell-clause-reserved : goal.returns-in_err-cell-clause-reserved
 returns-in_err-cell-clause-reserved c = λ r h. h
-
-pub delay_at-requires-clause-pid : goal.delay_at-requires-clause-pid
-delay_at-requires-clause-pid c = c.requires.pid
-
-pub delay_at-requires-clause-busy : goal.delay_at-requires-clause-busy
-delay_at-requires-clause-busy c = c.requires.busy
-
-pub delay_at-requires-clause-guards : goal.delay_at-requires-clause-guards
-delay_at-requires-clause-guards c = c.requires.guards
-
-pub delay_at-requires-clause-sound : goal.delay_at-requires-clause-sound
-delay_at-requires-clause-sound c = c.requires.sound
-
-pub delay_at-requires-clause-component : goal.delay_at-requires-clause-component
-delay_at-requires-clause-component c = c.requires.component
-
-pub delay_at-requires-clause-lines : goal.delay_at-requires-clause-lines
-delay_at-requires-clause-lines c = c.requires.lines
-
-pub replace-requires-clause-pid : goal.replace-requires-clause-pid
-replace-requires-clause-pid c = c.requires.pid
-
-pub replace-requires-clause-busy : goal.replace-requires-clause-busy
-replace-requires-clause-busy c = c.requires.busy
-
-pub replace-requires-clause-room : goal.replace-requires-clause-room
-replace-requires-clause-room c = tt
 
 pub returns-in-Permanent-clause-after : goal.returns-in-Permanent-clause-after
 returns-in-Permanent-clause-after c =
@@ -65,3 +33,12 @@ returns-in-Local-clause-after c =
 
 pub returns-in-Local-clause-reserved : goal.returns-in-Local-clause-reserved
 returns-in-Local-clause-reserved c = c.replace.ensures.reserved
+
+pub address_of-requires : goal.address_of-requires
+address_of-requires c = record { pid = c.requires.taken.within; reach = (1, takes_reads (c.args.program.now, c.requires)) }
+
+pub delay_at-requires-clause-taken : goal.delay_at-requires-clause-taken
+delay_at-requires-clause-taken c = (c.requires.at, c.requires.taken)
+
+pub replace-requires : goal.replace-requires
+replace-requires c = item_replaces c.requires.taken

@@ -1,19 +1,11 @@
-use Rattle.cp_machine.proofs.Words.{◌<◌, length, subst, sym, Machine, AreFirstKnown, machine_of, delay_caller, under, rest_of, Stepped, Kernel, is_true, Bool, ap}
+use Rattle.cp_machine.proofs.Words.{◌<◌, length, subst, sym, Machine, machine_of, delay_caller, under, rest_of, Stepped, Kernel, is_true, Bool, ap}
 use Rattle.cp_machine.proofs.Words.{false, of_z, rules, to_z, true, w16, ◌∙◌, ◌≡◌, pos, slice_index_or}
-use Rattle.cp_machine.proofs.lines.LineLemmas.{thread_known}
-use Rattle.cp_machine.proofs.CallOutcomes.{delayed_if, guards_as}
+use Rattle.cp_machine.proofs.CallOutcomes.{delayed_if}
 use Rattle.cp_machine.proofs.Outcomes.{replaced_within}
 use Rattle.cp_machine.specs.declared.event.Kernel.TheVariants.{Delay}
 use Rattle.std.proofs.lemmas.List.{get_or_read}
+use Rattle.cp_machine.proofs.PremiseLemmas.{thread_gate}
 use Rattle.cp_machine.proofs.queue.delay_in.Goals as goal
-
-pub delay-requires-clause-cell : goal.delay-requires-clause-cell
-delay-requires-clause-cell c =
-    let P : Machine → Type 0 = λ m. c.args.cell < length m.permanents in
-    subst P (sym c.replace.ensures.after) c.requires.cell
-
-pub delay-requires-clause-lines : goal.delay-requires-clause-lines
-delay-requires-clause-lines c = subst AreFirstKnown (sym c.replace.ensures.after) (thread_known (machine_of c.args.state.now) c.args.pid _ c.requires.lines)
 
 pub returns-then-is_true-clause-after : goal.returns-then-is_true-clause-after
 returns-then-is_true-clause-after c =
@@ -26,21 +18,6 @@ returns-then-is_true-clause-after c =
 pub returns-then-is_true-clause-reserved : goal.returns-then-is_true-clause-reserved
 returns-then-is_true-clause-reserved c = λ r h. h
 
-pub replace-requires-clause-pid : goal.replace-requires-clause-pid
-replace-requires-clause-pid c = c.requires.pid
-
-pub replace-requires-clause-busy : goal.replace-requires-clause-busy
-replace-requires-clause-busy c = c.requires.busy
-
-pub replace-requires-clause-room : goal.replace-requires-clause-room
-replace-requires-clause-room c = tt
-
-pub delay-requires-clause-pid : goal.delay-requires-clause-pid
-delay-requires-clause-pid c = replaced_within c.args.state.now c.replace.new.state c.args.pid _ c.replace.ensures.after c.requires.pid
-
-pub delay-requires-clause-gate : goal.delay-requires-clause-gate
-delay-requires-clause-gate c = subst (λ n. c.args.monitor < n) (sym (guards_as c.args.state.now c.replace.new.state (ap (λ k. k.monitors) c.replace.ensures.after))) c.requires.monitor
-
 pub returns-clause-after : goal.returns-clause-after
 returns-clause-after c =
     let m = machine_of c.args.state.now in
@@ -52,3 +29,15 @@ returns-clause-after c =
 
 pub returns-clause-reserved : goal.returns-clause-reserved
 returns-clause-reserved c = λ r h. c.delay.ensures.reserved r (c.replace.ensures.reserved r h)
+
+pub delay-requires : goal.delay-requires
+delay-requires c =
+    let s = c.args.state.now in
+    let t = c.replace.new.state in
+    record {
+      enters = record { within = replaced_within s t c.args.pid _ c.replace.ensures.after c.requires.replaces.within; gate = thread_gate s t c.args.pid _ c.args.monitor c.replace.ensures.after c.requires.gate };
+      cell = subst (λ (m : Machine). c.args.cell < length m.permanents) (sym c.replace.ensures.after) c.requires.cell;
+    }
+
+pub replace-requires : goal.replace-requires
+replace-requires c = c.requires.replaces

@@ -1,38 +1,11 @@
-use Rattle.cp_machine.proofs.Words.{◌≡◌, ◌∙◌, Ok, ap, subst, sym, machine_of, arguments_of, component_of, FitsComponent, length, arith, start_by, HasCallRoom, under}
-use Rattle.cp_machine.proofs.Words.{rest_of, fault, outcome, ProcessState, component_at, Err, rules, ◌<◌, slice_index_or, vec_len, bounds_or}
+use Rattle.cp_machine.proofs.Words.{◌≡◌, ◌∙◌, Ok, ap, subst, sym, machine_of, arguments_of, component_of, FitsComponent, arith, start_by, under}
+use Rattle.cp_machine.proofs.Words.{rest_of, fault, outcome, component_at, Err, rules, bounds_or}
 use Rattle.cp_machine.proofs.CallOutcomes.{start_arguments_fail, start_component_fails, start_goes}
+use Rattle.cp_machine.proofs.PremiseLemmas.{start_can, start_most, start_opens, open_kept}
 use Rattle.cp_machine.proofs.start_component.start.Goals as goal
 
 pub returns-clause-reserved : goal.returns-clause-reserved
 returns-clause-reserved c = λ r h. c.start_by.ensures.reserved r (c.arguments_of.ensures.reserved r h)
-
-pub start_by-requires-clause-fit : goal.start_by-requires-clause-fit
-start_by-requires-clause-fit c =
-    let m = machine_of c.args.state.now in
-    let bounds = c.arguments_of.new.state.bounds.items in
-    let found : component_of m c.args.pid c.args.place.now ≡ Ok c.in_ok-component.component = sym c.component_of.ensures ∙ c.in_ok-component.was in
-    let given : arguments_of m c.args.pid c.args.arguments.now ≡ Ok bounds = c.arguments_of.ensures.bounds ∙ ap (λ o. bounds_or o bounds) c.in_ok-arguments_of.was in
-    subst (λ k. FitsComponent c.args.program.now k c.args.pid c.in_ok-component.component c.args.arguments.now bounds) (sym c.arguments_of.ensures.same)
-    (c.requires.reads.fit c.in_ok-component.component bounds found given)
-
-pub start_by-requires-clause-known : goal.start_by-requires-clause-known
-start_by-requires-clause-known c =
-    let found : component_of (machine_of c.args.state.now) c.args.pid c.args.place.now ≡ Ok c.in_ok-component.component = sym c.component_of.ensures ∙ c.in_ok-component.was in
-    let owner = c.requires.reads.component.owner c.in_ok-component.component found in
-    let same : length c.arguments_of.new.state.phases.items ≡ length c.args.state.now.phases.items = ap (λ m. length m.phases) c.arguments_of.ensures.same in
-    omega (arith, owner.0, same, c.requires.phases)
-
-pub start_by-requires-clause-there : goal.start_by-requires-clause-there
-start_by-requires-clause-there c =
-    let found : component_of (machine_of c.args.state.now) c.args.pid c.args.place.now ≡ Ok c.in_ok-component.component = sym c.component_of.ensures ∙ c.in_ok-component.was in
-    let owner = c.requires.reads.component.owner c.in_ok-component.component found in
-    owner.0
-
-pub component_of-requires-clause-pid : goal.component_of-requires-clause-pid
-component_of-requires-clause-pid c = c.requires.pid
-
-pub component_of-requires-clause-finds : goal.component_of-requires-clause-finds
-component_of-requires-clause-finds c = c.requires.reads.component.found
 
 pub returns-in_err-component-clause-after : goal.returns-in_err-component-clause-after
 returns-in_err-component-clause-after c =
@@ -42,15 +15,6 @@ returns-in_err-component-clause-after c =
 
 pub returns-in_err-component-clause-reserved : goal.returns-in_err-component-clause-reserved
 returns-in_err-component-clause-reserved c = λ r h. h
-
-pub arguments_of-requires-clause-pid : goal.arguments_of-requires-clause-pid
-arguments_of-requires-clause-pid c = c.requires.pid
-
-pub arguments_of-requires-clause-reads : goal.arguments_of-requires-clause-reads
-arguments_of-requires-clause-reads c = c.requires.reads.reads
-
-pub arguments_of-requires-clause-room : goal.arguments_of-requires-clause-room
-arguments_of-requires-clause-room c = c.requires.most
 
 pub returns-in_err-arguments_of-clause-after : goal.returns-in_err-arguments_of-clause-after
 returns-in_err-arguments_of-clause-after c =
@@ -64,27 +28,6 @@ returns-in_err-arguments_of-clause-after c =
 pub returns-in_err-arguments_of-clause-reserved : goal.returns-in_err-arguments_of-clause-reserved
 returns-in_err-arguments_of-clause-reserved c = c.arguments_of.ensures.reserved
 
-pub start_by-requires-clause-pid : goal.start_by-requires-clause-pid
-start_by-requires-clause-pid c = subst (λ p. c.args.pid < length p.items) (sym c.arguments_of.ensures.processes) c.requires.pid
-
-pub start_by-requires-clause-busy : goal.start_by-requires-clause-busy
-start_by-requires-clause-busy c = subst (λ p. (d : ProcessState) → 0 < vec_len (slice_index_or p.items c.args.pid d).stack) (sym c.arguments_of.ensures.processes) c.requires.busy
-
-pub start_by-requires-clause-count : goal.start_by-requires-clause-count
-start_by-requires-clause-count c = c.in_ok-arguments_of.ensures.count
-
-pub start_by-requires-clause-routine : goal.start_by-requires-clause-routine
-start_by-requires-clause-routine c = c.requires.routine
-
-pub start_by-requires-clause-room : goal.start_by-requires-clause-room
-start_by-requires-clause-room c = subst (λ p. HasCallRoom c.args.program.now p.items c.args.pid c.args.routine) (sym c.arguments_of.ensures.processes) c.requires.room
-
-pub start_by-requires-clause-threads : goal.start_by-requires-clause-threads
-start_by-requires-clause-threads c = ap (λ p. length p.items) c.arguments_of.ensures.processes ∙ c.requires.threads
-
-pub start_by-requires-clause-sound : goal.start_by-requires-clause-sound
-start_by-requires-clause-sound c = c.requires.sound
-
 pub returns-clause-after : goal.returns-clause-after
 returns-clause-after c =
     let m = machine_of c.args.state.now in
@@ -92,3 +35,26 @@ returns-clause-after c =
     let found : component_of m c.args.pid c.args.place.now ≡ Ok c.in_ok-component.component = sym c.component_of.ensures ∙ c.in_ok-component.was in
     let given : arguments_of m c.args.pid c.args.arguments.now ≡ Ok bounds = c.arguments_of.ensures.bounds ∙ ap (λ o. bounds_or o bounds) c.in_ok-arguments_of.was in
     start_goes c.args.program.now m c.args.pid c.args.item.now.line c.args.place.now c.args.routine c.args.arguments.now (rest_of c.args.item.now.next (under m c.args.pid)) c.in_ok-component.component bounds found given ∙ ap (λ k. start_by c.args.program.now k c.args.pid c.args.item.now.line (component_at c.args.program.now c.in_ok-component.component).kind c.args.routine c.in_ok-component.component c.args.arguments.now bounds (rest_of c.args.item.now.next (under k c.args.pid))) (sym c.arguments_of.ensures.same) ∙ c.start_by.ensures.after
+
+pub component_of-requires : goal.component_of-requires
+component_of-requires c = record { pid = c.requires.2.taken.within; finds = (start_can c.requires).component.found }
+
+pub arguments_of-requires : goal.arguments_of-requires
+arguments_of-requires c = record { pid = c.requires.2.taken.within; reads = (start_can c.requires).reads; room = omega (arith, start_most c.requires, c.requires.2.taken.own.reserved.bounds) }
+
+pub start_by-requires : goal.start_by-requires
+start_by-requires c =
+    let r = c.args.program.now in
+    let s = c.args.state.now in
+    let m = machine_of s in
+    let component = c.in_ok-component.component in
+    let bounds = c.arguments_of.new.state.bounds.items in
+    let found : component_of m c.args.pid c.args.place.now ≡ Ok component = sym c.component_of.ensures ∙ c.in_ok-component.was in
+    let given : arguments_of m c.args.pid c.args.arguments.now ≡ Ok bounds = c.arguments_of.ensures.bounds ∙ ap (λ o. bounds_or o bounds) c.in_ok-arguments_of.was in
+    let can = start_can c.requires in
+    let there = (can.component.owner component found).0 in
+    record {
+      opens = open_kept r s c.arguments_of.new.state c.args.pid c.args.routine component c.arguments_of.ensures.same c.arguments_of.ensures.processes (start_opens c.requires component there);
+      count = c.in_ok-arguments_of.ensures.count;
+      fit = subst (λ k. FitsComponent r k c.args.pid component c.args.arguments.now bounds) (sym c.arguments_of.ensures.same) (can.fit component bounds found given);
+    }

@@ -1,72 +1,10 @@
-use Rattle.cp_machine.proofs.Words.{start_by, machine_of, under, rest_of, component_at, ap, sym, ◌∙◌, ◌≡◌}
+use Rattle.cp_machine.proofs.Words.{start_by, machine_of, under, rest_of, component_at, ap, sym, ◌∙◌, ◌≡◌, subst}
 use Rattle.cp_slots.specs.declared.tables.ComponentKind.TheVariants as kind
+use Rattle.cp_machine.specs.Premises.{HasPartyOf}
 use Rattle.cp_machine.proofs.start_component.start_by.Goals as goal
 
 pub component-requires : goal.component-requires
-component-requires c = c.requires.there
-
-pub start_process-requires-clause-pid : goal.start_process-requires-clause-pid
-start_process-requires-clause-pid c = c.requires.pid
-
-pub start_process-requires-clause-busy : goal.start_process-requires-clause-busy
-start_process-requires-clause-busy c = c.requires.busy
-
-pub start_process-requires-clause-count : goal.start_process-requires-clause-count
-start_process-requires-clause-count c = c.requires.count
-
-pub start_process-requires-clause-fit : goal.start_process-requires-clause-fit
-start_process-requires-clause-fit c = c.requires.fit
-
-pub start_process-requires-clause-there : goal.start_process-requires-clause-there
-start_process-requires-clause-there c = c.requires.there
-
-pub start_inside-requires-clause-pid : goal.start_inside-requires-clause-pid
-start_inside-requires-clause-pid c = c.requires.pid
-
-pub start_inside-requires-clause-busy : goal.start_inside-requires-clause-busy
-start_inside-requires-clause-busy c = c.requires.busy
-
-pub start_inside-requires-clause-known : goal.start_inside-requires-clause-known
-start_inside-requires-clause-known c = c.requires.known
-
-pub start_inside-requires-clause-count : goal.start_inside-requires-clause-count
-start_inside-requires-clause-count c = c.requires.count
-
-pub start_inside-requires-clause-fit : goal.start_inside-requires-clause-fit
-start_inside-requires-clause-fit c = c.requires.fit
-
-pub start_inside-requires-clause-routine : goal.start_inside-requires-clause-routine
-start_inside-requires-clause-routine c = c.requires.routine
-
-pub start_inside-requires-clause-room : goal.start_inside-requires-clause-room
-start_inside-requires-clause-room c = c.requires.room
-
-pub start_inside-requires-clause-there : goal.start_inside-requires-clause-there
-start_inside-requires-clause-there c = c.requires.there
-
-pub start_inside-requires-in-Class-clause-pid : goal.start_inside-requires-in-Class-clause-pid
-start_inside-requires-in-Class-clause-pid c = c.requires.pid
-
-pub start_inside-requires-in-Class-clause-busy : goal.start_inside-requires-in-Class-clause-busy
-start_inside-requires-in-Class-clause-busy c = c.requires.busy
-
-pub start_inside-requires-in-Class-clause-known : goal.start_inside-requires-in-Class-clause-known
-start_inside-requires-in-Class-clause-known c = c.requires.known
-
-pub start_inside-requires-in-Class-clause-count : goal.start_inside-requires-in-Class-clause-count
-start_inside-requires-in-Class-clause-count c = c.requires.count
-
-pub start_inside-requires-in-Class-clause-fit : goal.start_inside-requires-in-Class-clause-fit
-start_inside-requires-in-Class-clause-fit c = c.requires.fit
-
-pub start_inside-requires-in-Class-clause-routine : goal.start_inside-requires-in-Class-clause-routine
-start_inside-requires-in-Class-clause-routine c = c.requires.routine
-
-pub start_inside-requires-in-Class-clause-room : goal.start_inside-requires-in-Class-clause-room
-start_inside-requires-in-Class-clause-room c = c.requires.room
-
-pub start_inside-requires-in-Class-clause-there : goal.start_inside-requires-in-Class-clause-there
-start_inside-requires-in-Class-clause-there c = c.requires.there
+component-requires c = c.requires.opens.there
 
 pub returns-in-Process-clause-after : goal.returns-in-Process-clause-after
 returns-in-Process-clause-after c =
@@ -94,3 +32,14 @@ returns-in-Class-clause-after c =
 
 pub returns-in-Class-clause-reserved : goal.returns-in-Class-clause-reserved
 returns-in-Class-clause-reserved c = c.start_inside-in-Class.ensures.reserved
+
+pub start_inside-requires : goal.start_inside-requires
+start_inside-requires c = c.requires
+
+pub start_inside-requires-in-Class : goal.start_inside-requires-in-Class
+start_inside-requires-in-Class c = c.requires
+
+pub start_process-requires : goal.start_process-requires
+start_process-requires c =
+    let is : (component_at c.args.program.now c.args.component).kind ≡ (kind.Process c.in-Process.number) = ap (λ x. x.kind) (sym c.component.ensures.value) ∙ c.in-Process.is in
+    record { starts = (c.args.routine, c.requires); process = subst (HasPartyOf c.args.state.now) is c.requires.opens.party }

@@ -12,15 +12,15 @@ bind_parameters-requires-clause-fit c =
     let n = machine_of c.open.new.state in
     subst (λ k. AllFitComponent (memory_at n c.args.pid) n.bindings k.base c.args.arguments.now c.open.new.state.bounds.items) (sym c.component-base.ensures.value)
     (subst (λ bounds. FitsComponent c.args.program.now n c.args.pid c.args.component c.args.arguments.now bounds.items) (sym c.open.ensures.bounds)
-    (begun_fits c.args.program.now c.args.state.now n c.args.pid c.args.routine c.args.component _ _ c.args.arguments.now c.args.state.now.bounds.items c.requires.pid c.open.ensures.after c.requires.fit))
+    (begun_fits c.args.program.now c.args.state.now n c.args.pid c.args.routine c.args.component _ _ c.args.arguments.now c.args.state.now.bounds.items c.requires.opens.replaces.within c.open.ensures.after c.requires.fit))
 
 pub set_phase-requires : goal.set_phase-requires
 set_phase-requires c =
     let P : Machine → Type 0 = λ m. c.args.component < length m.phases in
-    record { known = subst P (sym c.bind_parameters.ensures.after) (subst P (sym c.open.ensures.after) c.requires.known) }
+    record { known = subst P (sym c.bind_parameters.ensures.after) (subst P (sym c.open.ensures.after) c.requires.opens.known) }
 
 pub phase_of-requires : goal.phase_of-requires
-phase_of-requires c = c.requires.known
+phase_of-requires c = c.requires.opens.known
 
 pub returns-then-ne-clause-after : goal.returns-then-ne-clause-after
 returns-then-ne-clause-after c =
@@ -32,28 +32,13 @@ pub returns-then-ne-clause-reserved : goal.returns-then-ne-clause-reserved
 returns-then-ne-clause-reserved c = λ r h. h
 
 pub frame_of-requires : goal.frame_of-requires
-frame_of-requires c = c.requires.pid
-
-pub open-requires-clause-pid : goal.open-requires-clause-pid
-open-requires-clause-pid c = c.requires.pid
-
-pub open-requires-clause-busy : goal.open-requires-clause-busy
-open-requires-clause-busy c = c.requires.busy
-
-pub open-requires-clause-routine : goal.open-requires-clause-routine
-open-requires-clause-routine c = c.requires.routine
-
-pub open-requires-clause-room : goal.open-requires-clause-room
-open-requires-clause-room c = c.requires.room
-
-pub open-requires-clause-there : goal.open-requires-clause-there
-open-requires-clause-there c = c.requires.there
+frame_of-requires c = c.requires.opens.replaces.within
 
 pub component-base-requires : goal.component-base-requires
-component-base-requires c = c.requires.there
+component-base-requires c = c.requires.opens.there
 
 pub bind_parameters-requires-clause-pid : goal.bind_parameters-requires-clause-pid
-bind_parameters-requires-clause-pid c = set_within c.args.state.now c.open.new.state c.args.pid c.args.pid _ (ap (λ k. k.threads) c.open.ensures.after) c.requires.pid
+bind_parameters-requires-clause-pid c = set_within c.args.state.now c.open.new.state c.args.pid c.args.pid _ (ap (λ k. k.threads) c.open.ensures.after) c.requires.opens.replaces.within
 
 pub bind_parameters-requires-clause-count : goal.bind_parameters-requires-clause-count
 bind_parameters-requires-clause-count c = ap (λ b. length b.items) c.open.ensures.bounds ∙ c.requires.count
@@ -71,3 +56,6 @@ returns-clause-after c =
     let test : is_uninitialised (phase_at m c.args.component) ≡ true = ap is_uninitialised (sym c.phase_of.ensures) ∙ sym (uninitialised_is c.phase_of.result) ∙ not_false _ (sym c.ne.ensures ∙ c.if-ne.false) in
     let bound = c.bind_parameters.ensures.after ∙ ap (λ n. parameters_bound n c.args.pid base given bounds) c.open.ensures.after ∙ ap (λ f. parameters_bound (opening f) c.args.pid base given bounds) c.frame_of.ensures ∙ ap (λ k. parameters_bound (opening frame) c.args.pid k.base given bounds) c.component-base.ensures.value ∙ ap (λ b. parameters_bound (opening frame) c.args.pid (component_at r c.args.component).base given b.items) c.open.ensures.bounds in
     begins_if c.args.program.now m c.args.pid c.args.item.now.line c.args.routine c.args.component c.args.arguments.now c.args.state.now.bounds.items (rest_of c.args.item.now.next (under m c.args.pid)) true test ∙ ap local (sym (c.set_phase.ensures.after ∙ ap begun bound))
+
+pub open-requires : goal.open-requires
+open-requires c = c.requires.opens

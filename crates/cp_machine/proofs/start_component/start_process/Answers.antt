@@ -11,7 +11,7 @@ bind_parameters-requires-clause-fit c =
     let n = machine_of c.replace.new.state in
     subst (λ k. AllFitComponent (memory_at n c.args.pid) n.bindings k.base c.args.arguments.now c.replace.new.state.bounds.items) (sym c.component-base.ensures.value)
     (subst (λ bounds. FitsComponent c.args.program.now n c.args.pid c.args.component c.args.arguments.now bounds.items) (sym c.replace.ensures.bounds)
-    (replaced_fits c.args.program.now c.args.state.now n c.args.pid c.args.component _ c.args.arguments.now c.args.state.now.bounds.items c.requires.pid c.replace.ensures.after c.requires.fit))
+    (replaced_fits c.args.program.now c.args.state.now n c.args.pid c.args.component _ c.args.arguments.now c.args.state.now.bounds.items c.requires.starts.1.opens.replaces.within c.replace.ensures.after c.requires.starts.1.fit))
 
 pub status_of-requires : goal.status_of-requires
 status_of-requires c = c.requires.process
@@ -20,22 +20,16 @@ pub returns-then-ne-clause-reserved : goal.returns-then-ne-clause-reserved
 returns-then-ne-clause-reserved c = λ r h. h
 
 pub component-base-requires : goal.component-base-requires
-component-base-requires c = c.requires.there
-
-pub replace-requires-clause-pid : goal.replace-requires-clause-pid
-replace-requires-clause-pid c = c.requires.pid
-
-pub replace-requires-clause-busy : goal.replace-requires-clause-busy
-replace-requires-clause-busy c = c.requires.busy
-
-pub replace-requires-clause-room : goal.replace-requires-clause-room
-replace-requires-clause-room c = tt
+component-base-requires c = c.requires.starts.1.opens.there
 
 pub bind_parameters-requires-clause-pid : goal.bind_parameters-requires-clause-pid
-bind_parameters-requires-clause-pid c = set_within c.args.state.now c.replace.new.state c.args.pid c.args.pid _ (ap (λ k. k.threads) c.replace.ensures.after) c.requires.pid
+bind_parameters-requires-clause-pid c = set_within c.args.state.now c.replace.new.state c.args.pid c.args.pid _ (ap (λ k. k.threads) c.replace.ensures.after) c.requires.starts.1.opens.replaces.within
 
 pub bind_parameters-requires-clause-count : goal.bind_parameters-requires-clause-count
-bind_parameters-requires-clause-count c = ap (λ b. length b.items) c.replace.ensures.bounds ∙ c.requires.count
+bind_parameters-requires-clause-count c = ap (λ b. length b.items) c.replace.ensures.bounds ∙ c.requires.starts.1.count
 
 pub set_status-requires : goal.set_status-requires
 set_status-requires c = record { pid = set_within c.replace.new.state c.bind_parameters.new.state c.args.pid c.args.number _ (ap (λ k. k.threads) c.bind_parameters.ensures.after) (set_within c.args.state.now c.replace.new.state c.args.pid c.args.number _ (ap (λ k. k.threads) c.replace.ensures.after) c.requires.process) }
+
+pub replace-requires : goal.replace-requires
+replace-requires c = c.requires.starts.1.opens.replaces

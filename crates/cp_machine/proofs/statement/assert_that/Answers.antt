@@ -1,12 +1,7 @@
 use Rattle.cp_machine.proofs.CallOutcomes.{assert_fails, assert_goes}
 use Rattle.cp_machine.proofs.Words.{machine_of, under, rest_of, fault, local, outcome, is_true, Bool, ap, false, of_z, rules, sym, to_z, true, w16, ◌∙◌, ◌≡◌}
+use Rattle.cp_machine.proofs.PremiseLemmas.{takes_reads, takes_replaces, takes_within}
 use Rattle.cp_machine.proofs.statement.assert_that.Goals as goal
-
-pub value_of-requires-clause-pid : goal.value_of-requires-clause-pid
-value_of-requires-clause-pid c = c.requires.pid
-
-pub value_of-requires-clause-reads : goal.value_of-requires-clause-reads
-value_of-requires-clause-reads c = c.requires.reads
 
 pub returns-in_err-value-clause-after : goal.returns-in_err-value-clause-after
 returns-in_err-value-clause-after c =
@@ -27,15 +22,6 @@ returns-then-not-is_true-clause-after c =
 pub returns-then-not-is_true-clause-reserved : goal.returns-then-not-is_true-clause-reserved
 returns-then-not-is_true-clause-reserved c = λ r h. h
 
-pub replace-requires-clause-pid : goal.replace-requires-clause-pid
-replace-requires-clause-pid c = c.requires.pid
-
-pub replace-requires-clause-busy : goal.replace-requires-clause-busy
-replace-requires-clause-busy c = c.requires.busy
-
-pub replace-requires-clause-room : goal.replace-requires-clause-room
-replace-requires-clause-room c = tt
-
 pub returns-clause-after : goal.returns-clause-after
 returns-clause-after c =
     let m = machine_of c.args.state.now in
@@ -45,3 +31,9 @@ returns-clause-after c =
 
 pub returns-clause-reserved : goal.returns-clause-reserved
 returns-clause-reserved c = c.replace.ensures.reserved
+
+pub value_of-requires : goal.value_of-requires
+value_of-requires c = record { pid = takes_within c.requires; reads = takes_reads c.requires }
+
+pub replace-requires : goal.replace-requires
+replace-requires c = takes_replaces c.requires

@@ -1,6 +1,6 @@
-use Rattle.cp_machine.proofs.Words.{◌≡◌, ◌∙◌, Err, Ok, Result, ap, of_z, rules, sym, to_z, w16, ℤ, ErrorName, check_range, machine_of, under, with_stack}
-use Rattle.cp_machine.proofs.Words.{number_put, rest_of, fault, local, outcome}
+use Rattle.cp_machine.proofs.Words.{◌≡◌, ◌∙◌, Err, Ok, Result, ap, of_z, rules, sym, to_z, w16, ℤ, ErrorName, check_range, machine_of, under, with_stack, number_put, rest_of, fault, local, outcome}
 use Rattle.cp_machine.proofs.Outcomes.{assign_done, assign_left_fails, assign_range_fails, assign_right_fails, replaced_has, replaced_within}
+use Rattle.cp_machine.proofs.PremiseLemmas.{takes_reads, takes_replaces, takes_within}
 use Rattle.cp_machine.proofs.statement.assign.Goals as goal
 
 pub returns-clause-reserved : goal.returns-clause-reserved
@@ -53,10 +53,16 @@ pub returns-in_err-value-clause-reserved : goal.returns-in_err-value-clause-rese
 returns-in_err-value-clause-reserved c = λ r h. h
 
 pub put_number-requires-clause-pid : goal.put_number-requires-clause-pid
-put_number-requires-clause-pid c = replaced_within c.args.state.now c.replace.new.state c.args.pid _ c.replace.ensures.after c.requires.pid
+put_number-requires-clause-pid c = replaced_within c.args.state.now c.replace.new.state c.args.pid _ c.replace.ensures.after (takes_within c.requires)
 
 pub put_number-requires-clause-cells : goal.put_number-requires-clause-cells
-put_number-requires-clause-cells c = replaced_has c.args.state.now c.replace.new.state c.args.pid _ c.in_ok-left.left 1 c.replace.ensures.after c.requires.pid (c.in_ok-left.ensures.cells 1 c.requires.reach)
+put_number-requires-clause-cells c = replaced_has c.args.state.now c.replace.new.state c.args.pid _ c.in_ok-left.left 1 c.replace.ensures.after (takes_within c.requires) (c.in_ok-left.ensures.cells 1 (takes_reads c.requires).1)
 
-pub replace-requires-clause-busy : goal.replace-requires-clause-busy
-replace-requires-clause-busy c = c.requires.busy
+pub value_here-requires : goal.value_here-requires
+value_here-requires c = record { pid = takes_within c.requires; reads = (takes_reads c.requires).0 }
+
+pub address_of-requires : goal.address_of-requires
+address_of-requires c = record { pid = takes_within c.requires; reach = (1, (takes_reads c.requires).1) }
+
+pub replace-requires : goal.replace-requires
+replace-requires c = takes_replaces c.requires

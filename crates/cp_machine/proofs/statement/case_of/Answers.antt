@@ -1,17 +1,10 @@
-use Rattle.cp_machine.proofs.Words.{◌∙◌, HasRoom, machine_of, under, rest_of, arm_for, fault, local, outcome, ErrorName, ℕ, Err, Ok, Option, Result, ap, of_z}
-use Rattle.cp_machine.proofs.Words.{rules, sym, to_z, w16, ◌≡◌}
+use Rattle.cp_machine.proofs.Words.{◌∙◌, machine_of, under, rest_of, arm_for, fault, local, outcome, ErrorName, ℕ, Err, Ok, Option, Result, ap, of_z, rules, sym, to_z, w16, ◌≡◌, Case, Tables}
 use Rattle.cp_machine.proofs.rooms.KeepingSteps.{arm_is}
 use Rattle.cp_machine.proofs.CallOutcomes.{case_arm, case_fails, case_no_arm}
+use Rattle.cp_machine.proofs.Words.{◌<◌, length, subst, slice_index_or, ResolvedArm}
+use Rattle.cp_machine.specs.Premises.{CanReplace, Takes}
+use Rattle.cp_machine.proofs.PremiseLemmas.{takes_fits, takes_list, takes_reads}
 use Rattle.cp_machine.proofs.statement.case_of.Goals as goal
-
-pub replace-requires-clause-room : goal.replace-requires-clause-room
-replace-requires-clause-room c = arm_is (HasRoom c.args.state.now c.args.pid) _ c.args.arms.now c.requires.room c.in_ok-list.list (c.arm_for.ensures ∙ c.in_ok-list.was)
-
-pub value_of-requires-clause-pid : goal.value_of-requires-clause-pid
-value_of-requires-clause-pid c = c.requires.pid
-
-pub value_of-requires-clause-reads : goal.value_of-requires-clause-reads
-value_of-requires-clause-reads c = c.requires.reads
 
 pub returns-in_err-value-clause-after : goal.returns-in_err-value-clause-after
 returns-in_err-value-clause-after c =
@@ -33,12 +26,6 @@ returns-in_err-list-clause-after c =
 pub returns-in_err-list-clause-reserved : goal.returns-in_err-list-clause-reserved
 returns-in_err-list-clause-reserved c = λ r h. h
 
-pub replace-requires-clause-pid : goal.replace-requires-clause-pid
-replace-requires-clause-pid c = c.requires.pid
-
-pub replace-requires-clause-busy : goal.replace-requires-clause-busy
-replace-requires-clause-busy c = c.requires.busy
-
 pub returns-clause-after : goal.returns-clause-after
 returns-clause-after c =
     let m = machine_of c.args.state.now in
@@ -48,3 +35,13 @@ returns-clause-after c =
 
 pub returns-clause-reserved : goal.returns-clause-reserved
 returns-clause-reserved c = c.replace.ensures.reserved
+
+pub value_of-requires : goal.value_of-requires
+value_of-requires c = record { pid = c.requires.1.2.taken.within; reads = takes_reads (c.requires.0, c.requires.1.2) }
+
+pub replace-requires : goal.replace-requires
+replace-requires c =
+    let t : (r : Tables) × Takes r c.args.state.now c.args.pid c.args.item.now (Case c.args.selector.now c.requires.1.0) = (c.requires.0, c.requires.1.2) in
+    let Goes : Option ℕ → Type 0 = CanReplace c.args.state.now c.args.pid in
+    let each : (k : ℕ) (d : ResolvedArm) → k < length c.args.arms.now → Goes (slice_index_or c.args.arms.now k d).body = subst (λ arms. (k : ℕ) (d : ResolvedArm) → k < length arms → Goes (slice_index_or arms k d).body) (sym c.requires.1.1) (λ k d lt. takes_list t (slice_index_or c.requires.1.0.items k d).body (takes_fits t k d lt)) in
+    arm_is Goes _ c.args.arms.now each c.in_ok-list.list (c.arm_for.ensures ∙ c.in_ok-list.was)

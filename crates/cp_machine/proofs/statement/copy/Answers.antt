@@ -1,5 +1,6 @@
 use Rattle.cp_machine.proofs.Words.{◌≡◌, ◌∙◌, ap, rules, sym, machine_of, under, with_stack, cells_put, rest_of, fault, local, outcome}
 use Rattle.cp_machine.proofs.Outcomes.{copy_done, copy_from_fails, copy_to_fails, replaced_has, replaced_within}
+use Rattle.cp_machine.proofs.PremiseLemmas.{takes_reads, takes_replaces, takes_within}
 use Rattle.cp_machine.proofs.statement.copy.Goals as goal
 
 pub returns-clause-after : goal.returns-clause-after
@@ -33,10 +34,19 @@ pub returns-in_err-to-clause-reserved : goal.returns-in_err-to-clause-reserved
 returns-in_err-to-clause-reserved c = λ r h. h
 
 pub put_cells-requires-clause-pid : goal.put_cells-requires-clause-pid
-put_cells-requires-clause-pid c = replaced_within c.args.state.now c.replace.new.state c.args.pid _ c.replace.ensures.after c.requires.pid
+put_cells-requires-clause-pid c = replaced_within c.args.state.now c.replace.new.state c.args.pid _ c.replace.ensures.after (takes_within c.requires)
 
 pub put_cells-requires-clause-to : goal.put_cells-requires-clause-to
-put_cells-requires-clause-to c = replaced_has c.args.state.now c.replace.new.state c.args.pid _ c.in_ok-to.to c.args.size c.replace.ensures.after c.requires.pid (c.in_ok-to.ensures.cells c.args.size c.requires.reach)
+put_cells-requires-clause-to c = replaced_has c.args.state.now c.replace.new.state c.args.pid _ c.in_ok-to.to c.args.size c.replace.ensures.after (takes_within c.requires) (c.in_ok-to.ensures.cells c.args.size (takes_reads c.requires).1)
 
 pub put_cells-requires-clause-from : goal.put_cells-requires-clause-from
-put_cells-requires-clause-from c = replaced_has c.args.state.now c.replace.new.state c.args.pid _ c.in_ok-from.from c.args.size c.replace.ensures.after c.requires.pid (c.in_ok-from.ensures.cells c.args.size c.requires.from)
+put_cells-requires-clause-from c = replaced_has c.args.state.now c.replace.new.state c.args.pid _ c.in_ok-from.from c.args.size c.replace.ensures.after (takes_within c.requires) (c.in_ok-from.ensures.cells c.args.size (takes_reads c.requires).0)
+
+pub address_of-requires : goal.address_of-requires
+address_of-requires c = record { pid = takes_within c.requires; reach = (c.args.size, (takes_reads c.requires).0) }
+
+pub address_of-requires-2 : goal.address_of-requires-2
+address_of-requires-2 c = record { pid = takes_within c.requires; reach = (c.args.size, (takes_reads c.requires).1) }
+
+pub replace-requires : goal.replace-requires
+replace-requires c = takes_replaces c.requires

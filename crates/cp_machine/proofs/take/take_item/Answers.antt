@@ -1,11 +1,5 @@
-use Rattle.cp_machine.proofs.Words.{machine_of, under, Stepped, outcome, act, Event, ap, sym, ◌∙◌}
+use Rattle.cp_machine.proofs.Words.{machine_of, under, Stepped, outcome, act, Event, ap, sym, ◌∙◌, IsTaken, subst}
 use Rattle.cp_machine.proofs.take.take_item.Goals as goal
-
-pub perform-requires-clause-taken : goal.perform-requires-clause-taken
-perform-requires-clause-taken c = record { own = c.requires.own; within = c.requires.pid; ready = c.requires.ready; same = c.item-item.ensures.value; top = c.requires.top }
-
-pub perform-requires-clause-line : goal.perform-requires-clause-line
-perform-requires-clause-line c = c.requires.line
 
 pub returns-in-Ok-clause-after : goal.returns-in-Ok-clause-after
 returns-in-Ok-clause-after c =
@@ -25,3 +19,6 @@ returns-in-Err-clause-after c =
 
 pub returns-in-Err-clause-reserved : goal.returns-in-Err-clause-reserved
 returns-in-Err-clause-reserved c = c.perform.ensures.reserved
+
+pub perform-requires : goal.perform-requires
+perform-requires c = subst (IsTaken c.args.program.now c.args.state.now c.args.pid c.args.at) (sym c.item-item.ensures.value) c.requires

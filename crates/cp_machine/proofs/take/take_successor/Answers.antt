@@ -7,20 +7,6 @@ returns-in-Ok-clause-reserved c = c.perform_successor.ensures.reserved _ c.requi
 pub returns-in-Err-clause-reserved : goal.returns-in-Err-clause-reserved
 returns-in-Err-clause-reserved c = c.perform_successor.ensures.reserved _ c.requires.own.reserved
 
-pub perform_successor-requires-clause-own : goal.perform_successor-requires-clause-own
-perform_successor-requires-clause-own c = (c.args.program.now, c.requires.own, c.item-item.ensures.value)
-
-pub perform_successor-requires-clause-pid : goal.perform_successor-requires-clause-pid
-perform_successor-requires-clause-pid c = c.requires.pid
-
-pub perform_successor-requires-clause-top : goal.perform_successor-requires-clause-top
-perform_successor-requires-clause-top c =
-    let m = machine_of c.args.state.now in
-    let value_is : to_z w16 (of_z w16 c.args.value) ≡ c.args.value = search rules in
-    let last_is : to_z w16 (of_z w16 c.args.last) ≡ c.args.last = search rules in
-    let es = under m c.args.pid in
-    c.requires.top ∙ ap (λ v. Successor c.args.at v c.args.last ∷ es) (sym value_is) ∙ ap (λ v. Successor c.args.at (to_z w16 (of_z w16 c.args.value)) v ∷ es) (sym last_is)
-
 pub returns-in-Ok-clause-after : goal.returns-in-Ok-clause-after
 returns-in-Ok-clause-after c =
     let m = machine_of c.args.state.now in
@@ -39,3 +25,12 @@ returns-in-Err-clause-after c =
     let last_is : to_z w16 (of_z w16 c.args.last) ≡ c.args.last = search rules in
     let told : Event → Stepped = λ e. record { machine = n; event = e } in
     ap (λ i. successor_step m c.args.pid c.args.at i i.action es c.args.value c.args.last) (sym c.item-item.ensures.value) ∙ ap (λ v. successor_step m c.args.pid c.args.at c.item-item.result.now c.item-item.result.now.action es v c.args.last) (sym value_is) ∙ ap (λ v. successor_step m c.args.pid c.args.at c.item-item.result.now c.item-item.result.now.action es (to_z w16 (of_z w16 c.args.value)) v) (sym last_is) ∙ c.perform_successor.ensures.after ∙ ap (λ o. outcome o n c.args.pid c.item-item.result.now.line) c.in-Err.is ∙ ap told (sym c.fault_event.ensures)
+
+pub perform_successor-requires : goal.perform_successor-requires
+perform_successor-requires c =
+    let m = machine_of c.args.state.now in
+    let value_is : to_z w16 (of_z w16 c.args.value) ≡ c.args.value = search rules in
+    let last_is : to_z w16 (of_z w16 c.args.last) ≡ c.args.last = search rules in
+    let es = under m c.args.pid in
+    let top = c.requires.top ∙ ap (λ v. Successor c.args.at v c.args.last ∷ es) (sym value_is) ∙ ap (λ v. Successor c.args.at (to_z w16 (of_z w16 c.args.value)) v ∷ es) (sym last_is) in
+    (c.args.program.now, record { own = c.requires.own; within = c.requires.within; same = c.item-item.ensures.value; top = top })
