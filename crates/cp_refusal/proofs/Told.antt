@@ -3,6 +3,8 @@ use Rattle.std.proofs.Common.{◌≡◌, ◌∙◌, ℕ, List, ◌++◌, Result,
 use denote.Enum.Bare.{sameb}
 use Rattle.std.specs.Prelude.{IfOk, MatchOption, drop}
 use Rattle.cp_text.specs.Faults.{fault_at}
+use Rattle.cp_text.specs.Spots.{spot_of}
+use Rattle.cp_text.specs.declared.token.Spot.{Spot}
 use Rattle.cp_text.specs.Reading.{HasFault}
 use Rattle.cp_text.specs.contracts.fault.ScanCause.{the_type}
 use Rattle.cp_text.specs.declared.fault.ScanCause.{ScanCause}
@@ -58,19 +60,19 @@ code_of rule.C22 = refl
 
 -- ---- a fault of the scanner
 
-scan_with : (source : List ℕ) (line : ℕ) (c : ScanCause) (r : ExplainedRefusal) → false ≡ sameb the_type c cause.Memory → r.kind.now ≡ codes "scan" → (HasFault source (fault_at line c) → IsPlaceIn source line r.span) → IsToldOf source (Scan (fault_at line c)) (Refused r)
-scan_with source line cause.TooLong r other kind place = (refusal line (codes "scan: too long"), refl, λ is. agrees source (codes "scan") (codes "scan: too long") (codes "too long") line r kind refl (place is))
-scan_with source line cause.BadByte r other kind place = (refusal line (codes "scan: bad byte"), refl, λ is. agrees source (codes "scan") (codes "scan: bad byte") (codes "bad byte") line r kind refl (place is))
-scan_with source line cause.OpenComment r other kind place = (refusal line (codes "scan: open comment"), refl, λ is. agrees source (codes "scan") (codes "scan: open comment") (codes "open comment") line r kind refl (place is))
-scan_with source line cause.OpenChar r other kind place = (refusal line (codes "scan: open char"), refl, λ is. agrees source (codes "scan") (codes "scan: open char") (codes "open char") line r kind refl (place is))
-scan_with source line cause.BadChar r other kind place = (refusal line (codes "scan: bad char"), refl, λ is. agrees source (codes "scan") (codes "scan: bad char") (codes "bad char") line r kind refl (place is))
-scan_with source line cause.NumberTooLarge r other kind place = (refusal line (codes "scan: number too large"), refl, λ is. agrees source (codes "scan") (codes "scan: number too large") (codes "number too large") line r kind refl (place is))
-scan_with source line cause.NameTooLong r other kind place = (refusal line (codes "scan: name too long"), refl, λ is. agrees source (codes "scan") (codes "scan: name too long") (codes "name too long") line r kind refl (place is))
-scan_with source line cause.TooManyTokens r other kind place = (refusal line (codes "scan: too many tokens"), refl, λ is. agrees source (codes "scan") (codes "scan: too many tokens") (codes "too many tokens") line r kind refl (place is))
-scan_with source line cause.Memory r clash kind place = absurd (cc clash)
+scan_with : (source : List ℕ) (spot : Spot) (c : ScanCause) (r : ExplainedRefusal) → false ≡ sameb the_type c cause.Memory → r.kind.now ≡ codes "scan" → (HasFault source (fault_at spot c) → IsPlaceIn source spot.line r.span) → IsToldOf source (Scan (fault_at spot c)) (Refused r)
+scan_with source spot cause.TooLong r other kind place = (refusal spot.line (codes "scan: too long"), refl, λ is. agrees source (codes "scan") (codes "scan: too long") (codes "too long") spot.line r kind refl (place is))
+scan_with source spot cause.BadByte r other kind place = (refusal spot.line (codes "scan: bad byte"), refl, λ is. agrees source (codes "scan") (codes "scan: bad byte") (codes "bad byte") spot.line r kind refl (place is))
+scan_with source spot cause.OpenComment r other kind place = (refusal spot.line (codes "scan: open comment"), refl, λ is. agrees source (codes "scan") (codes "scan: open comment") (codes "open comment") spot.line r kind refl (place is))
+scan_with source spot cause.OpenChar r other kind place = (refusal spot.line (codes "scan: open char"), refl, λ is. agrees source (codes "scan") (codes "scan: open char") (codes "open char") spot.line r kind refl (place is))
+scan_with source spot cause.BadChar r other kind place = (refusal spot.line (codes "scan: bad char"), refl, λ is. agrees source (codes "scan") (codes "scan: bad char") (codes "bad char") spot.line r kind refl (place is))
+scan_with source spot cause.NumberTooLarge r other kind place = (refusal spot.line (codes "scan: number too large"), refl, λ is. agrees source (codes "scan") (codes "scan: number too large") (codes "number too large") spot.line r kind refl (place is))
+scan_with source spot cause.NameTooLong r other kind place = (refusal spot.line (codes "scan: name too long"), refl, λ is. agrees source (codes "scan") (codes "scan: name too long") (codes "name too long") spot.line r kind refl (place is))
+scan_with source spot cause.TooManyTokens r other kind place = (refusal spot.line (codes "scan: too many tokens"), refl, λ is. agrees source (codes "scan") (codes "scan: too many tokens") (codes "too many tokens") spot.line r kind refl (place is))
+scan_with source spot cause.Memory r clash kind place = absurd (cc clash)
 
 pub scan_told : (source : List ℕ) (fault : ScanFault) (r : ExplainedRefusal) → false ≡ sameb the_type fault.cause cause.Memory → r.kind.now ≡ codes "scan" → (HasFault source fault → IsPlaceIn source fault.line r.span) → IsToldOf source (Scan fault) (Refused r)
-scan_told source fault r other kind place = scan_with source fault.line fault.cause r other kind place
+scan_told source fault r other kind place = scan_with source (spot_of fault.line fault.from) fault.cause r other kind place
 
 -- ---- a token that is refused
 

@@ -7,7 +7,7 @@ use Rattle.cp_check.specs.declared.fault.Rule.{Rule}
 use Rattle.cp_front.specs.Loading.{IsRefusalOf}
 use Rattle.cp_front.specs.Refusals.{IsLineOf, refusal, rule_reason}
 use Rattle.cp_front.specs.declared.refusal.Refusal.{Refusal}
-use Rattle.cp_refusal.specs.declared.place.ByteRange.{ByteRange}
+use Rattle.cp_text.specs.declared.token.ByteRange.{ByteRange}
 use Rattle.cp_refusal.specs.declared.report.ExplainedRefusal.{ExplainedRefusal}
 use Rattle.cp_refusal.specs.declared.report.Explanation.{Explanation}
 use Rattle.cp_refusal.specs.declared.report.Explanation.TheVariants.{Accepted, Refused}

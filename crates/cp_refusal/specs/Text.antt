@@ -2,7 +2,7 @@
 use Rattle.std.specs.Prelude.{◌≡◌, ℕ, ◌++◌, List, [], Option, Some, None, codes, string_bytes}
 use Rattle.std.specs.Fmt.{decimal}
 use Rattle.cp_prose.specs.Telling.{UnlessRefused, appended}
-use Rattle.cp_refusal.specs.declared.place.ByteRange.{ByteRange}
+use Rattle.cp_text.specs.declared.token.ByteRange.{ByteRange}
 use Rattle.cp_refusal.specs.declared.report.ExplainedRefusal.{ExplainedRefusal}
 use Rattle.cp_refusal.specs.declared.report.Explanation.{Explanation}
 use Rattle.cp_refusal.specs.declared.report.Explanation.TheVariants.{Accepted, Refused}

@@ -6,7 +6,7 @@ use crate::further_up::{
     CLOSING, OPENING, is_last_semicolon, is_real, is_statement, last_branch, open_before,
     open_parenthesis,
 };
-use crate::place::{Sought, find, has_comment_before};
+use crate::place::{end, has_comment_before};
 use crate::rules::{is_mark_of, mark_before};
 use crate::teller::Teller;
 use cp_text::Mark;
@@ -42,7 +42,8 @@ pub fn advice(teller: &mut Teller) -> &'static str {
 
 // Whether a comment stands where a value is wanted.
 fn is_after_string(teller: &mut Teller) -> bool {
-    has_comment_before(teller.source, teller.at) && teller.takes_one_of(&["not", "1"])
+    has_comment_before(teller.source, teller.tokens, teller.at)
+        && teller.takes_one_of(&["not", "1"])
 }
 
 // Of signs that other languages have.
@@ -571,13 +572,8 @@ fn missing_sign(teller: &mut Teller) -> &'static str {
 // Whether a name begins where the number ends that is the token.
 fn is_glued(teller: &Teller) -> bool {
     let next = teller.at.saturating_add(1);
-    match (
-        find(teller.source, Sought::Token(teller.at)),
-        find(teller.source, Sought::Token(next)),
-    ) {
-        (Some(one), Some(other)) => {
-            one.from.saturating_add(one.len) == other.from && !teller.name_at(next).is_empty()
-        }
+    match (teller.tokens.range(teller.at), teller.tokens.range(next)) {
+        (Some(one), Some(other)) => end(one) == other.from && !teller.name_at(next).is_empty(),
         _ => false,
     }
 }

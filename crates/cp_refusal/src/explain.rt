@@ -1,8 +1,9 @@
 //! The answer to a source: why it is refused, or what is rarely meant in it.
 
-ghost use Rattle.std.specs.Prelude.{◌+◌, ◌≤◌, IfOk, MatchOption, MatchResult, codes, drop, length};
+ghost use Rattle.std.specs.Prelude.{◌≡◌, ◌+◌, ◌≤◌, IfOk, MatchOption, MatchResult, None, codes, drop, length, slice_get};
 ghost use Rattle.cp_front.specs.Refusals.{check_reason, parse_reason};
 ghost use Rattle.cp_front.specs.declared.refusal.Refusal.TheVariants.{Scan};
+ghost use Rattle.cp_text.specs.Places.{ranges};
 ghost use Rattle.cp_text.specs.Reading.{HasFault, HasTokens};
 ghost use Rattle.cp_refusal.specs.Explaining as spec;
 ghost use Rattle.cp_refusal.specs.Lines.{last_line};
@@ -14,13 +15,13 @@ use crate::foreign::sign_sentence;
 use crate::further_up::{Missing, what_is_missing};
 use crate::hints::hints;
 use crate::page::{line_number, line_start};
-use crate::place::{ByteRange, Sought, find, is_coded};
+use crate::place::{end, fault_len, is_coded, text_in};
 use crate::report::{ExplainedRefusal, Explanation};
 use crate::rules::{Broken, code, sentence};
 use crate::teller::Teller;
 use cp_check::CheckFault;
 use cp_front::{Loaded, Refusal as LoadRefusal};
-use cp_text::{Mark, ScanCause, ScanFault, Tokens};
+use cp_text::{ByteRange, Mark, ScanCause, ScanFault, Tokens};
 use cp_tree::{ParseFault, Tree};
 use std::alloc::{AllocError, Global};
 
@@ -124,19 +125,17 @@ fn fault_span(source: &[u8], fault: ScanFault) -> Option<ByteRange>
     if fault.line == 0 {
         return None;
     }
-    let found = match find(source, Sought::Fault(fault.cause)) {
-        Some(span) => span,
-        None => START,
-    };
-    Some(in_line(source, fault.line, found))
+    Some(ByteRange {
+        from: fault.from,
+        len: fault_len(&source[fault.from.min(source.len())..]),
+    })
 }
 
 // What a sentence looks at: of a sign also what follows it.
 fn fault_text(source: &[u8], cause: ScanCause, span: ByteRange) -> &[u8] {
-    let rest = &source[span.from.min(source.len())..];
     match cause {
-        ScanCause::BadByte => rest,
-        _ => &rest[..span.len.min(rest.len())],
+        ScanCause::BadByte => &source[span.from.min(source.len())..],
+        _ => text_in(source, span),
     }
 }
 
@@ -172,23 +171,25 @@ fn in_line(source: &[u8], line: u32, place: ByteRange) -> ByteRange
     }
 }
 
-// The place of a token in the line that the scanner found it in.
+// The place of a token, or at the end of the tokens that behind them.
 fn span_of(source: &[u8], at: usize, tokens: &Tokens) -> ByteRange
     ensures { HasTokens source.now tokens.now → spec.IsPlaceIn source.now (spec.token_line tokens.now at) (Some result) }
 {
-    let line = tokens.line(at.min(tokens.count()));
-    in_line(source, line, found_span(source, at, tokens))
+    match tokens.range(at) {
+        Some(range) => range,
+        None => end_of(source, at, tokens),
+    }
 }
 
-// Where a token is found; at the end of the tokens the place after the last, and the beginning where there are none.
-fn found_span(source: &[u8], at: usize, tokens: &Tokens) -> ByteRange
-    ensures { result.from ≤ length source.now }
+// The place behind the last token, in its line; the beginning where there is none.
+fn end_of(source: &[u8], at: usize, tokens: &Tokens) -> ByteRange
+    requires { None ≡ slice_get (ranges tokens.now) at }
+    ensures { HasTokens source.now tokens.now → spec.IsPlaceIn source.now (spec.token_line tokens.now at) (Some result) }
 {
-    if let Some(span) = find(source, Sought::Token(at)) {
-        return span;
-    }
-    match find(source, Sought::Token(tokens.count().saturating_sub(1))) {
-        Some(last) => after(last),
+    let count = tokens.count();
+    let line = tokens.line(at.min(count));
+    match tokens.range(count.saturating_sub(1)) {
+        Some(last) => in_line(source, line, after(last)),
         None => START,
     }
 }
@@ -198,7 +199,7 @@ fn after(span: ByteRange) -> ByteRange
     ensures { result.from ≤ span.from + span.len }
 {
     ByteRange {
-        from: span.from.saturating_add(span.len),
+        from: end(span),
         len: 1,
     }
 }
@@ -294,8 +295,7 @@ fn put_found(teller: &mut Teller) {
 
 // The number of the line of a token.
 fn put_line(teller: &mut Teller, at: usize) {
-    let from = span_of(teller.source, at, teller.tokens).from;
-    let line = line_number(teller.source, from);
+    let line = teller.tokens.line(at.min(teller.tokens.count()));
     teller.text.put_display(line);
 }
 

@@ -179,7 +179,7 @@ fn line_without_semicolon(teller: &mut Teller) -> Option<usize> {
     let is_beginning = !teller.name().is_empty()
         || is_declaration(tokens, at)
         || is_statement(tokens, at);
-    let is_torn = is_ending && is_beginning && !are_on_one_line(teller.source, before);
+    let is_torn = is_ending && is_beginning && !are_on_one_line(tokens, before);
     // Words of other languages end no line.
     if is_torn && foreign_advice(teller).is_empty() && teller.takes(";") {
         Some(before)

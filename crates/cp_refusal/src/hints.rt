@@ -18,11 +18,10 @@ use crate::declared::Declarations;
 use crate::extent::Extent;
 use crate::hints::written::Written;
 use crate::page::push_tokens;
-use crate::place::{ByteRange, Sought, find};
 use crate::report::{Hint, Hints};
 use cp_front::Loaded;
 use cp_prose::Prose;
-use cp_text::Tokens;
+use cp_text::{ByteRange, Tokens};
 use cp_tree::Program;
 use std::alloc::{AllocError, Global};
 use std::fmt::Display;
@@ -49,7 +48,7 @@ impl<'a, 'b> Gathering<'a, 'b> {
         if self.is_counted() {
             return Ok(());
         }
-        match find(self.source, Sought::Token(at)) {
+        match self.tokens.range(at) {
             Some(span) => self.add_in(span, words),
             None => Ok(()),
         }
@@ -88,7 +87,7 @@ impl<'a, 'b> Gathering<'a, 'b> {
     /// Some tokens as they are written.
     pub fn text_of(&self, extent: Extent) -> Result<String, AllocError> {
         let mut text = Prose::new(self.alloc);
-        push_tokens(&mut text, self.source, extent);
+        push_tokens(&mut text, self.source, self.tokens, extent);
         text.finish()
     }
 }

@@ -25,6 +25,6 @@ mod spelling;
 mod statements;
 mod teller;
 
+pub use cp_text::ByteRange;
 pub use explain::refusal;
-pub use place::ByteRange;
 pub use report::{ExplainedRefusal, Explanation, Hint, Hints, Position, position_of, text};

@@ -9,8 +9,9 @@ ghost use Rattle.cp_refusal.specs.Text.{Takes};
 
 use crate::characters::{Look, length, push_characters};
 use crate::extent::Extent;
-use crate::place::{ByteRange, Sought, find};
+use crate::place::{end, from_to, text_in};
 use cp_prose::Prose;
+use cp_text::{ByteRange, Tokens};
 
 /// Where the line of this number begins; where there is no such line, the end.
 pub fn line_start(source: &[u8], number: usize) -> usize
@@ -68,7 +69,7 @@ fn without_return(line: &[u8]) -> &[u8]
 }
 
 /// The bytes before the end of a line.
-fn line_len(text: &[u8]) -> usize
+pub fn line_len(text: &[u8]) -> usize
     ensures { result ≡ position_or_len (λ b. b == 10) text.now }
 {
     for (at, byte) in text.iter().enumerate() {
@@ -180,14 +181,9 @@ fn push_mark(text: &mut Prose, line: &ShownLine)
 const CUT: &str = " .. ";
 
 /// Whether a token ends on the line on which the next one begins.
-pub fn are_on_one_line(source: &[u8], at: usize) -> bool {
-    let (Some(one), Some(next)) = (
-        find(source, Sought::Token(at)),
-        find(source, Sought::Token(at.saturating_add(1))),
-    ) else {
-        return true;
-    };
-    line_number(source, one.from) == line_number(source, next.from)
+pub fn are_on_one_line(tokens: &Tokens, at: usize) -> bool {
+    let count = tokens.count();
+    tokens.line(at.min(count)) == tokens.line(at.saturating_add(1).min(count))
 }
 
 /// The column of a place, counted in characters from 1.
@@ -203,22 +199,16 @@ pub fn column(source: &[u8], at: usize) -> usize
 const MOST_REPEATED: usize = 40;
 
 /// Appends some tokens as they are written, on one line; of many only the first.
-pub fn push_tokens(text: &mut Prose, source: &[u8], extent: Extent) {
-    let last = extent.to.saturating_sub(1);
+pub fn push_tokens(text: &mut Prose, source: &[u8], tokens: &Tokens, extent: Extent) {
     let (Some(first), Some(last)) = (
-        find(source, Sought::Token(extent.from)),
-        find(source, Sought::Token(last)),
+        tokens.range(extent.from),
+        tokens.range(extent.to.saturating_sub(1)),
     ) else {
         return;
     };
-    let rest = &source[first.from.min(source.len())..];
-    let len = last
-        .from
-        .saturating_add(last.len)
-        .saturating_sub(first.from)
-        .min(rest.len());
-    push_characters(text, &rest[..len.min(MOST_REPEATED)], Look::OneLine);
-    if len > MOST_REPEATED {
+    let said = text_in(source, from_to(first.from, end(last)));
+    push_characters(text, &said[..said.len().min(MOST_REPEATED)], Look::OneLine);
+    if said.len() > MOST_REPEATED {
         text.put(" ..");
     }
 }

@@ -6,8 +6,8 @@ ghost use Rattle.cp_refusal.specs.Lines.{line_in};
 ghost use Rattle.cp_refusal.specs.Text as spec;
 
 use crate::page::{column, line_number, push_marked_line};
-use crate::place::ByteRange;
 use cp_prose::Prose;
+use cp_text::ByteRange;
 use std::alloc::{AllocError, Global};
 
 /// Why a source is refused.

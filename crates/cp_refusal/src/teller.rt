@@ -2,7 +2,7 @@
 
 use crate::extent::{Extent, single};
 use crate::page::push_tokens;
-use crate::place::{Sought, find};
+use crate::place::{end, text_in};
 use crate::rules::{mark_at, name_at};
 use cp_drops::drop_tree;
 use cp_prose::Prose;
@@ -59,11 +59,8 @@ impl<'a> Teller<'a> {
 
     /// The token as it is written.
     pub fn spelling(&self) -> &'a [u8] {
-        match find(self.source, Sought::Token(self.at)) {
-            Some(place) => {
-                let rest = &self.source[place.from.min(self.source.len())..];
-                &rest[..place.len.min(rest.len())]
-            }
+        match self.tokens.range(self.at) {
+            Some(range) => text_in(self.source, range),
             None => &[],
         }
     }
@@ -136,7 +133,7 @@ impl<'a> Teller<'a> {
 
     /// Appends some tokens as they are written.
     pub fn put_tokens(&mut self, extent: Extent) {
-        push_tokens(&mut self.text, self.source, extent);
+        push_tokens(&mut self.text, self.source, self.tokens, extent);
     }
 
     /// Whether a program can go on with this token in the place of the one that is refused.
@@ -184,12 +181,12 @@ impl<'a> Teller<'a> {
 
     /// What stands before a token, and behind it.
     fn around(&self, at: usize) -> (&'a [u8], &'a [u8]) {
-        match find(self.source, Sought::Token(at)) {
-            Some(place) => {
-                let from = place.from.min(self.source.len());
-                let rest = &self.source[from..];
-                (&self.source[..from], &rest[place.len.min(rest.len())..])
-            }
+        let most = self.source.len();
+        match self.tokens.range(at) {
+            Some(range) => (
+                &self.source[..range.from.min(most)],
+                &self.source[end(range).min(most)..],
+            ),
             None => (self.source, &[]),
         }
     }

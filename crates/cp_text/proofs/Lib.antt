@@ -5,6 +5,7 @@ pub mod LexemeLaws
 pub mod NextLaws
 pub mod Numbers
 pub mod PieceLaws
+pub mod PlaceLaws
 pub mod ReadingLaws
 pub mod Runs
 pub mod ScanSteps

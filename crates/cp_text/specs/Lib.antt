@@ -6,7 +6,9 @@ pub mod Kinds
 pub mod Lexemes
 pub mod Lines
 pub mod Pieces
+pub mod Places
 pub mod Reading
 pub mod Scanning
+pub mod Spots
 pub mod Values
 pub mod Words

@@ -14,10 +14,12 @@ use Rattle.cp_text.specs.declared.token.Kind.{Kind}
 use Rattle.cp_text.specs.declared.token.Kind.TheVariants as kind
 use Rattle.cp_text.specs.declared.token.Mark.{Mark}
 use Rattle.cp_text.specs.declared.token.Mark.TheVariants as mark
+use Rattle.cp_text.specs.declared.token.Spot.{Spot}
 use Rattle.cp_text.specs.declared.token.Token.{Token}
 use Rattle.cp_text.specs.Annotations.{Annotated, annotation_by, annotation_of}
-use Rattle.cp_text.specs.Bytes.{is_separator, is_digit, is_letter, is_word_byte, is_in_comment, is_in_character, is_printable, line_feeds}
+use Rattle.cp_text.specs.Bytes.{is_separator, is_digit, is_letter, is_word_byte, is_in_comment, is_in_character, is_printable}
 use Rattle.cp_text.specs.Faults.{fault_at, Outcome}
+use Rattle.cp_text.specs.Spots.{after, beginning, nowhere, token_of}
 use Rattle.cp_text.specs.Values.{number_of, word_kind, is_lexeme}
 
 -- ---- shapes
@@ -141,30 +143,34 @@ Breaks shape.Name piece cause = (40 < length piece) × (cause ≡ NameTooLong)
 Breaks shape.Character piece cause = IsNoCharacter piece × (cause ≡ BadChar)
 Breaks _ piece cause = ⊥
 
--- These are the lexemes of the parts, the first of which begins on this line, each on the line that it begins on.
-pub data AreLexemes : ℕ → List Part → List Token → Type 0 where
-  no_lexeme : {line : ℕ} → AreLexemes line [] []
-  between : {line : ℕ} {p : Part} {ps : List Part} {ts : List Token} → is_lexeme p.shape ≡ false
-      → AreLexemes (line + line_feeds p.text) ps ts → AreLexemes line (p ∷ ps) ts
-  one_lexeme : {line : ℕ} {p : Part} {t : Token} {ps : List Part} {ts : List Token} → IsLexeme p.shape p.text t.kind → t.line ≡ line
-      → AreLexemes (line + line_feeds p.text) ps ts → AreLexemes line (p ∷ ps) (t ∷ ts)
+-- These are the lexemes of the parts, the first of which begins at this spot: each stands where its part does.
+pub data AreLexemes : Spot → List Part → List Token → Type 0 where
+  no_lexeme : {spot : Spot} → AreLexemes spot [] []
+  between : {spot : Spot} {p : Part} {ps : List Part} {ts : List Token} → is_lexeme p.shape ≡ false
+      → AreLexemes (after spot p.text) ps ts → AreLexemes spot (p ∷ ps) ts
+  one_lexeme : {spot : Spot} {p : Part} {t : Token} {ps : List Part} {ts : List Token} → IsLexeme p.shape p.text t.kind → t ≡ token_of spot p.text t.kind
+      → AreLexemes (after spot p.text) ps ts → AreLexemes spot (p ∷ ps) (t ∷ ts)
 
 -- an opening or a closing
-abbrev pub token_at : ℕ → Mark → Token
-token_at line m = record { kind = kind.Mark m; line = line }
+abbrev pub token_at : Spot → List ℕ → Mark → Token
+token_at spot piece m = token_of spot piece (kind.Mark m)
 
--- These are the tokens of the parts, the first of which begins on this line: the lexemes, and those of annotations. The inner text of one has no quote,
+-- where the closing of the annotation at a spot begins
+abbrev pub closing_spot : Spot → Annotated → Spot
+closing_spot spot a = after (after spot a.before) a.text
+
+-- These are the tokens of the parts, the first of which begins at this spot: the lexemes, and those of annotations. The inner text of one has no quote,
 -- and so no comment.
-pub data AreTokens : ℕ → List Part → List Token → Type 0 where
-  no_more : {line : ℕ} → AreTokens line [] []
-  blank : {line : ℕ} {p : Part} {ps : List Part} {ts : List Token} → is_lexeme p.shape ≡ false → annotation_by p.shape p.text ≡ None
-      → AreTokens (line + line_feeds p.text) ps ts → AreTokens line (p ∷ ps) ts
-  lexeme : {line : ℕ} {p : Part} {t : Token} {ps : List Part} {ts : List Token} → IsLexeme p.shape p.text t.kind → t.line ≡ line
-      → AreTokens (line + line_feeds p.text) ps ts → AreTokens line (p ∷ ps) (t ∷ ts)
-  annotated : {line : ℕ} {p : Part} {ps : List Part} (a : Annotated) (qs : List Part) (us ts : List Token)
-      → annotation_by p.shape p.text ≡ Some a → a.text ≡ joined qs [] → AreCut qs [] → AreLexemes (line + line_feeds a.before) qs us
-      → AreTokens (line + line_feeds p.text) ps ts
-      → AreTokens line (p ∷ ps) (token_at line a.mark ∷ us ++ token_at (line + line_feeds a.before + line_feeds a.text) mark.Closes ∷ ts)
+pub data AreTokens : Spot → List Part → List Token → Type 0 where
+  no_more : {spot : Spot} → AreTokens spot [] []
+  blank : {spot : Spot} {p : Part} {ps : List Part} {ts : List Token} → is_lexeme p.shape ≡ false → annotation_by p.shape p.text ≡ None
+      → AreTokens (after spot p.text) ps ts → AreTokens spot (p ∷ ps) ts
+  lexeme : {spot : Spot} {p : Part} {t : Token} {ps : List Part} {ts : List Token} → IsLexeme p.shape p.text t.kind → t ≡ token_of spot p.text t.kind
+      → AreTokens (after spot p.text) ps ts → AreTokens spot (p ∷ ps) (t ∷ ts)
+  annotated : {spot : Spot} {p : Part} {ps : List Part} (a : Annotated) (qs : List Part) (us ts : List Token)
+      → annotation_by p.shape p.text ≡ Some a → a.text ≡ joined qs [] → AreCut qs [] → AreLexemes (after spot a.before) qs us
+      → AreTokens (after spot p.text) ps ts
+      → AreTokens spot (p ∷ ps) (token_at spot a.before a.mark ∷ us ++ token_at (closing_spot spot a) a.closing mark.Closes ∷ ts)
 
 -- ---- faults
 
@@ -189,16 +195,16 @@ pub record AnnotationAt (text : List ℕ) (a : Annotated) : Type 0 where
   pub stands : Stands shape.Comment piece rest
   pub is : annotation_of piece ≡ Some a
 
--- The fault at the front of a text that begins on this line, or in the annotation there, and the line of the fault.
-pub data FaultAt (line count : ℕ) (text : List ℕ) (cause : ScanCause) (at : ℕ) : Type 0 where
-  plain : FaultIn count text cause → at ≡ line → FaultAt line count text cause at
-  opening_too_many : (a : Annotated) → AnnotationAt text a → 20000 ≤ count → cause ≡ TooManyTokens → at ≡ line → FaultAt line count text cause at
+-- The fault at the front of a text that begins at this spot, or in the annotation there, and the spot of the fault.
+pub data FaultAt (spot : Spot) (count : ℕ) (text : List ℕ) (cause : ScanCause) (at : Spot) : Type 0 where
+  plain : FaultIn count text cause → at ≡ spot → FaultAt spot count text cause at
+  opening_too_many : (a : Annotated) → AnnotationAt text a → 20000 ≤ count → cause ≡ TooManyTokens → at ≡ spot → FaultAt spot count text cause at
   inside : (a : Annotated) (qs : List Part) (us : List Token) (left : List ℕ) → AnnotationAt text a → a.text ≡ joined qs left → AreCut qs left
-      → AreLexemes (line + line_feeds a.before) qs us → suc (count + length us) ≤ 20000 → FaultIn (suc (count + length us)) left cause
-      → at ≡ line + line_feeds a.before + line_feeds (joined qs []) → FaultAt line count text cause at
+      → AreLexemes (after spot a.before) qs us → suc (count + length us) ≤ 20000 → FaultIn (suc (count + length us)) left cause
+      → at ≡ after (after spot a.before) (joined qs []) → FaultAt spot count text cause at
   closing_too_many : (a : Annotated) (qs : List Part) (us : List Token) → AnnotationAt text a → a.text ≡ joined qs [] → AreCut qs []
-      → AreLexemes (line + line_feeds a.before) qs us → suc (count + length us) ≡ 20000 → cause ≡ TooManyTokens
-      → at ≡ line + line_feeds a.before + line_feeds a.text → FaultAt line count text cause at
+      → AreLexemes (after spot a.before) qs us → suc (count + length us) ≡ 20000 → cause ≡ TooManyTokens
+      → at ≡ closing_spot spot a → FaultAt spot count text cause at
 
 -- ---- texts
 
@@ -206,7 +212,7 @@ pub data FaultAt (line count : ℕ) (text : List ℕ) (cause : ScanCause) (at : 
 pub record ReadsUpTo (text : List ℕ) (parts : List Part) (ts : List Token) (rest : List ℕ) : Type 0 where
   pub whole : text ≡ joined parts rest
   pub cut : AreCut parts rest
-  pub tokens : AreTokens 1 parts ts
+  pub tokens : AreTokens beginning parts ts
   pub few : length ts ≤ 20000
 
 -- the text has these tokens
@@ -222,9 +228,9 @@ pub record AreOfText (ts : List Token) : Type 0 where
 
 -- the text has this fault
 pub data HasFault (text : List ℕ) (f : ScanFault) : Type 0 where
-  too_long : 65535 < length text → f ≡ fault_at 0 TooLong → HasFault text f
-  faulty : (parts : List Part) (ts : List Token) (rest : List ℕ) (cause : ScanCause) (at : ℕ) → length text ≤ 65535
-      → ReadsUpTo text parts ts rest → FaultAt (1 + line_feeds (joined parts [])) (length ts) rest cause at → f ≡ fault_at at cause → HasFault text f
+  too_long : 65535 < length text → f ≡ fault_at nowhere TooLong → HasFault text f
+  faulty : (parts : List Part) (ts : List Token) (rest : List ℕ) (cause : ScanCause) (at : Spot) → length text ≤ 65535
+      → ReadsUpTo text parts ts rest → FaultAt (after beginning (joined parts [])) (length ts) rest cause at → f ≡ fault_at at cause → HasFault text f
 
 -- the text reads to this
 abbrev pub Reading : List ℕ → Outcome → Type 0

@@ -34,6 +34,8 @@ pub enum ScanCause {
 pub struct ScanFault {
     /// The line, counted from 1, in which the faulty piece begins; 0 for `TooLong` and `Memory`.
     pub line: u32,
+    /// How many bytes stand before that piece.
+    pub from: usize,
     pub cause: ScanCause,
 }
 
@@ -51,6 +53,7 @@ impl<T: Drop> From<AllocFailed<T>> for ScanFault {
     fn from(_e: AllocFailed<T>) -> ScanFault {
         ScanFault {
             line: 0,
+            from: 0,
             cause: ScanCause::Memory,
         }
     }

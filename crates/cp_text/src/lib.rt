@@ -13,5 +13,6 @@ mod word;
 pub use annotation::Annotation;
 pub use fault::{ScanCause, ScanFault};
 pub use front::annotation_at;
+pub use piece::first_piece;
 pub use scanner::scan;
-pub use token::{Kind, Mark, Name, Token, Tokens};
+pub use token::{ByteRange, Kind, Mark, Name, Token, Tokens};

@@ -1,15 +1,16 @@
 //! From a text to its tokens.
 
-ghost use Rattle.std.specs.Prelude.{◌≡◌, ◌<◌, ◌≤◌, ◌^◌, ◌≢◌, [], None, length, OnOk, IfErr};
+ghost use Rattle.std.specs.Prelude.{◌≡◌, ◌<◌, ◌≤◌, ◌+◌, ◌^◌, ◌≢◌, [], None, length, OnOk, IfErr};
 ghost use Rattle.cp_text.specs.Bytes.{line_feeds};
 ghost use Rattle.cp_text.specs.Reading.{Reading};
 ghost use Rattle.cp_text.specs.Faults.{out_of_memory, Outcome};
 ghost use Rattle.cp_text.specs.Scanning as spec;
 ghost use Rattle.cp_text.specs.Scanning.{Scans};
+ghost use Rattle.cp_text.specs.Spots.{after, beginning};
 
 use crate::fault::{ScanCause, ScanFault};
 use crate::front::{Front, front_piece};
-use crate::token::{Kind, Token, Tokens};
+use crate::token::{ByteRange, Kind, Spot, Token, Tokens};
 use std::alloc::Global;
 
 const MOST_TEXT_BYTES: usize = 65535;
@@ -25,6 +26,7 @@ pub fn scan(alloc: Global, source: &[u8]) -> Result<Tokens, ScanFault>
     if source.len() > MOST_TEXT_BYTES {
         return Err(ScanFault {
             line: 0,
+            from: 0,
             cause: ScanCause::TooLong,
         });
     }
@@ -34,49 +36,83 @@ pub fn scan(alloc: Global, source: &[u8]) -> Result<Tokens, ScanFault>
 /// Reads piece by piece. `left` is how many bytes stand before the closing of the annotation that the piece is in.
 fn pieces(alloc: Global, source: &[u8]) -> Result<Tokens, ScanFault>
     requires { length source.now ≤ 65535 }
-    ensures { Scans (spec.scan_from 0 None 1 [] source.now) result }
+    ensures { Scans (spec.scan_from 0 None beginning [] source.now) result }
 {
     let mut items = Vec::new(alloc);
-    let mut line = 1;
+    let mut spot = Spot { line: 1, from: 0 };
     let mut rest = source;
     let mut left = None;
     while !rest.is_empty() {
         let found = match front_piece(alloc, items.len(), left, rest) {
             Ok(found) => found,
-            Err(cause) => return Err(fault(line, cause)),
+            Err(cause) => return Err(fault(spot, cause)),
         };
         let Front {
             kind,
             len,
             left: behind,
         } = found;
-        add(&mut items, kind, line)?;
+        let (piece, more) = rest.split_at(len);
+        add(&mut items, kind, spot, piece)?;
         left = behind;
-        let (front, after) = rest.split_at(len);
-        line += line_feeds(front);
-        rest = after;
+        spot = after(spot, piece);
+        rest = more;
     }
     Ok(Tokens::new(items))
 }
 
-/// Adds the token of this kind, if there is one.
-fn add(items: &mut Vec<Token>, kind: Option<Kind>, line: u32) -> Result<(), ScanFault>
-    ensures ok { OnOk result (items.new.items ≡ spec.added items.old.items kind line) }
+/// Adds a piece as a token of this kind, if it is one.
+fn add(
+    items: &mut Vec<Token>,
+    kind: Option<Kind>,
+    spot: Spot,
+    piece: &[u8],
+) -> Result<(), ScanFault>
+    ensures ok { OnOk result (items.new.items ≡ spec.added items.old.items kind spot piece.now) }
     ensures err { IfErr result (λ e. e ≡ out_of_memory) }
 {
     if let Some(kind) = kind {
-        items.push(Token { kind, line })?;
+        let range = ByteRange {
+            from: spot.from,
+            len: piece.len(),
+        };
+        items.push(Token {
+            kind,
+            line: spot.line,
+            range,
+        })?;
     }
     Ok(())
 }
 
-/// The fault of the piece that begins on this line.
-fn fault(line: u32, cause: ScanCause) -> ScanFault
-    ensures { result ≡ spec.fault line cause }
+/// The fault of the piece that begins there.
+fn fault(spot: Spot, cause: ScanCause) -> ScanFault
+    ensures { result ≡ spec.fault spot cause }
 {
     match cause {
-        ScanCause::Memory => ScanFault { line: 0, cause },
-        _ => ScanFault { line, cause },
+        ScanCause::Memory => ScanFault {
+            line: 0,
+            from: 0,
+            cause,
+        },
+        _ => ScanFault {
+            line: spot.line,
+            from: spot.from,
+            cause,
+        },
+    }
+}
+
+/// Where the piece that begins there ends.
+fn after(spot: Spot, piece: &[u8]) -> Spot
+    requires place { spot.from + length piece.now < 2 ^ 16 }
+    requires line { spot.line + length piece.now < 2 ^ 17 }
+    ensures value { result ≡ after spot piece.now }
+    ensures within { result.line ≤ spot.line + length piece.now }
+{
+    Spot {
+        line: spot.line + line_feeds(piece),
+        from: spot.from + piece.len(),
     }
 }
 

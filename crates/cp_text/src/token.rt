@@ -1,6 +1,6 @@
-//! Tokens: the lexemes of a text, each with its kind and its line.
+//! Tokens: the lexemes of a text, each with its kind and its place.
 
-ghost use Rattle.std.specs.Prelude.{◌≡◌, ◌<◌, ◌≤◌, List, ℕ, length, IfOk, Some, slice_get};
+ghost use Rattle.std.specs.Prelude.{◌≡◌, ◌<◌, ◌≤◌, List, ℕ, length, IfOk, IfSome, Some, slice_get};
 ghost use Rattle.std.specs.String.{string_bytes};
 ghost use Rattle.std.specs.Option.{option_copied};
 
@@ -125,11 +125,26 @@ pub enum Kind {
     Mark(Mark),
 }
 
-/// A lexeme and the number of its line, counted from 1.
+/// Where a piece of a text begins: the number of its line, counted from 1, and how many bytes stand before it.
+#[derive(Clone, Copy)]
+pub struct Spot {
+    pub line: u32,
+    pub from: usize,
+}
+
+/// The bytes of a text from one place on.
+#[derive(Clone, Copy)]
+pub struct ByteRange {
+    pub from: usize,
+    pub len: usize,
+}
+
+/// A lexeme, the number of its line, counted from 1, and its bytes.
 #[derive(Drop)]
 pub struct Token {
     pub kind: Kind,
     pub line: u32,
+    pub range: ByteRange,
 }
 
 /// The tokens of a text, in order.
@@ -152,9 +167,10 @@ impl Model for Tokens {
 }
 
 impl Tokens {
-    ghost use Rattle.cp_text.specs.Reading.{AreOfText};
+    ghost use Rattle.cp_text.specs.Reading.{AreOfText, HasTokens};
     ghost use Rattle.cp_text.specs.Kinds.{kinds};
     ghost use Rattle.cp_text.specs.Lines.{line_of};
+    ghost use Rattle.cp_text.specs.Places.{StandsAt, ranges};
 
     /// These tokens.
     pub fn new(items: Vec<Token>) -> Tokens
@@ -189,6 +205,21 @@ impl Tokens {
             Some(last) => self.items[at.min(last)].line,
             None => 1,
         }
+    }
+
+    /// The bytes of token `at`, where there is one.
+    pub fn range(&self, at: usize) -> Option<ByteRange>
+        ensures value { result ≡ slice_get (ranges self.now) at }
+        ensures stands { (text : List ℕ) → HasTokens text self.now → IfSome result (StandsAt text (line_of self.now at)) }
+    {
+        self.kept_range(at)
+    }
+
+    // The bytes that the token keeps, in whatever text.
+    fn kept_range(&self, at: usize) -> Option<ByteRange>
+        ensures { result ≡ slice_get (ranges self.now) at }
+    {
+        self.items.get(at).map(|t| t.range)
     }
 
     /// The kind of token `at`, where there is one.

@@ -3,7 +3,7 @@
 ghost use Rattle.std.specs.Prelude.{◌≤◌, length};
 
 use crate::hints::Gathering;
-use crate::place::comments;
+use crate::place::{comments, text_in};
 use crate::spelling::is_nearly;
 use std::alloc::AllocError;
 
@@ -72,10 +72,8 @@ fn is_meant(comment: &[u8]) -> bool {
 impl<'a, 'b> Gathering<'a, 'b> {
     /// A hint on each comment that was meant to be an annotation, so that none is lost silently.
     pub fn add_nearly_annotations(&mut self) -> Result<(), AllocError> {
-        for span in comments(self.alloc, self.source)? {
-            let to = span.from.saturating_add(span.len).min(self.source.len());
-            let comment = &self.source[span.from.min(to)..to];
-            if is_meant(comment) {
+        for span in comments(self.alloc, self.source, self.tokens)? {
+            if is_meant(text_in(self.source, span)) {
                 self.add_in(span, SENTENCE)?;
             }
         }

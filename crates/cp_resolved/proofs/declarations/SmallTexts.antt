@@ -6,11 +6,13 @@ use Rattle.cp_text.specs.declared.token.Mark.TheVariants as mark
 use Rattle.cp_tree.specs.Syntax.{nameless}
 use Rattle.cp_text.specs.declared.piece.Shape.{Shape}
 use Rattle.cp_text.specs.declared.piece.Shape.TheVariants as shape
+use Rattle.cp_text.specs.declared.token.Spot.{Spot}
 use Rattle.cp_text.specs.declared.token.Token.{Token}
-use Rattle.cp_text.specs.Bytes.{is_letter, line_feeds}
+use Rattle.cp_text.specs.Bytes.{is_letter}
 use Rattle.cp_text.specs.Kinds.{kinds}
 use Rattle.cp_text.specs.Reading as reading
-use Rattle.cp_text.specs.Reading.{Has, AreCut, IsCode, printable, numbered, IsLexeme, Part, AreLexemes, no_lexeme, between, one_lexeme, token_at, AreTokens, no_more, blank, lexeme, annotated}
+use Rattle.cp_text.specs.Reading.{Has, AreCut, IsCode, printable, numbered, IsLexeme, Part, AreLexemes, no_lexeme, between, one_lexeme, token_at, closing_spot, AreTokens, no_more, blank, lexeme, annotated}
+use Rattle.cp_text.specs.Spots.{after, beginning}
 use Rattle.cp_text.specs.Values.{named, lower_case}
 use Rattle.cp_text.specs.Words.{reserved}
 use Rattle.cp_resolved.proofs.declarations.Nameless.{indexed_known}
@@ -73,30 +75,30 @@ lexeme_scanned shape.Character piece k g h = subst IsScanned (sym h.kind) (code_
 lexeme_scanned (shape.Sign m) piece k g h = subst IsScanned (sym h) tt
 lexeme_scanned _ piece k g h = absurd h
 
-lexemes_scanned : (line : ℕ) (ps : List Part) (ts : List Token) → AreCut ps [] → AreLexemes line ps ts → AreScanned (kinds ts)
-lexemes_scanned line [] [] c no_lexeme = tt
-lexemes_scanned line [] (t ∷ ts) c x = elim x [ ]
-lexemes_scanned line (p ∷ ps) ts c (between none h) = lexemes_scanned (line + line_feeds p.text) ps ts c.1 h
-lexemes_scanned line (p ∷ ps) (t ∷ ts) c (one_lexeme is on_line h) = (lexeme_scanned p.shape p.text t.kind c.0.shaped is, lexemes_scanned (line + line_feeds p.text) ps ts c.1 h)
+lexemes_scanned : (spot : Spot) (ps : List Part) (ts : List Token) → AreCut ps [] → AreLexemes spot ps ts → AreScanned (kinds ts)
+lexemes_scanned spot [] [] c no_lexeme = tt
+lexemes_scanned spot [] (t ∷ ts) c x = elim x [ ]
+lexemes_scanned spot (p ∷ ps) ts c (between none h) = lexemes_scanned (after spot p.text) ps ts c.1 h
+lexemes_scanned spot (p ∷ ps) (t ∷ ts) c (one_lexeme is placed h) = (lexeme_scanned p.shape p.text t.kind c.0.shaped is, lexemes_scanned (after spot p.text) ps ts c.1 h)
 
 both_scanned : (us ts : List Token) → AreScanned (kinds us) → AreScanned (kinds ts) → AreScanned (kinds (us ++ ts))
 both_scanned [] ts h g = g
 both_scanned (u ∷ us) ts h g = (h.0, both_scanned us ts h.1 g)
 
-tokens_scanned : (line : ℕ) (ps : List Part) (ts : List Token) → AreCut ps [] → AreTokens line ps ts → AreScanned (kinds ts)
-tokens_scanned line [] [] c no_more = tt
-tokens_scanned line [] (t ∷ ts) c x = elim x [ ]
-tokens_scanned line (p ∷ ps) ts c (blank none plain h) = tokens_scanned (line + line_feeds p.text) ps ts c.1 h
-tokens_scanned line (p ∷ ps) (t ∷ ts) c (lexeme is on_line h) = (lexeme_scanned p.shape p.text t.kind c.0.shaped is, tokens_scanned (line + line_feeds p.text) ps ts c.1 h)
-tokens_scanned line (p ∷ ps) _ c (annotated a qs us ts is whole cut inner h) =
-    (tt, both_scanned us (token_at (line + line_feeds a.before + line_feeds a.text) mark.Closes ∷ ts) (lexemes_scanned (line + line_feeds a.before) qs us cut inner) (tt, tokens_scanned (line + line_feeds p.text) ps ts c.1 h))
+tokens_scanned : (spot : Spot) (ps : List Part) (ts : List Token) → AreCut ps [] → AreTokens spot ps ts → AreScanned (kinds ts)
+tokens_scanned spot [] [] c no_more = tt
+tokens_scanned spot [] (t ∷ ts) c x = elim x [ ]
+tokens_scanned spot (p ∷ ps) ts c (blank none plain h) = tokens_scanned (after spot p.text) ps ts c.1 h
+tokens_scanned spot (p ∷ ps) (t ∷ ts) c (lexeme is placed h) = (lexeme_scanned p.shape p.text t.kind c.0.shaped is, tokens_scanned (after spot p.text) ps ts c.1 h)
+tokens_scanned spot (p ∷ ps) _ c (annotated a qs us ts is whole cut inner h) =
+    (tt, both_scanned us (token_at (closing_spot spot a) a.closing mark.Closes ∷ ts) (lexemes_scanned (after spot a.before) qs us cut inner) (tt, tokens_scanned (after spot p.text) ps ts c.1 h))
 
 pub kinds_length : (ts : List Token) → length (kinds ts) ≡ length ts
 kinds_length [] = refl
 kinds_length (t ∷ ts) = ap suc (kinds_length ts)
 
 pub read_scanned : (p : Program) → IsRead p → AreScanned (spell p)
-read_scanned p h = subst AreScanned h.spelled (tokens_scanned 1 h.text.reads.parts h.tokens h.text.reads.reads.cut h.text.reads.reads.tokens)
+read_scanned p h = subst AreScanned h.spelled (tokens_scanned beginning h.text.reads.parts h.tokens h.text.reads.reads.cut h.text.reads.reads.tokens)
 
 pub read_small : (p : Program) → IsRead p → IsSmallProgram p
 read_small p h = program_small p (indexed_known p h.proper.indexed) (read_scanned p h)

@@ -7,10 +7,11 @@ use Rattle.cp_text.specs.declared.token.Kind.{Kind}
 use Rattle.cp_text.specs.declared.token.Kind.TheVariants as kind
 use Rattle.cp_text.specs.declared.token.Mark.{Mark}
 use Rattle.cp_text.specs.declared.token.Mark.TheVariants as mark
+use Rattle.cp_text.specs.declared.token.Spot.{Spot}
 use Rattle.cp_text.specs.declared.token.Token.{Token}
-use Rattle.cp_text.specs.Bytes.{line_feeds}
 use Rattle.cp_text.specs.Kinds.{kinds}
-use Rattle.cp_text.specs.Reading.{Has, AreCut, IsLexeme, IsWord, Part, AreLexemes, no_lexeme, between, one_lexeme, token_at, AreTokens, no_more, blank, lexeme, annotated}
+use Rattle.cp_text.specs.Reading.{Has, AreCut, IsLexeme, IsWord, Part, AreLexemes, no_lexeme, between, one_lexeme, token_at, closing_spot, AreTokens, no_more, blank, lexeme, annotated}
+use Rattle.cp_text.specs.Spots.{after, beginning}
 use Rattle.cp_text.specs.Values as values
 use Rattle.cp_text.specs.Values.{lower_case}
 use Rattle.cp_text.specs.Words.{reserved}
@@ -58,26 +59,26 @@ lexeme_lettered shape.Character piece k g h = subst IsLettered (sym h.kind) tt
 lexeme_lettered (shape.Sign m) piece k g h = subst IsLettered (sym h) tt
 lexeme_lettered s piece k g h = absurd h
 
-lexemes_lettered : (line : ℕ) (ps : List Part) (ts : List Token) → AreCut ps [] → AreLexemes line ps ts → AreLettered (kinds ts)
-lexemes_lettered line [] [] c no_lexeme = tt
-lexemes_lettered line [] (t ∷ ts) c x = elim x [ ]
-lexemes_lettered line (p ∷ ps) ts c (between none h) = lexemes_lettered (line + line_feeds p.text) ps ts c.1 h
-lexemes_lettered line (p ∷ ps) (t ∷ ts) c (one_lexeme is on_line h) = (lexeme_lettered p.shape p.text t.kind c.0.shaped is, lexemes_lettered (line + line_feeds p.text) ps ts c.1 h)
+lexemes_lettered : (spot : Spot) (ps : List Part) (ts : List Token) → AreCut ps [] → AreLexemes spot ps ts → AreLettered (kinds ts)
+lexemes_lettered spot [] [] c no_lexeme = tt
+lexemes_lettered spot [] (t ∷ ts) c x = elim x [ ]
+lexemes_lettered spot (p ∷ ps) ts c (between none h) = lexemes_lettered (after spot p.text) ps ts c.1 h
+lexemes_lettered spot (p ∷ ps) (t ∷ ts) c (one_lexeme is placed h) = (lexeme_lettered p.shape p.text t.kind c.0.shaped is, lexemes_lettered (after spot p.text) ps ts c.1 h)
 
 both_lettered : (us ts : List Token) → AreLettered (kinds us) → AreLettered (kinds ts) → AreLettered (kinds (us ++ ts))
 both_lettered [] ts h g = g
 both_lettered (u ∷ us) ts h g = (h.0, both_lettered us ts h.1 g)
 
-tokens_lettered : (line : ℕ) (ps : List Part) (ts : List Token) → AreCut ps [] → AreTokens line ps ts → AreLettered (kinds ts)
-tokens_lettered line [] [] c no_more = tt
-tokens_lettered line [] (t ∷ ts) c x = elim x [ ]
-tokens_lettered line (p ∷ ps) ts c (blank none plain h) = tokens_lettered (line + line_feeds p.text) ps ts c.1 h
-tokens_lettered line (p ∷ ps) (t ∷ ts) c (lexeme is on_line h) = (lexeme_lettered p.shape p.text t.kind c.0.shaped is, tokens_lettered (line + line_feeds p.text) ps ts c.1 h)
-tokens_lettered line (p ∷ ps) _ c (annotated a qs us ts is whole cut inner h) =
-    (tt, both_lettered us (token_at (line + line_feeds a.before + line_feeds a.text) mark.Closes ∷ ts) (lexemes_lettered (line + line_feeds a.before) qs us cut inner) (tt, tokens_lettered (line + line_feeds p.text) ps ts c.1 h))
+tokens_lettered : (spot : Spot) (ps : List Part) (ts : List Token) → AreCut ps [] → AreTokens spot ps ts → AreLettered (kinds ts)
+tokens_lettered spot [] [] c no_more = tt
+tokens_lettered spot [] (t ∷ ts) c x = elim x [ ]
+tokens_lettered spot (p ∷ ps) ts c (blank none plain h) = tokens_lettered (after spot p.text) ps ts c.1 h
+tokens_lettered spot (p ∷ ps) (t ∷ ts) c (lexeme is placed h) = (lexeme_lettered p.shape p.text t.kind c.0.shaped is, tokens_lettered (after spot p.text) ps ts c.1 h)
+tokens_lettered spot (p ∷ ps) _ c (annotated a qs us ts is whole cut inner h) =
+    (tt, both_lettered us (token_at (closing_spot spot a) a.closing mark.Closes ∷ ts) (lexemes_lettered (after spot a.before) qs us cut inner) (tt, tokens_lettered (after spot p.text) ps ts c.1 h))
 
 read_lettered : (p : Program) → IsRead p → AreLettered (spell p)
-read_lettered p h = subst AreLettered h.spelled (tokens_lettered 1 h.text.reads.parts h.tokens h.text.reads.reads.cut h.text.reads.reads.tokens)
+read_lettered p h = subst AreLettered h.spelled (tokens_lettered beginning h.text.reads.parts h.tokens h.text.reads.reads.cut h.text.reads.reads.tokens)
 
 -- ---- variables
 

@@ -1,13 +1,8 @@
-use Rattle.std.proofs.Common.{◌≤◌, ap, arith, length}
-use Rattle.cp_refusal.specs.declared.place.ByteRange.{ByteRange}
-use Rattle.cp_refusal.proofs.Places.{fault_on_a_line}
+use Rattle.std.proofs.Common.{arith}
+use Rattle.cp_text.proofs.PlaceLaws.{fault_stands}
+use Rattle.cp_refusal.proofs.Places.{place_is}
 use Rattle.cp_refusal.proofs.explain.fault_span.Goals as goal
-use Rattle.cp_refusal.proofs.explain.fault_span.Goals.{in-Some, in-None}
 
 pub returns : goal.returns
 returns c = λ h.
-    let within : c.match-find.found.from ≤ length c.args.source.now = elim c.match-find.branch [
-      | in-Some w ↦ (let e = ap (λ (r : ByteRange). r.from) w.found-is in omega (arith, w.in-Some.ensures))
-      | in-None w ↦ (let e = ap (λ (r : ByteRange). r.from) w.found-is in omega arith)
-    ] in
-    c.in_line.ensures within (omega arith) (fault_on_a_line c.args.source.now c.args.fault h)
+    place_is c.args.source.now c.args.fault.line (record { from = c.args.fault.from; len = c.fault_len.result }) (fault_stands c.args.source.now c.args.fault h (omega arith))

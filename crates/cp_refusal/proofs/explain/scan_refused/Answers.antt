@@ -1,5 +1,5 @@
 use Rattle.std.proofs.Common.{◌≡◌, ◌∙◌, Option, refl, subst, sym}
-use Rattle.cp_refusal.specs.declared.place.ByteRange.{ByteRange}
+use Rattle.cp_text.specs.declared.token.ByteRange.{ByteRange}
 use Rattle.cp_refusal.specs.Explaining.{IsPlaceIn}
 use Rattle.cp_refusal.proofs.Told.{scan_told}
 use Rattle.cp_refusal.proofs.explain.scan_refused.Goals as goal
