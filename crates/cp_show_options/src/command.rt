@@ -12,7 +12,7 @@ const NOTES: &str =
     "Example: cpx_show trace --schedule 0.1 < program.cp\nVersion: cpx_show --version\n\nStatus: 0 reported, 1 source refused, 2 options refused, 3 no memory, 4 read or write fault,\n5 too many states or outcomes, 6 an expectation fails, 7 one is not settled";
 
 const EXPECTATIONS: &str =
-    "TOPIC: finished, all-waiting, run-error or run-error NAME; after it, if wanted, output VALUES,\nwhere .. stands for any values at any place; or shown VALUE, for a schedule that displays it,\nwhatever it ends in. Between topics or may stand. A constant that is named as a topic begins is\nwritten in parentheses: shown (finished). Several expectations are joined by and.\nWithout words those in comments of the program are taken: (* expect never all-waiting *)\n\nWith --ends of schedules of any length, without outputs; TOPIC may be alone, spins or waiting as\nwell, each perhaps with a PROCESS: a number, a name, an array or a type of processes. With too\nmany states kernel calls are made at once, but for waiting.\n\nStatus: 0 holds, 6 fails, 7 not settled; 1 to 5 as cpx";
+    "TOPIC: finished, all-waiting, run-error or run-error NAME; after it, if wanted, output VALUES,\nwhere .. stands for any values at any place; or shown VALUE, for a schedule that displays it,\nwhatever it ends in. all-waiting PROCESS.. is an end at which these wait and nobody else, and with\n.. behind them perhaps others. PROCESS: a number, a name, an array or a type of processes.\nBetween topics or may stand. A constant that is named as a topic begins is written in parentheses:\nshown (finished). Several expectations are joined by and.\nWithout words those in comments of the program are taken: (* expect never all-waiting *)\n\nWith --ends of schedules of any length, without outputs; TOPIC may be alone, spins or waiting as\nwell, each perhaps with a PROCESS. With too many states kernel calls are made at once, but not\nwhere it is asked who waits.\n\nStatus: 0 holds, 6 fails, 7 not settled; 1 to 5 as cpx";
 
 // An option as it is written, with what help says of it.
 #[derive(Clone, Copy)]
@@ -211,7 +211,7 @@ const MARKING: &[OptionWords] = &[
     OptionWords::Switch("ends", "Take schedules of any length"),
     OptionWords::Switch(
         "at-once",
-        "With --ends: make kernel calls but enter at once, so fewer states; not for waiting",
+        "With --ends: make kernel calls but enter at once, so fewer states; not for who waits",
     ),
     OptionWords::Switch(
         "own",

@@ -8,4 +8,4 @@ pub mod parts;
 mod words;
 
 pub use choosing::ScheduleChoice;
-pub use parts::{Asked, ShowPart, read_parts, refused_part};
+pub use parts::{Asked, ShowPart, read_parts};

@@ -3,15 +3,16 @@
 ghost use Rattle.std.specs.Prelude.{◌≡◌, Err, map, true};
 ghost use Rattle.cp_tool.specs.Options.{asks_version};
 
-use crate::choosing::{ScheduleChoice, choice_of};
+use crate::choosing::{ScheduleChoice, choice_of, is_endless};
 use crate::command::command;
 use crate::faults::{USUAL_STATES, choice_fault, extent_of, page_states};
-use crate::words::{shared_words, texts_of, words_given};
+use crate::words::{schedule_given, words_given};
 use clap::ArgMatches;
 use clap::error::ErrorKind;
 use cp_lanes::{PictureView, SheetExtent};
 use cp_tool::{
-    OptionFault, Options, SourceReading, asks_version, read_options, reason_for, word_reason,
+    AnalysisFlags, OptionFault, Options, OwnWords, SourceReading, asks_version, options_of,
+    word_reason,
 };
 use std::alloc::{AllocError, Global};
 
@@ -89,17 +90,18 @@ fn read_command<'a>(alloc: Global, words: &'a [&'a str]) -> Result<Asked, Option
         Err(error) => Err(match error.kind() {
             ErrorKind::OutOfMemory => OptionFault::Memory,
             ErrorKind::DisplayHelp => OptionFault::Help(format!(in alloc; "{error}")?),
-            _ => OptionFault::Refused,
+            _ => OptionFault::Refused(word_reason(alloc, &error, READING)?),
         }),
     }
 }
 
 fn read_matches(alloc: Global, matches: &ArgMatches<'_>) -> Result<Asked, OptionFault> {
     let Some((name, inner)) = matches.subcommand() else {
-        return Err(OptionFault::Refused);
+        return refuse(alloc, "a part is wanted");
     };
-    if !choice_fault(name, inner).is_empty() {
-        return Err(OptionFault::Refused);
+    let fault = choice_fault(name, inner);
+    if !fault.is_empty() {
+        return refuse(alloc, fault);
     }
     let options = options(alloc, inner, name == "ends")?;
     Ok(Asked {
@@ -131,7 +133,7 @@ fn part_of(alloc: Global, name: &str, matches: &ArgMatches<'_>) -> Result<ShowPa
             own: matches.get_flag("own"),
             json,
         },
-        _ => return Err(OptionFault::Refused),
+        _ => return refuse(alloc, "there is no such part"),
     })
 }
 
@@ -148,51 +150,33 @@ fn file_of(alloc: Global, matches: &ArgMatches<'_>) -> Result<Option<String>, Al
     name.map(|name| String::from_str(alloc, name)).transpose()
 }
 
-/// The first word of these that `read_parts` refuses, and why.
-pub fn refused_part<'a>(alloc: Global, words: &'a [&'a str]) -> Result<String, AllocError> {
-    let command = command(alloc)?;
-    match command.try_get_matches_from(words) {
-        Ok(matches) => refused_match(alloc, &matches),
-        Err(error) => match error.kind() {
-            ErrorKind::OutOfMemory => Err(AllocError),
-            _ => refused_word(alloc, format!(in alloc; "{error}")),
-        },
-    }
-}
-
-fn refused_match(alloc: Global, matches: &ArgMatches<'_>) -> Result<String, AllocError> {
-    match matches.subcommand() {
-        Some((name, inner)) => refused_option(alloc, inner, name),
-        None => String::from_str(alloc, "a part is wanted"),
-    }
-}
-
-fn refused_word(alloc: Global, message: Result<String, AllocError>) -> Result<String, AllocError> {
-    word_reason(alloc, message?.as_str(), READING)
-}
-
-// The first option of a part that `cpx` refuses, and why.
-fn refused_option(
-    alloc: Global,
-    matches: &ArgMatches<'_>,
-    name: &str,
-) -> Result<String, AllocError> {
-    let fault = choice_fault(name, matches);
-    if !fault.is_empty() {
-        return String::from_str(alloc, fault);
-    }
-    let words = shared_words(alloc, matches, name == "ends")?;
-    let texts = texts_of(alloc, &words)?;
-    reason_for(alloc, &texts, READING)
-}
-
-// The options of a part, read by `cpx`; some parts are always those of schedules of any length.
+// The options of a part; some parts are always those of schedules of any length.
 fn options(
     alloc: Global,
     matches: &ArgMatches<'_>,
     with_ends: bool,
 ) -> Result<Options, OptionFault> {
-    let words = shared_words(alloc, matches, with_ends)?;
-    let texts = texts_of(alloc, &words)?;
-    read_options(alloc, &texts)
+    let ends = with_ends || is_endless(matches) || has_endless_switch(matches);
+    let schedule = schedule_given(alloc, matches)?;
+    let own = OwnWords {
+        flags: AnalysisFlags {
+            rows: false,
+            merge: !ends,
+            ends,
+            waits: matches.get_flag("waits") || matches.get_str("wait").is_some(),
+            at_once: matches.get_flag("at-once"),
+        },
+        is_longest: true,
+        schedule: schedule.as_ref().map(|text| text.as_str()),
+    };
+    options_of(alloc, matches, own)
+}
+
+// Whether schedules are those of any length by what stands beside the schedule.
+fn has_endless_switch(matches: &ArgMatches<'_>) -> bool {
+    matches.get_flag("ends") || matches.get_str("again").is_some()
+}
+
+fn refuse<T>(alloc: Global, why: &str) -> Result<T, OptionFault> {
+    Err(OptionFault::Refused(String::from_str(alloc, why)?))
 }

@@ -6,7 +6,6 @@ use Rattle.cp_tree.specs.Syntax.{Tree}
 use Rattle.cp_slots.specs.Tables.{Tables}
 use Rattle.cp_meaning_laws.specs.Accepted.{IsAccepted}
 use Rattle.cp_machine.specs.System.{Machine}
-use Rattle.cp_machine.specs.declared.discipline.Discipline.{Discipline}
 use Rattle.cp_resolved.proofs.Resolving.{read_names}
 use Rattle.cp_resolved.specs.Enumerations.{constant_names}
 use Rattle.cp_resolved.specs.Resolving.{IsProgramOf}
@@ -25,6 +24,7 @@ use Rattle.cp_waits.specs.declared.waiting.Waits.{Waits}
 use Rattle.cp_tool.specs.declared.options.Options.{Options}
 use Rattle.cp_tool.specs.declared.answer.Verdict.{Verdict}
 use Rattle.cp_tool.specs.declared.answer.Verdict.TheVariants.{Reported, TooManyStates}
+use Rattle.cp_tool.specs.Analysis.{tells_waits}
 use Rattle.cp_tool.specs.Ends.{AreAll, AreTold, IsReportOf}
 use Rattle.cp_tool.specs.Waits.{IsWaitsReport, verdict_on}
 use Rattle.std.specs.Prelude.{◌++◌}
@@ -67,13 +67,13 @@ module _ (o : Options) (t : Tree) (r : Tables) where
     pub cut_reported : (at : ℕ) (text : List ℕ) → IsDepth f (Some at) to → text ≡ ends_text r.names f to → IsReportOf o t r f to TooManyStates text
     cut_reported at text (x, at_x, e) h = subst (λ (d : Option ℕ). IsReportOf o t r f d TooManyStates text) (sym e) (refl, by_names text h ∙ ap (ends_text (constant_names t.program) f) e)
 
-    pub whole_reported : (text : List ℕ) → o.waits ≡ false → IsDepth f None to → text ≡ ends_text r.names f to → IsReportOf o t r f to Reported text
+    pub whole_reported : (text : List ℕ) → tells_waits o.analysis ≡ false → IsDepth f None to → text ≡ ends_text r.names f to → IsReportOf o t r f to Reported text
     whole_reported text quiet e h =
         let so : MatchBool false (IsWaitsReport o t r f Reported text) ((Reported ≡ Reported) × (text ≡ ends_text (constant_names t.program) f None)) = (refl, by_names text h ∙ ap (ends_text (constant_names t.program) f) e) in
         subst (λ (d : Option ℕ). IsReportOf o t r f d Reported text) (sym e)
         (subst (λ (b : Bool). MatchBool b (IsWaitsReport o t r f Reported text) ((Reported ≡ Reported) × (text ≡ ends_text (constant_names t.program) f None))) (sym quiet) so)
 
-    pub waits_reported : (found : Found) (waits : Waits) (verdict : Verdict) (text : List ℕ) → TellAsked r o.discipline o.steps o.waits found (Some waits) → IsDepth f found.stopped to → verdict ≡ verdict_on waits → text ≡ ends_text r.names f to ++ waits_text waits → TellWho r o.discipline o.steps f.ends waits → IsReportOf o t r f to verdict text
+    pub waits_reported : (found : Found) (waits : Waits) (verdict : Verdict) (text : List ℕ) → TellAsked r o.discipline o.steps (tells_waits o.analysis) found (Some waits) → IsDepth f found.stopped to → verdict ≡ verdict_on waits → text ≡ ends_text r.names f to ++ waits_text waits → TellWho r o.discipline o.steps f.ends waits → IsReportOf o t r f to verdict text
     waits_reported found waits verdict text asked d v h tell =
         let whole : to ≡ None = subst (λ (s : Option ℕ). IsDepth f s to) asked.1 d in
         let report : IsWaitsReport o t r f verdict text = (waits, v, h ∙ ap (λ (l : List ℕ). l ++ waits_text waits) (by_names (ends_text r.names f to) refl ∙ ap (ends_text (constant_names t.program) f) whole), tell) in

@@ -21,6 +21,7 @@ use Rattle.cp_machine_laws.proofs.Meaning.{runs_as_meant}
 use Rattle.cp_resolved.proofs.Resolving.{read_names}
 use Rattle.cp_walk.specs.Text.{Spellings}
 use Rattle.cp_walk.specs.TraceText.{trace_text}
+use Rattle.cp_tool.specs.Analysis.{is_merged}
 use Rattle.cp_tool.specs.Answered.{IsReported, IsTraced, IsExplored, IsExploredAlone}
 use Rattle.cp_tool.specs.Merged.{IsMerged, IsMergedOf}
 use Rattle.cp_tool.specs.OnSlots.{IsExploredOn, machine, machine_rows}
@@ -48,7 +49,7 @@ module _ (t : Tree) (r : Tables) (o : Options) (verdict : Verdict) (text : List 
   RowsOnSlots merge names = MatchBool merge (IsMerged o (machine o r) names (machine_rows o r) verdict text) (IsReported o names (machine_rows o r) verdict text)
 
   abbrev OnSlots : Option (ArrayVec ℕ) → Spellings → Type 0
-  OnSlots schedule names = MatchOption schedule (RowsOnSlots o.merge names) (λ word. IsTraced o (machine o r) names word.items verdict text)
+  OnSlots schedule names = MatchOption schedule (RowsOnSlots (is_merged o.analysis) names) (λ word. IsTraced o (machine o r) names word.items verdict text)
 
   same : SameRuns meaning (machine o r) o.choices o.steps
   same = runs_as_meant t r o.discipline read ok is.laid o.choices o.steps
@@ -57,8 +58,8 @@ module _ (t : Tree) (r : Tables) (o : Options) (verdict : Verdict) (text : List 
   reported true names h = (r, is, subst (λ (rows : List Line). IsMerged o (machine o r) names rows verdict text) (sym same.tables) h)
   reported false names h = subst (λ (rows : List Line). IsReported o names rows verdict text) (sym same.tables) h
 
-  by_schedule : (schedule : Option (ArrayVec ℕ)) (names : Spellings) → OnSlots schedule names → MatchOption schedule (Rows o.merge names) (λ word. IsTraced o meaning names word.items verdict text)
-  by_schedule None names h = reported o.merge names h
+  by_schedule : (schedule : Option (ArrayVec ℕ)) (names : Spellings) → OnSlots schedule names → MatchOption schedule (Rows (is_merged o.analysis) names) (λ word. IsTraced o meaning names word.items verdict text)
+  by_schedule None names h = reported (is_merged o.analysis) names h
   by_schedule (Some word) names h = traced meaning (machine o r) o names verdict text same word.items h
 
   explored_so : IsExploredOn o r verdict text → IsExplored o t verdict text

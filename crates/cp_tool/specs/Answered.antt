@@ -17,6 +17,7 @@ use Rattle.cp_walk.specs.TraceText.{trace_text}
 use Rattle.cp_front.specs.Loading.{IsRefusedWith, Loads}
 use Rattle.cp_front.specs.declared.transfer.StreamFault.{StreamFault}
 use Rattle.cp_front.specs.declared.transfer.StreamFault.TheVariants as fault
+use Rattle.cp_tool.specs.Analysis.{is_merged, lists_rows}
 use Rattle.cp_tool.specs.Merged.{IsMergedOf}
 use Rattle.cp_tool.specs.declared.options.Options.{Options}
 use Rattle.cp_tool.specs.declared.answer.Verdict.{Verdict}
@@ -25,7 +26,7 @@ use Rattle.cp_tool.specs.declared.answer.Verdict.TheVariants.{Reported, Refused,
 -- the report of these rows, or that there are more than are shown
 abbrev pub IsReported : Options → Spellings → List Line → Verdict → List ℕ → Type 0
 IsReported o names rows verdict text =
-    ((verdict ≡ Reported) × (length rows ≤ 50000) × (text ≡ report_text names rows o.rows)) ⊎ ((verdict ≡ TooManyRows) × (50000 < length rows) × (text ≡ codes "too many rows\n"))
+    ((verdict ≡ Reported) × (length rows ≤ 50000) × (text ≡ report_text names rows (lists_rows o.analysis))) ⊎ ((verdict ≡ TooManyRows) × (50000 < length rows) × (text ≡ codes "too many rows\n"))
 
 -- the trace of this schedule
 abbrev pub IsTraced : {S : Type 0} → Options → System S → Spellings → List ℕ → Verdict → List ℕ → Type 0
@@ -37,7 +38,7 @@ IsExplored o t verdict text =
     let meaning = named t (named_discipline o.discipline) in
     let names = constant_names t.program in
     let rows = table meaning o.choices o.steps in
-    MatchOption o.schedule (MatchBool o.merge (IsMergedOf o t names rows verdict text) (IsReported o names rows verdict text)) (λ word. IsTraced o meaning names word.items verdict text)
+    MatchOption o.schedule (MatchBool (is_merged o.analysis) (IsMergedOf o t names rows verdict text) (IsReported o names rows verdict text)) (λ word. IsTraced o meaning names word.items verdict text)
 
 -- the same, and that in no state which the program reaches two processes are inside one monitor
 abbrev pub IsExploredAlone : Options → Tree → Verdict → List ℕ → Type 0

@@ -16,6 +16,7 @@ use Rattle.cp_ends.specs.Named.{IsAnswerOnNames, IsAnswerToOnNames}
 use Rattle.cp_ends.specs.Told.{ends_text}
 use Rattle.cp_ends.specs.Whole.{IsWhole, IsCutShort}
 use Rattle.cp_ends.specs.declared.found.TheConstants.{MOST_VALUES}
+use Rattle.cp_tool.specs.Analysis.{is_at_once, is_endless, tells_waits}
 use Rattle.cp_tool.specs.Answered.{Answering, IsExploredAlone}
 use Rattle.cp_tool.specs.declared.options.Options.{Options}
 use Rattle.cp_tool.specs.declared.answer.Verdict.{Verdict}
@@ -44,7 +45,7 @@ AreAll o t r f (Some choices) = IsCompleteTo o t r f choices
 -- its report; where nothing is left out, with `--waits` who may wait for ever stands after it
 abbrev pub IsReportOf : Options → Tree → Tables → SlotFindings → Option ℕ → Verdict → List ℕ → Type 0
 IsReportOf o t r f None verdict text =
-    MatchBool o.waits (IsWaitsReport o t r f verdict text) ((verdict ≡ Reported) × (text ≡ ends_text (constant_names t.program) f None))
+    MatchBool (tells_waits o.analysis) (IsWaitsReport o t r f verdict text) ((verdict ≡ Reported) × (text ≡ ends_text (constant_names t.program) f None))
 IsReportOf o t r f (Some choices) verdict text = (verdict ≡ TooManyStates) × (text ≡ ends_text (constant_names t.program) f (Some choices))
 
 abbrev pub AreTold : Options → Tree → Tables → Verdict → List ℕ → Type 0
@@ -54,7 +55,7 @@ AreTold o t r verdict text = (f : SlotFindings) × (to : Option ℕ) × AreAll o
 
 -- the ends, by the tables of the program
 abbrev pub AreEndsBy : Options → Tree → Tables → Verdict → List ℕ → Type 0
-AreEndsBy o t r verdict text = MatchBool o.at_once (IsAtOnceReport o t r verdict text) (AreTold o t r verdict text)
+AreEndsBy o t r verdict text = MatchBool (is_at_once o.analysis) (IsAtOnceReport o t r verdict text) (AreTold o t r verdict text)
 
 -- with `--ends`; and in no state that the program reaches two processes are inside one monitor
 abbrev pub AreEnds : Options → Answering
@@ -62,7 +63,7 @@ AreEnds o t verdict text = ((r : Tables) × IsProgramOf t r × AreEndsBy o t r v
 
 -- whether it is asked for ends, and not for one schedule
 abbrev pub asks_ends : Options → Bool
-asks_ends o = o.ends && is_none o.schedule
+asks_ends o = is_endless o.analysis && is_none o.schedule
 
 abbrev pub IsAnswered : Options → Answering
 IsAnswered o t verdict text = MatchBool (asks_ends o) (AreEnds o t verdict text) (IsExploredAlone o t verdict text)

@@ -1,3 +1,4 @@
+pub mod Analysis
 pub mod Answered
 pub mod AtOnce
 pub mod Command

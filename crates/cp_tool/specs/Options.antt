@@ -1,5 +1,5 @@
 -- What the options have of the words, and which fault the words have.
-use Rattle.std.specs.Prelude.{◌≡◌, ◌&&◌, ◌||◌, ℕ, Bool, false, true, not, List, [], ◌∷◌, Some, None, codes, IsSomeAnd, MatchOption, Option, is_some, take}
+use Rattle.std.specs.Prelude.{◌≡◌, ◌≤◌, ℕ, Bool, false, true, if◌then◌else◌, List, [], ◌∷◌, Some, None, codes, IsSomeAnd, MatchOption, Option, take, unwrap_or}
 use Rattle.arrayvec.specs.ArrayVec.{ArrayVec}
 use Rattle.clap.specs.Words.{IsAmong, Row, Text, first_of}
 use Rattle.std.specs.Str.{bytes_eq}
@@ -10,106 +10,85 @@ use Rattle.cp_machine.specs.declared.discipline.Gates.TheVariants.{First, Any}
 use Rattle.cp_machine.specs.declared.discipline.Signals.{Signals}
 use Rattle.cp_machine.specs.declared.discipline.Signals.TheVariants.{Return, Continue, Wait}
 use Rattle.cp_machine.specs.Discipline.{IsDiscipline}
+use Rattle.cp_tool.specs.Analysis.{analysis_for, most_choices, usual_choices}
 use Rattle.cp_tool.specs.Command.{faults_for, rows_for}
-use Rattle.cp_tool.specs.Numbers.{IsChosen}
-use Rattle.cp_tool.specs.Words.{IsWord, default_choices, most_choices, spelled}
-use Rattle.cp_tool.specs.declared.command_line.CommandKind.{CommandKind}
+use Rattle.cp_tool.specs.Numbers.{IsChosen, Reads}
+use Rattle.cp_tool.specs.Words.{IsWord, spelled}
+use Rattle.cp_tool.specs.declared.analysis.Analysis.{Analysis}
+use Rattle.cp_tool.specs.declared.analysis.Analysis.TheVariants.{EndsAndWaits, EndsAtOnce}
+use Rattle.cp_tool.specs.declared.analysis.AnalysisFlags.{AnalysisFlags}
 use Rattle.cp_tool.specs.declared.options.Options.{Options}
 use Rattle.cp_tool.specs.declared.options.OptionFault.{OptionFault}
 use Rattle.cp_tool.specs.declared.options.OptionFault.TheVariants.{Refused, Memory, Help, Version}
 
-abbrev pub gates_text : Gates → Text
-gates_text First = codes "first"
-gates_text Any = codes "any"
+-- the gates of a text, or those of the book where there is none
+abbrev pub gates_named : Option Text → Option Gates
+gates_named None = Some First
+gates_named (Some text) = if bytes_eq text (codes "first") then Some First else if bytes_eq text (codes "any") then Some Any else None
 
--- the gates that the text names, or first where there is no text
-abbrev pub IsGated : Option Text → Gates → Type 0
-IsGated text gates = MatchOption text (gates ≡ First) (λ t. t ≡ gates_text gates)
+-- who goes on after a continue, by a text; by the book where there is none
+abbrev pub signals_named : Option Text → Option Signals
+signals_named None = Some Return
+signals_named (Some text) =
+    if bytes_eq text (codes "return") then Some Return else if bytes_eq text (codes "continue") then Some Continue else if bytes_eq text (codes "wait") then Some Wait else None
 
-abbrev pub signals_text : Signals → Text
-signals_text Return = codes "return"
-signals_text Continue = codes "continue"
-signals_text Wait = codes "wait"
+abbrev pub IsNamed : (gates signals : Option Text) → Discipline → Type 0
+IsNamed gates signals d = (gates_named gates ≡ Some d.gates) × (signals_named signals ≡ Some d.signals)
 
--- who goes on after a continue, by the text, or who was resumed where there is no text
-abbrev pub IsSignalled : Option Text → Signals → Type 0
-IsSignalled text signals = MatchOption text (signals ≡ Return) (λ t. t ≡ signals_text signals)
+-- Who may wait for ever is told where the first in line goes in; calls are made at once by the book; else whatever can be kept will do.
+abbrev pub Suits : Analysis → Discipline → Type 0
+Suits EndsAndWaits d = d.gates ≡ First
+Suits EndsAtOnce d = (d.gates ≡ First) × (d.signals ≡ Return)
+Suits _ d = IsDiscipline d
 
--- It can be kept. Where that is asked for, it is the first in line that goes in, and the caller of a continue that goes out.
-pub record MayBeAsked (is_first returns : Bool) (d : Discipline) : Type 0 where
-  pub kept : IsDiscipline d
-  pub first : is_first ≡ true → d.gates ≡ First
-  pub back : returns ≡ true → d.signals ≡ Return
+-- what the words name, with the book for what they don't
+abbrev pub rules_for : List Row → Discipline
+rules_for rows = record { gates = unwrap_or (gates_named (first_of (codes "gates") rows)) First; signals = unwrap_or (signals_named (first_of (codes "signals") rows)) Return }
 
--- both as the texts say, in a discipline that may be asked for
-pub record IsDisciplined (is_first returns : Bool) (gates signals : Option Text) (d : Discipline) : Type 0 where
-  pub gated : IsGated gates d.gates
-  pub signalled : IsSignalled signals d.signals
-  pub asked : MayBeAsked is_first returns d
+-- what a text says, if there is one
+abbrev pub IsOptional : {T : Type 0} → (Text → T → Type 0) → Option Text → Option T → Type 0
+IsOptional Says text value = MatchOption text (value ≡ None) (λ t. IsSomeAnd value (Says t))
 
--- the word of at most so many numbers that the text spells, or none where there is no text
+-- the word of at most so many numbers that the text spells
 abbrev pub IsScheduled : ℕ → Option Text → Option (ArrayVec ℕ) → Type 0
-IsScheduled most text schedule = MatchOption text (schedule ≡ None) (λ t. IsSomeAnd schedule (λ w. IsWord most w.items × (spelled w.items ≡ t)))
+IsScheduled most = IsOptional (λ t w. IsWord most w.items × (spelled w.items ≡ t))
+
+-- to how many choices schedules are dealt out
+abbrev pub IsCut : Option Text → Option ℕ → Type 0
+IsCut = IsOptional (λ t depth. Reads t depth × (depth ≤ 20))
 
 -- whether the text of a flag says that it was given
 abbrev pub is_asked : Option Text → Bool
 is_asked None = false
 is_asked (Some text) = bytes_eq text (codes "true")
 
--- whether schedules are to be counted together, and whether their ends are asked for in any length
-abbrev pub asks_merge : List Row → Bool
-asks_merge rows = is_asked (first_of (codes "merge") rows)
+abbrev pub flags_of : List Row → AnalysisFlags
+flags_of rows = let asks = λ (name : Text). is_asked (first_of name rows) in record { rows = asks (codes "rows"); merge = asks (codes "merge"); ends = asks (codes "ends"); waits = asks (codes "waits"); at_once = asks (codes "at-once") }
 
-abbrev pub asks_ends : List Row → Bool
-asks_ends rows = is_asked (first_of (codes "ends") rows)
-
-abbrev pub asks_waits : List Row → Bool
-asks_waits rows = is_asked (first_of (codes "waits") rows)
-
-abbrev pub asks_at_once : List Row → Bool
-asks_at_once rows = is_asked (first_of (codes "at-once") rows)
-
--- who may wait for ever, or that calls are made at once: both are asked of the gates at which the first in line goes in
-abbrev pub asks_first : List Row → Bool
-asks_first rows = asks_waits rows || asks_at_once rows
-
--- Schedules are asked to be taken together in two ways; or who may wait for ever, or calls at once, in none of any length; or both of these.
-abbrev pub clashes : List Row → Bool
-clashes rows = ((asks_merge rows && asks_ends rows) || (asks_first rows && not (asks_ends rows))) || (asks_waits rows && asks_at_once rows)
-
--- so it is told: whether schedules are taken together, whether in any length, who may wait for ever, whether calls are made at once, and whether the words clash
-pub record IsKind (rows : List Row) (k : CommandKind) : Type 0 where
-  pub merge : k.merge ≡ (asks_merge rows || asks_ends rows)
-  pub ends : k.ends ≡ asks_ends rows
-  pub waits : k.waits ≡ asks_waits rows
-  pub at_once : k.at_once ≡ asks_at_once rows
-  pub clash : k.clash ≡ clashes rows
-
--- each option has the value that the matches have for it; where schedules are taken together there are no rows, and they are so in one way
-pub record HasOptions (rows : List Row) (o : Options) : Type 0 where
-  pub merge : o.merge ≡ (asks_merge rows || asks_ends rows)
-  pub ends : o.ends ≡ asks_ends rows
-  pub waits : o.waits ≡ asks_waits rows
-  pub at_once : o.at_once ≡ asks_at_once rows
-  pub one : clashes rows ≡ false
-  pub choices : IsChosen (default_choices o.ends) 0 (most_choices o.merge) (first_of (codes "choices") rows) o.choices
+-- the flags can stand together, and each option has the value that they, the text of the schedule and the matches have for it
+pub record HasOptions (flags : AnalysisFlags) (is_longest : Bool) (word : Option Text) (rows : List Row) (o : Options) : Type 0 where
+  pub analysis : analysis_for flags ≡ Some o.analysis
+  pub choices : IsChosen (usual_choices is_longest o.analysis) 0 (most_choices o.analysis) (first_of (codes "choices") rows) o.choices
   pub steps : IsChosen 1000 1 100000 (first_of (codes "steps") rows) o.steps
   pub workers : IsChosen 2 1 16 (first_of (codes "workers") rows) o.workers
-  pub cut : IsChosen 2 0 20 (first_of (codes "cut") rows) o.cut
-  pub cut_given : o.cut_is_given ≡ is_some (first_of (codes "cut") rows)
-  pub rows_asked : o.rows ≡ is_asked (first_of (codes "rows") rows)
+  pub cut : IsCut (first_of (codes "cut") rows) o.cut
   pub states : IsChosen 200000 1 10000000 (first_of (codes "states") rows) o.states
-  pub schedule : IsScheduled (most_choices o.merge) (first_of (codes "schedule") rows) o.schedule
-  pub discipline : IsDisciplined (asks_first rows) (asks_at_once rows) (first_of (codes "gates") rows) (first_of (codes "signals") rows) o.discipline
+  pub schedule : IsScheduled (most_choices o.analysis) word o.schedule
+  pub named : IsNamed (first_of (codes "gates") rows) (first_of (codes "signals") rows) o.discipline
+  pub suits : Suits o.analysis o.discipline
+
+-- those of `cpx`: with `--ends` a schedule has as many choices as it can
+abbrev pub HasGiven : List Row → Options → Type 0
+HasGiven rows = HasOptions (flags_of rows) (flags_of rows).ends (first_of (codes "schedule") rows) rows
 
 -- no word is refused, and each option has the value that the words have for it
 abbrev pub Gives : List Text → Options → Type 0
-Gives words o = (faults_for words ≡ []) × HasOptions (rows_for words) o
+Gives words o = (faults_for words ≡ []) × HasGiven (rows_for words) o
 
 -- the words ask for nothing that `clap` refuses, and yet no options have the values that they give
 pub record HasRefusedValue (words : List Text) : Type 0 where
   pub matched : faults_for words ≡ []
-  pub none : (o : Options) → ¬ HasOptions (rows_for words) o
+  pub none : (o : Options) → ¬ HasGiven (rows_for words) o
 
 -- so do the first of the words, as many as some number says
 pub record BeginsRefused (words : List Text) : Type 0 where
@@ -125,6 +104,6 @@ asks_version _ = false
 -- where they ask for help only if a value before that is refused
 abbrev pub IsFaultFor : List Text → OptionFault → Type 0
 IsFaultFor words (Help text) = IsAmong DisplayHelp (faults_for words)
-IsFaultFor words Refused = (faults_for words ≡ DisplayHelp ∷ [] → BeginsRefused words) × ((o : Options) → ¬ Gives words o)
+IsFaultFor words (Refused why) = (faults_for words ≡ DisplayHelp ∷ [] → BeginsRefused words) × ((o : Options) → ¬ Gives words o)
 IsFaultFor words Memory = Unit {0}
 IsFaultFor words Version = asks_version words ≡ true

@@ -1,13 +1,5 @@
 -- Schedule words and how they are spelled.
-use Rattle.std.specs.Prelude.{ℕ, Bool, if◌then◌else◌, ◌≤◌, List, [], ◌∷◌, ◌++◌, codes, decimal, length, All, flat_map}
-
--- the most choices of a schedule, where states are merged and where not
-abbrev pub most_choices : Bool → ℕ
-most_choices merge = if merge then 100 else 20
-
--- the choices of a schedule, where the words say none: with ends and without
-abbrev pub default_choices : Bool → ℕ
-default_choices ends = if ends then 100 else 8
+use Rattle.std.specs.Prelude.{ℕ, ◌≤◌, List, [], ◌∷◌, ◌++◌, codes, decimal, length, All, flat_map}
 
 -- at most so many numbers of at most 15
 abbrev pub IsWord : ℕ → List ℕ → Type 0

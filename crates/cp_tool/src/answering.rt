@@ -49,7 +49,7 @@ pub fn answer_stream<X: Threads + Sync, O: ObserveWork, R: Source, W: Sink>(
 fn asks_ends(options: &Options) -> bool
     ensures { result ≡ asks_ends options.now }
 {
-    options.ends && options.schedule.is_none()
+    options.analysis.is_endless() && options.schedule.is_none()
 }
 
 /// The same, where the ends are asked for that are possible with any number of choices. No thread is started.

@@ -1,6 +1,6 @@
 //! How the schedules are dealt out to the workers.
 
-ghost use Rattle.std.specs.Prelude.{◌≡◌, false};
+ghost use Rattle.std.specs.Prelude.{◌≡◌, None};
 
 use crate::options::Options;
 use cp_explore::Cutting;
@@ -19,10 +19,10 @@ pub fn deal<O: ObserveProgress>(
     observer: &mut O,
 ) -> Result<(), AllocError>
     ensures job { cutting.new.job ≡ cutting.old.job }
-    ensures alone { options.now.cut_is_given ≡ false → options.now.workers ≡ 1 → cutting.new.words ≡ cutting.old.words }
+    ensures alone { options.now.cut ≡ None → options.now.workers ≡ 1 → cutting.new.words ≡ cutting.old.words }
 {
-    if options.cut_is_given {
-        return cutting.to_depth_observed(alloc, options.cut, observer);
+    if let Some(depth) = options.cut {
+        return cutting.to_depth_observed(alloc, depth, observer);
     }
     if options.workers == 1 {
         return Ok(());

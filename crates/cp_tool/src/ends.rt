@@ -4,6 +4,7 @@ ghost use Rattle.std.specs.Prelude.{◌≡◌, ◌⊎◌, ℕ, Option, IfOk};
 ghost use Rattle.cp_ends.specs.Told.{IsDepth};
 ghost use Rattle.cp_ends.specs.Whole.{IsAnswer};
 ghost use Rattle.cp_tool.specs.Ends as spec;
+ghost use Rattle.cp_tool.specs.Analysis.{tells_waits};
 ghost use Rattle.cp_tool.specs.AtOnce.{IsAtOnceReport};
 ghost use Rattle.cp_tool.specs.OfTables.{OfPrograms};
 ghost use Rattle.cp_tool.specs.Waits.{verdict_on};
@@ -30,7 +31,7 @@ pub fn find_ends<O: ObserveProgress>(
     ensures { IfOk result (λ a. OfPrograms program.now (λ t. spec.AreEndsBy options.now t program.now a.verdict a.text)) }
 {
     let limits = options.limits();
-    if options.at_once {
+    if options.analysis.is_at_once() {
         at_once_answer(alloc, options, observer, &Job { program, limits })
     } else {
         ends_answer(alloc, options, observer, &Job { program, limits })
@@ -48,13 +49,14 @@ fn ends_answer<O: ObserveProgress>(
     requires discipline { job.now.limits.discipline ≡ options.now.discipline }
     ensures { IfOk result (λ a. OfPrograms job.now.program.now (λ t. spec.AreTold options.now t job.now.program.now a.verdict a.text)) }
 {
-    let found = find_waits(alloc, job, options.states, options.waits, observer)?;
+    let waits = options.analysis.tells_waits();
+    let found = find_waits(alloc, job, options.states, waits, observer)?;
     report_of(alloc, job.program, &found)
 }
 
 // The report of what was found, and of who may wait for ever where that is known.
 fn report_of(alloc: Global, program: &Resolved, found: &FoundWaits) -> Result<Answer, AllocError>
-    ensures { IfOk result (λ a. OfPrograms program.now (λ t. (o : Options) (x : IsAnswer program.now o.discipline o.steps o.states found.now.found) (to : Option ℕ) → TellAsked program.now o.discipline o.steps o.waits found.now.found found.now.waits → IsDepth x.findings found.now.found.stopped to → spec.IsReportOf o t program.now x.findings to a.verdict a.text)) }
+    ensures { IfOk result (λ a. OfPrograms program.now (λ t. (o : Options) (x : IsAnswer program.now o.discipline o.steps o.states found.now.found) (to : Option ℕ) → TellAsked program.now o.discipline o.steps (tells_waits o.analysis) found.now.found found.now.waits → IsDepth x.findings found.now.found.stopped to → spec.IsReportOf o t program.now x.findings to a.verdict a.text)) }
 {
     let ends = &found.found;
     if let Some(waits) = &found.waits {

@@ -4,6 +4,7 @@ ghost use Rattle.std.specs.Prelude.{◌≡◌, ◌<◌, ◌≤◌, false, length
 ghost use Rattle.cp_run.specs.Slots.{slots};
 ghost use Rattle.cp_run.specs.Table.{table};
 ghost use Rattle.cp_walk.specs.Rows.{line_of, IsTooMany};
+ghost use Rattle.cp_tool.specs.Analysis.{is_merged};
 ghost use Rattle.cp_tool.specs.Answered as spec;
 ghost use Rattle.cp_tool.specs.Merged as merging;
 ghost use Rattle.cp_tool.specs.OnSlots as on_slots;
@@ -35,7 +36,7 @@ pub fn explore_program<X: Threads + Sync, O: ObserveProgress>(
     match &options.schedule {
         Some(word) => trace_schedule(alloc, options, program, word.as_slice()),
         None => {
-            if options.merge {
+            if options.analysis.is_merged() {
                 report_merged(alloc, options, observer, program)
             } else {
                 report_table(rt, alloc, options, observer, program)
@@ -98,14 +99,14 @@ fn report_table<X: Threads + Sync, O: ObserveProgress>(
     observer: &mut O,
     program: &Resolved,
 ) -> Result<Answer, AllocError>
-    requires { options.now.merge ≡ false }
+    requires { is_merged options.now.analysis ≡ false }
     ensures { IfOk result (λ a. spec.IsReported options.now program.now.names (on_slots.machine_rows options.now program.now) a.verdict a.text) }
 {
     let limits = options.limits();
     match tabulate(rt, alloc, options, observer, &Job { program, limits }) {
         Ok(table) => Ok(Answer {
             verdict: Verdict::Reported,
-            text: report(alloc, program, &table, options.rows)?.text,
+            text: report(alloc, program, &table, options.analysis.lists_rows())?.text,
         }),
         Err(ExploreFault::TooManyRows) => Ok(Answer {
             verdict: Verdict::TooManyRows,

@@ -1,9 +1,11 @@
 //! The options and their ranges, and why there are none.
-ghost use Rattle.std.specs.Prelude.{◌≡◌, ◌≤◌, ◌&&◌, false, true};
+ghost use Rattle.std.specs.Prelude.{◌≡◌, ◌≤◌};
 ghost use Rattle.std.specs.Option.{ForSome};
 ghost use Rattle.cp_machine.specs.Discipline.{IsDiscipline};
-ghost use Rattle.cp_tool.specs.Words.{IsWord, most_choices};
+ghost use Rattle.cp_tool.specs.Analysis.{most_choices};
+ghost use Rattle.cp_tool.specs.Words.{IsWord};
 
+use crate::analysis::Analysis;
 use arrayvec::ArrayVec;
 use cp_machine::Discipline;
 use cp_run::{Limits, MOST_CHOICES};
@@ -18,38 +20,25 @@ pub struct Options {
     pub steps: u32,
     /// How many threads explore.
     pub workers: u8,
-    /// To how many choices the schedules are dealt out to the threads.
-    pub cut: u8,
-    /// Whether the words say so.
-    pub cut_is_given: bool,
-    /// Whether the report has a line for each row.
-    pub rows: bool,
-    /// Whether schedules that come to one state are taken together.
-    pub merge: bool,
-    /// Whether they are so in any length, for the ends that are possible.
-    pub ends: bool,
-    /// Whether it is asked as well who may wait for ever.
-    pub waits: bool,
-    /// Whether kernel calls are made at once for them, so that fewer states are kept.
-    pub at_once: bool,
+    /// To how many choices the schedules are dealt out to the threads, if the words say so.
+    pub cut: Option<u8>,
+    pub analysis: Analysis,
     /// The most states, of a layer or in all, where they are.
     pub states: u32,
     /// The one schedule to be traced, if any.
     pub schedule: Option<ArrayVec<u8, 100>>,
     /// Who goes into a monitor that becomes free, and who goes on after a `continue`.
     pub discipline: Discipline,
-    ghost choices_range: { choices ≤ most_choices merge },
+    ghost choices_range: { choices ≤ most_choices analysis },
     ghost steps_range: { steps ≤ 100000 },
     ghost some_step: { 1 ≤ steps },
     ghost workers_range: { workers ≤ 16 },
     ghost some_worker: { 1 ≤ workers },
-    ghost cut_range: { cut ≤ 20 },
-    ghost rows_or_merge: { (merge && rows) ≡ false },
-    ghost ends_merge: { ends ≡ true → merge ≡ true },
+    ghost cut_range: { ForSome cut (λ depth. depth ≤ 20) },
     ghost states_range: { states ≤ 10000000 },
     ghost some_state: { 1 ≤ states },
     ghost kept: { IsDiscipline discipline },
-    ghost schedule_range: { ForSome schedule (λ w. IsWord (most_choices merge) w.items) },
+    ghost schedule_range: { ForSome schedule (λ w. IsWord (most_choices analysis) w.items) },
 }
 
 impl Options {
@@ -74,8 +63,8 @@ impl Options {
 /// Why there are no options.
 #[derive(Drop)]
 pub enum OptionFault {
-    /// The words are refused.
-    Refused,
+    /// The words are refused, and this says why.
+    Refused(String),
     /// Memory was refused.
     Memory,
     /// The words ask for help, and this is its text.

@@ -1,10 +1,41 @@
 //! Schedule words and their texts.
-ghost use Rattle.std.specs.Prelude.{◌≡◌, ◌≤◌, ℕ, List, IfOk, IfSome, IsSomeAnd, string_bytes};
-ghost use Rattle.cp_tool.specs.Finds.{Finds};
+ghost use Rattle.std.specs.Prelude.{◌≡◌, ◌≤◌, ℕ, List, IfOk, IfSome, IsSomeAnd, option_map, string_bytes};
+ghost use Rattle.cp_tool.specs.Finds.{Finds, Obtains};
+ghost use Rattle.cp_tool.specs.Options.{IsScheduled};
 ghost use Rattle.cp_tool.specs.Words.{IsWord, spelled};
 
+use crate::options::OptionFault;
 use arrayvec::ArrayVec;
 use std::alloc::{AllocError, Global};
+
+/// The word of at most so many numbers that the text of an option spells, if there is a text.
+pub fn schedule_of(
+    alloc: Global,
+    text: Option<&str>,
+    most: u8,
+) -> Result<Option<ArrayVec<u8, 100>>, OptionFault>
+    requires { most ≤ 100 }
+    ensures { Obtains (IsScheduled most (option_map (λ s. s.now) text.entry)) result }
+{
+    let Some(text) = text else {
+        return Ok(None);
+    };
+    let Some(word) = word_of(alloc, text, most)? else {
+        let why = schedule_reason(alloc, text, most)?;
+        return Err(OptionFault::Refused(why));
+    };
+    Ok(Some(word))
+}
+
+// Why a text spells no word of at most so many numbers.
+fn schedule_reason(alloc: Global, text: &str, most: u8) -> Result<String, AllocError> {
+    if word_of(alloc, text, 100)?.is_some() {
+        return format!(in alloc; "--schedule {text}: at most 20 numbers without --merge or --ends");
+    }
+    format!(in alloc;
+        "--schedule {text}: `none`, or up to {most} numbers 0 to 15 joined by periods"
+    )
+}
 
 /// The word of at most so many numbers that the text spells, or `None` where it spells none. The text is read leniently, and
 /// what was read is spelled again: where that is another text, the first spells no word.

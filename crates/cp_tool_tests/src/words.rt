@@ -1,6 +1,6 @@
 use cp_machine::{Gates, Signals};
 use cp_tests::answers::{CallAnswer, ample_answer, are_right};
-use cp_tool::{OptionFault, Options, read_options};
+use cp_tool::{Analysis, OptionFault, Options, read_options};
 use std::alloc::Global;
 
 const ALL: [&str; 14] = [
@@ -183,9 +183,9 @@ fn has_defaults(options: &Options) -> bool {
     let has_numbers = options.choices == 8
         && options.steps == 1_000
         && options.workers == 2
-        && options.cut == 2
+        && options.cut.is_none()
         && options.states == 200_000;
-    let is_plain = !options.cut_is_given && !options.rows && !options.merge && !options.ends;
+    let is_plain = matches!(options.analysis, Analysis::Table { rows: false });
     has_numbers
         && is_plain
         && options.schedule.is_none()
@@ -198,8 +198,9 @@ fn has_values_of_merged(options: &Options) -> bool {
         Some(word) => word.len() == 21 && word.last() == Some(&15),
         None => false,
     };
-    let is_merged = options.merge && !options.ends && options.discipline.signals == Signals::Wait;
-    is_merged && options.states == 10_000_000 && options.choices == 100 && is_word
+    let is_merged = matches!(options.analysis, Analysis::Merged);
+    let is_waiting = options.discipline.signals == Signals::Wait;
+    is_merged && is_waiting && options.states == 10_000_000 && options.choices == 100 && is_word
 }
 
 fn has_values_of_ends(options: &Options) -> bool {
@@ -207,16 +208,17 @@ fn has_values_of_ends(options: &Options) -> bool {
         Some(word) => word.len() == 21,
         None => false,
     };
-    options.ends && options.choices == 100 && options.steps == 7 && is_word
+    let is_asked = matches!(options.analysis, Analysis::Ends);
+    is_asked && options.choices == 100 && options.steps == 7 && is_word
 }
 
 fn has_values_of_waits(options: &Options) -> bool {
-    let is_asked = options.ends && options.waits && !options.at_once;
+    let is_asked = matches!(options.analysis, Analysis::EndsAndWaits);
     is_asked && options.discipline.signals == Signals::Wait
 }
 
 fn has_values_of_at_once(options: &Options) -> bool {
-    let is_asked = options.ends && options.at_once && !options.waits;
+    let is_asked = matches!(options.analysis, Analysis::EndsAtOnce);
     is_asked && options.discipline.signals == Signals::Return
 }
 
@@ -224,10 +226,9 @@ fn has_values_of_all(options: &Options) -> bool {
     let has_numbers = options.choices == 5
         && options.steps == 100_000
         && options.workers == 16
-        && options.cut == 0
-        && options.cut_is_given;
+        && options.cut == Some(0);
     has_numbers
-        && options.rows
+        && matches!(options.analysis, Analysis::Table { rows: true })
         && options.discipline.gates == Gates::Any
         && options.discipline.signals == Signals::Continue
         && has_word(options, &[0, 0, 2, 15])
@@ -258,7 +259,7 @@ fn all_or_memory(alloc: Global) -> CallAnswer {
 
 fn refusal_or_memory(alloc: Global) -> CallAnswer {
     match read_options(alloc, ["cpx", "--schedule", "0.1.02"].as_slice()) {
-        Err(OptionFault::Refused) => CallAnswer::Ample,
+        Err(OptionFault::Refused(_why)) => CallAnswer::Ample,
         Err(OptionFault::Memory) => CallAnswer::Memory,
         _ => CallAnswer::Other,
     }
@@ -277,7 +278,7 @@ fn has_values_of_spellings(options: &Options) -> bool {
     let has_numbers = options.choices == 5
         && options.steps == 20
         && options.workers == 1
-        && options.cut == 0;
+        && options.cut == Some(0);
     has_numbers
         && options.discipline.gates == Gates::First
         && options.discipline.signals == Signals::Return
@@ -348,7 +349,7 @@ fn options_have_the_values_of_their_words(rt: HostRuntime) {
 }
 
 fn is_refused(alloc: Global, words: &[&str]) -> bool {
-    matches!(read_options(alloc, words), Err(OptionFault::Refused))
+    matches!(read_options(alloc, words), Err(OptionFault::Refused(_)))
 }
 
 #[test]

@@ -4,10 +4,8 @@
 ghost use Rattle.std.specs.Prelude.{◌≡◌};
 
 use cp_progress::{ObserveWork, ProgressLine, terminal_of};
-use cp_tool::{
-    OptionFault, Options, SourceReading, VERSION, Wrapped, answer_stream, read_options, reason_for,
-};
-use std::alloc::{AllocError, Global};
+use cp_tool::{OptionFault, Options, VERSION, Wrapped, answer_stream, read_options};
+use std::alloc::Global;
 use std::env;
 use std::io::{ErrorKind, Stderr, Stdin, Stdout};
 use std::marker::Brand;
@@ -15,40 +13,25 @@ use std::process::ExitCode;
 use std::sync::ledger::{Blank, Ledger};
 use std::thread::Threads;
 
-const READING: SourceReading<'static> = SourceReading {
-    program: "cpx",
-    script: "./explore",
-};
-
-// What the words ask for.
-#[derive(Drop)]
-enum RequestedWork {
-    Options(Options),
-    Version,
-    // The words are refused, and this says why.
-    Refused(String),
-    Help(String),
-}
-
 fn main(rt: HostRuntime) -> ExitCode {
     let code = match read_words(&rt) {
-        Ok(RequestedWork::Options(options)) => {
+        Ok(options) => {
             let code = explore_input::<HostRuntime>(&rt, &rt, &options);
-            if code == 5 && !options.merge {
+            if code == 5 && !options.analysis.is_merged() {
                 let _ = eprintln!(rt;
                     "cpx: a table has at most 50000 rows; try --merge, which makes no table"
                 );
             }
             code
         }
-        Ok(RequestedWork::Version) => print_status(print!(rt; "cpx {VERSION}\n")),
-        Ok(RequestedWork::Refused(why)) => {
+        Err(OptionFault::Version) => print_status(print!(rt; "cpx {VERSION}\n")),
+        Err(OptionFault::Refused(why)) => {
             let _ = eprintln!(rt; "options refused");
             let _ = eprintln!(rt; "{why}");
             2
         }
-        Ok(RequestedWork::Help(text)) => print_status(print!(rt; "{text}")),
-        Err(_) => 3,
+        Err(OptionFault::Help(text)) => print_status(print!(rt; "{text}")),
+        Err(OptionFault::Memory) => 3,
     };
     match code {
         3 => {
@@ -70,43 +53,35 @@ fn print_status<T: Drop, E: Drop>(print: Result<T, E>) -> u8 {
     }
 }
 
-/// What the program's arguments ask for. Arguments that are no text are refused.
-fn read_words(rt: &HostRuntime) -> Result<RequestedWork, AllocError> {
+/// The options of the program's arguments. Arguments that are no text are refused.
+fn read_words(rt: &HostRuntime) -> Result<Options, OptionFault> {
     let alloc = rt.alloc();
     let words = match env::args(rt) {
         Ok(words) => words,
         Err(error) => {
-            return match error.kind() {
-                ErrorKind::OutOfMemory => Err(AllocError),
-                _ => Ok(RequestedWork::Refused(String::from_str(
-                    alloc,
-                    "a word is no text in UTF-8",
-                )?)),
-            };
+            return Err(match error.kind() {
+                ErrorKind::OutOfMemory => OptionFault::Memory,
+                _ => OptionFault::Refused(String::from_str(alloc, "a word is no text in UTF-8")?),
+            });
         }
     };
     let words: Vec<String> = words.collect(alloc)?;
     let mut texts = Vec::new(alloc);
     for word in &words {
-        texts.push(word.as_str())?;
+        let Ok(()) = texts.push(word.as_str()) else {
+            return Err(OptionFault::Memory);
+        };
     }
-    read(alloc, &texts)
-}
-
-// What the words ask for, of which the first is the program's name.
-fn read<'a>(alloc: Global, words: &'a [&'a str]) -> Result<RequestedWork, AllocError> {
-    match read_options(alloc, words) {
-        Ok(options) => Ok(RequestedWork::Options(options)),
-        Err(OptionFault::Refused) => Ok(RequestedWork::Refused(reason_for(alloc, words, READING)?)),
-        Err(OptionFault::Memory) => Err(AllocError),
-        Err(OptionFault::Help(text)) => Ok(RequestedWork::Help(text)),
-        Err(OptionFault::Version) => Ok(RequestedWork::Version),
-    }
+    read_options(alloc, &texts)
 }
 
 // The status of answering what standard input has. What long work is at is told on standard error, where that is a terminal.
 fn explore_input<X: Threads + Sync>(threads: &X, rt: &HostRuntime, options: &Options) -> u8 {
-    let counted = if options.ends { "ends" } else { "outcomes" };
+    let counted = if options.analysis.is_endless() {
+        "ends"
+    } else {
+        "outcomes"
+    };
     let mut line = ProgressLine::new(rt.alloc(), rt, terminal_of(rt.stderr()), counted);
     exploration_status::<X, ProgressLine<&HostRuntime, Stderr>, Brand, Brand>(
         threads,

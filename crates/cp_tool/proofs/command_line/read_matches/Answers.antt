@@ -1,12 +1,11 @@
-use Rattle.std.proofs.Common.{◌≡◌, ◌∙◌, ◌⊎◌, inl, inr, ⊎_elim, sym, ap, subst, map, List, [], ◌∷◌, true, Option}
+use Rattle.std.proofs.Common.{◌≡◌, ◌∙◌, ◌⊎◌, inl, inr, ⊎_elim, sym, ap, subst, map, List, [], ◌∷◌, true}
 use Rattle.std.proofs.lemmas.List.{take-map}
-use Rattle.clap.specs.Words.{IsAmong, Kinds, Row, found_of, rows_of, app_of, fault_of, is_simple, is_simple_and_free}
+use Rattle.clap.specs.Words.{IsAmong, Kinds, Row, app_of, fault_of, is_simple, is_simple_and_free}
 use Rattle.clap.specs.declared.error.kind.ErrorKind.{ErrorKind}
 use Rattle.clap.specs.declared.error.kind.ErrorKind.TheVariants.{DisplayHelp, OutOfMemory}
-use Rattle.cp_tool.specs.Finds.{Finds}
-use Rattle.cp_tool.specs.Options.{HasOptions, HasRefusedValue}
-use Rattle.cp_tool.specs.declared.options.Options.{Options}
+use Rattle.cp_tool.specs.Options.{Gives, HasGiven, HasRefusedValue, IsFaultFor}
 use Rattle.cp_tool.proofs.Matched.{rows_from, faults_from}
+use Rattle.cp_tool.proofs.Obtaining.{err_by, fault_before_help, fault_of_value, options_by, refused_for, when_err, when_ok}
 use Rattle.cp_tool.proofs.command_line.read_matches.Goals as goal
 
 help_among : (ks : Kinds) (k : ErrorKind) → (k ≡ OutOfMemory) ⊎ IsAmong k ks → k ≡ DisplayHelp → IsAmong DisplayHelp ks
@@ -28,21 +27,25 @@ returns-in-Ok-clause-options c =
     let app = app_of c.in_ok-command.command in
     let simple : is_simple app ≡ true = ap is_simple made in
     let free : is_simple_and_free app ≡ true = ap is_simple_and_free made in
-    let read = subst (λ (o : Option Options). Finds (HasOptions (rows_of (found_of c.in-Ok.matches))) o) c.in-Some.is c.in_ok-options-in-Ok.ensures in
-    (sym (faults_from app words made) ∙ c.in-Ok.ensures.kinds free, subst (λ (rows : List Row). HasOptions rows c.in-Some.options) ((c.in-Ok.ensures.matches simple).0 ∙ rows_from app words made) read)
+    let same = (c.in-Ok.ensures.matches simple).0 ∙ rows_from app words made in
+    let own = c.own_words.ensures in
+    when_ok _ (Gives words) c.options_of.result
+    (λ o has. (sym (faults_from app words made) ∙ c.in-Ok.ensures.kinds free, subst (λ (rows : List Row). HasGiven rows o) same (options_by own.flags own.longest own.schedule o has)))
+    c.options_of.ensures
 
-pub returns-in_default-clause-fault : goal.returns-in_default-clause-fault
-returns-in_default-clause-fault c =
+pub returns-in-Ok-clause-fault : goal.returns-in-Ok-clause-fault
+returns-in-Ok-clause-fault c =
     let words = map (λ s. s.now) c.args.words.now in
     let made = c.in_ok-command.ensures in
     let app = app_of c.in_ok-command.command in
     let simple : is_simple app ≡ true = ap is_simple made in
     let free : is_simple_and_free app ≡ true = ap is_simple_and_free made in
     let same = (c.in-Ok.ensures.matches simple).0 ∙ rows_from app words made in
-    let none = subst (λ (o : Option Options). Finds (HasOptions (rows_of (found_of c.in-Ok.matches))) o) c.in_default.is c.in_ok-options-in-Ok.ensures in (
-      λ asked. let bad : [] ≡ DisplayHelp ∷ [] = sym (c.in-Ok.ensures.kinds free) ∙ faults_from app words made ∙ asked in absurd (cc),
-      λ o gives. none o (subst (λ (rows : List Row). HasOptions rows o) (sym same) gives.1),
-    )
+    let own = c.own_words.ensures in
+    when_err _ (IsFaultFor words) c.options_of.result
+    (λ e refused. fault_of_value words e (sym (faults_from app words made) ∙ c.in-Ok.ensures.kinds free)
+    (refused_for e (λ none o has. none o (options_by (sym own.flags) (sym own.longest) (sym own.schedule) o (subst (λ (rows : List Row). HasGiven rows o) (sym same) has))) refused))
+    c.options_of.ensures
 
 pub returns-in-DisplayHelp-clause-fault : goal.returns-in-DisplayHelp-clause-fault
 returns-in-DisplayHelp-clause-fault c =
@@ -59,23 +62,25 @@ returns c =
     let app = app_of c.in_ok-command.command in
     let free : is_simple_and_free app ≡ true = ap is_simple_and_free made in
     let among = c.in-Err.ensures.kinds free in
-    let enough : c.in-Err.error.kind ≡ OutOfMemory → ⊥ = λ m. c.in_default-kind.not-OutOfMemory (c.kind.ensures ∙ m) in
+    let enough : c.in-Err.error.kind ≡ OutOfMemory → ⊥ = λ m. c.in_default.not-OutOfMemory (c.kind.ensures ∙ m) in
     record {
       options = tt;
       fault = (
-        λ asked. absurd (not_help (fault_of app words) c.in-Err.error.kind among (λ h. c.in_default-kind.not-DisplayHelp (c.kind.ensures ∙ h)) enough (faults_from app words made ∙ asked)),
+        λ asked. absurd (not_help (fault_of app words) c.in-Err.error.kind among (λ h. c.in_default.not-DisplayHelp (c.kind.ensures ∙ h)) enough (faults_from app words made ∙ asked)),
         λ o gives. some_fault (fault_of app words) c.in-Err.error.kind among enough (faults_from app words made ∙ gives.0),
       );
     }
 
-pub returns-then-branch-clause-fault : goal.returns-then-branch-clause-fault
-returns-then-branch-clause-fault c =
+pub returns-in_err-check_values-in-DisplayHelp-clause-fault : goal.returns-in_err-check_values-in-DisplayHelp-clause-fault
+returns-in_err-check_values-in-DisplayHelp-clause-fault c =
     let words = map (λ s. s.now) c.args.words.now in
     let made = c.in_ok-command.ensures in
     let app = app_of c.in_ok-command.command in
     let free : is_simple_and_free app ≡ true = ap is_simple_and_free made in
     let enough : c.in-Err.error.kind ≡ OutOfMemory → ⊥ = λ m. let bad : DisplayHelp ≡ OutOfMemory = sym c.in-DisplayHelp.is ∙ c.kind.ensures ∙ m in absurd (cc) in
-    let first = sym (take-map (λ s. s.now) c.before_help.result c.args.words.now) in (
-      λ asked. record { count = c.before_help.result; begun = subst HasRefusedValue first (c.in_ok-has_refused_value-in-DisplayHelp.ensures c.if-branch.true) },
-      λ o gives. some_fault (fault_of app words) c.in-Err.error.kind (c.in-Err.ensures.kinds free) enough (faults_from app words made ∙ gives.0),
-    )
+    let first = sym (take-map (λ s. s.now) c.before_help.result c.args.words.now) in
+    err_by (IsFaultFor words) c.from_residual-in_err-check_values-in-DisplayHelp.result c.in_err-check_values-in-DisplayHelp.field-0.0 c.from_residual-in_err-check_values-in-DisplayHelp.ensures.1
+    (fault_before_help words _ c.in_err-check_values-in-DisplayHelp.field-0.0
+    (λ begun. record { count = c.before_help.result; begun = subst HasRefusedValue first begun })
+    (λ o gives. some_fault (fault_of app words) c.in-Err.error.kind (c.in-Err.ensures.kinds free) enough (faults_from app words made ∙ gives.0))
+    c.in_err-check_values-in-DisplayHelp.ensures)
