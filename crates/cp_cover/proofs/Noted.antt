@@ -1,27 +1,12 @@
 -- What an observer of a stretch notes are the marks of the stretch.
-use Rattle.std.proofs.Common.{◌≡◌, ◌∙◌, ℕ, zero, suc, Bool, true, false, List, [], ◌++◌, if◌then◌else◌, ap, sym, inr, ⊎_elim}
+use Rattle.std.proofs.Common.{◌≡◌, ◌∙◌, ℕ, zero, suc, Bool, true, false, List, [], ◌++◌, if◌then◌else◌, ap, sym}
 use Rattle.std.proofs.lemmas.List.{append-nil, append_assoc}
-use Rattle.std.proofs.lemmas.List.Elements.{Contains-append_cases, Contains-append_left, Contains-append_right}
 use Rattle.cp_machine.specs.Machine.{Machine, thread_at}
 use Rattle.cp_run.specs.Fold.{fold_chosen, fold_opened, fold_stretch, fold_turn}
 use Rattle.cp_run.specs.Run.{settled_turn, turn_after, turn_at}
 use Rattle.cp_run.specs.declared.outcome.Turn.{Turn}
-use Rattle.cp_cover.proofs.Words.{Contains, System, Adds, CoverMark, Due, Goes, Over}
+use Rattle.cp_cover.proofs.Words.{System, CoverMark, Due, Goes, Over}
 use Rattle.cp_cover.specs.Reached.{item_marks, wait_marks, marks_on, marker, stretch_marks, opened_marks, chosen_marks}
-use Rattle.cp_cover.proofs.Adding.{none_has}
-
--- marks are those that are added to none
-pub adds_itself : (marks : List CoverMark) → Adds [] marks marks
-adds_itself marks = record { kept = λ mark h. absurd (none_has mark h); added = λ mark h. h; only = λ mark h. inr h }
-
--- and those that were there and others are the others, added to those that were there
-pub adds_behind : (before more after : List CoverMark) → Adds [] (before ++ more) after → Adds before more after
-adds_behind before more after h =
-    record {
-      kept = λ mark k. h.added mark (Contains-append_left before more mark k);
-      added = λ mark k. h.added mark (Contains-append_right before more mark k);
-      only = λ mark k. ⊎_elim (λ (l : Contains [] mark). absurd (none_has mark l)) (λ (r : Contains (before ++ more) mark). Contains-append_cases before more mark r) (h.only mark k);
-    }
 
 module _ (sys : System Machine) where
   on_turn : (on : ℕ → List CoverMark → List CoverMark) (marks : ℕ → List CoverMark) (turn : Turn) (xs : List CoverMark) → ((q : ℕ) (ys : List CoverMark) → on q ys ≡ ys ++ marks q) → fold_turn on turn xs ≡ xs ++ marks_on marks turn

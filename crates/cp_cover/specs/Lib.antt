@@ -1,5 +1,3 @@
-pub mod Layers
 pub mod Marks
 pub mod Passing
 pub mod Reached
-pub mod Visited

@@ -11,7 +11,7 @@ use Rattle.cp_machine.specs.Statements.{local}
 use Rattle.cp_machine.specs.System.{step_at}
 use Rattle.cp_store.specs.declared.memory.Frame.{Frame}
 use Rattle.cp_slots.specs.Tables.{Tables}
-use Rattle.cp_cover.specs.Marks.{Adds}
+use Rattle.cp_layers.specs.Adding.{Adds}
 use Rattle.cp_cover.specs.Reached.{item_marks, status_marks, wait_marks}
 use Rattle.cp_cover.specs.declared.mark.CoverMark.{CoverMark}
 

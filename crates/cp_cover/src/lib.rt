@@ -3,7 +3,6 @@
 
 pub mod entries;
 mod gaps;
-pub mod layer;
 mod lines;
 pub mod mark;
 pub mod marks;

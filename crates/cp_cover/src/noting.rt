@@ -1,21 +1,21 @@
 //! Stretches, with notes of what they come to.
 
-ghost use Rattle.std.specs.Prelude.{◌≡◌, ◌<◌, true, drop, IfOk, length, option_copied};
+ghost use Rattle.std.specs.Prelude.{◌≡◌, ◌<◌, drop, IfOk, length, option_copied};
 ghost use Rattle.cp_machine.specs.Machine.{thread_at};
 ghost use Rattle.cp_machine.specs.Stack.{above};
-ghost use Rattle.cp_machine.specs.System.{machine_of, opening, IsStateOf};
-ghost use Rattle.cp_run.specs.Run.{chosen, opened, may};
-ghost use Rattle.cp_run.specs.Slots.{slots};
-ghost use Rattle.cp_run.specs.Code.{node_of};
-ghost use Rattle.cp_cover.specs.Marks.{marks_in, Adds};
-ghost use Rattle.cp_cover.specs.Reached.{item_marks, wait_marks, opened_marks, chosen_marks};
+ghost use Rattle.cp_machine.specs.System.{machine_of};
+ghost use Rattle.cp_layers.specs.Adding.{Adds};
+ghost use Rattle.cp_cover.specs.Marks.{marks_in};
+ghost use Rattle.cp_cover.specs.Reached.{item_marks, wait_marks};
 
 use crate::mark::CoverMark;
 use crate::marks::Marks;
-use cp_machine::{Entry, Event, State, Status, Ticks};
+use cp_layers::Note;
+use cp_machine::{Entry, Event, State, Status, Uncounted};
 use cp_run::{Halt, Job, Observe, OutcomeKind, halt_at, observe_choice, observe_opening};
-use std::alloc::AllocError;
-use std::sync::ledger::Ledger;
+use cp_search::SearchJob;
+use indexmap::IndexSet;
+use std::alloc::{AllocError, Global};
 
 // The topmost entry of a process.
 fn top_of(state: &State, pid: u8) -> Option<&Entry>
@@ -77,7 +77,7 @@ fn note_wait(state: &State, pid: u8, marks: &mut Marks) -> Result<(), AllocError
 impl Observe for Marks {
     ghost use Rattle.std.specs.Prelude.{◌≡◌, ◌++◌, List, [], true, false};
     ghost use Rattle.cp_machine.specs.Machine.{is_ready, thread_at};
-    ghost use Rattle.cp_cover.specs.Marks.{Adds};
+    ghost use Rattle.cp_layers.specs.Adding.{Adds};
     ghost use Rattle.cp_cover.specs.Passing.{adds_local};
     ghost use Rattle.cp_cover.specs.Reached.{item_marks, marker};
     ghost use Rattle.cp_cover.specs.declared.mark.CoverMark.{CoverMark};
@@ -142,37 +142,50 @@ impl Observe for Marks {
     ghost passes = { λ unseen marks r discipline before after process seen step h. adds_local r before after process seen marks.known.keys step h.0 h.1 };
 }
 
-/// Takes a due choice, and notes what the stretch after it comes to.
-pub fn note_choice<S: Ledger>(
-    job: &Job<'_>,
-    state: &mut State,
-    process: u8,
-    steps: &mut Ticks<S>,
-    marks: &mut Marks,
-) -> Result<Halt<OutcomeKind>, AllocError>
-    requires own { IsStateOf job.now.program.now state.old }
-    requires may { may (slots job.now.program.now job.now.limits.discipline) (machine_of state.old) process ≡ true }
-    ensures node { IfOk result (λ h. chosen (slots job.now.program.now job.now.limits.discipline) job.now.limits.steps (machine_of state.old) process ≡ node_of h (machine_of state.new)) }
-    ensures own { IsStateOf job.now.program.now state.new }
-    ensures marks { IfOk result (λ _. Adds marks.old.known.keys (chosen_marks (slots job.now.program.now job.now.limits.discipline) job.now.limits.steps (machine_of state.old) process) marks.new.known.keys) }
-{
-    let turn = observe_choice(job, state, process, steps, marks)?;
-    Ok(halt_at(turn))
-}
+impl Note for Marks {
+    ghost use Rattle.std.specs.Prelude.{[]};
+    ghost use Rattle.cp_cover.specs.Reached.{cover_marking};
+    ghost use Rattle.cp_cover.specs.declared.mark.CoverMark.{CoverMark};
 
-/// Begins a run in the opening state, and notes what it comes to before the first choice.
-pub fn note_opening<S: Ledger>(
-    job: &Job<'_>,
-    state: &mut State,
-    steps: &mut Ticks<S>,
-    marks: &mut Marks,
-) -> Result<Halt<OutcomeKind>, AllocError>
-    requires own { IsStateOf job.now.program.now state.old }
-    requires start { machine_of state.old ≡ opening job.now.program.now job.now.limits.discipline }
-    ensures node { IfOk result (λ h. opened (slots job.now.program.now job.now.limits.discipline) job.now.limits.steps ≡ node_of h (machine_of state.new)) }
-    ensures own { IsStateOf job.now.program.now state.new }
-    ensures marks { IfOk result (λ _. Adds marks.old.known.keys (opened_marks (slots job.now.program.now job.now.limits.discipline) job.now.limits.steps) marks.new.known.keys) }
-{
-    let turn = observe_opening(job, state, steps, marks)?;
-    Ok(halt_at(turn))
+    ghost Mark = { CoverMark };
+
+    ghost marking = { cover_marking };
+
+    ghost marks = { λ marks. marks.known.keys };
+
+    // No word is kept.
+    ghost words = { λ marks. [] };
+
+    fn new(alloc: Global) -> Marks {
+        Marks {
+            known: IndexSet::new(alloc),
+        }
+    }
+
+    fn add_all(&mut self, _alloc: Global, other: &Marks) -> Result<(), AllocError> {
+        for mark in other.known.as_slice() {
+            self.add(*mark)?;
+        }
+        Ok(())
+    }
+
+    fn note_opening(
+        &mut self,
+        job: &SearchJob<'_>,
+        state: &mut State,
+    ) -> Result<Halt<OutcomeKind>, AllocError> {
+        let turn = observe_opening(&job.run, state, &mut Uncounted, self)?;
+        Ok(halt_at(turn))
+    }
+
+    fn note_choice(
+        &mut self,
+        job: &SearchJob<'_>,
+        state: &mut State,
+        process: u8,
+        _word: &[u8],
+    ) -> Result<Halt<OutcomeKind>, AllocError> {
+        let turn = observe_choice(&job.run, state, process, &mut Uncounted, self)?;
+        Ok(halt_at(turn))
+    }
 }

@@ -18,6 +18,11 @@ row_objection (Alone process) = Some AloneWithoutEnds
 row_objection (Spins process) = Some SpinsWithoutEnds
 row_objection end = None
 
+-- with calls made at once it is not kept apart who waits
+abbrev pub at_once_objection : EndPattern → Option Objection
+at_once_objection (AllWaiting (Some who)) = Some NamesOfWaiting
+at_once_objection end = None
+
 abbrev pub shown_objection : Question → Claim → Option Objection
 shown_objection Rows claim = None
 shown_objection question Only = Some ShownByOnly
@@ -32,8 +37,8 @@ waiting_objection Ends claim = None
 
 -- why a topic can't be asked by this claim, if it can't
 abbrev pub objection : Question → Claim → Topic → Option Objection
-objection question claim (End (AllWaiting (Some who)) output) = Some NamesOfWaiting
 objection Rows claim (End end output) = row_objection end
+objection EndsAtOnce claim (End end None) = at_once_objection end
 objection question claim (End end None) = None
 objection question claim (End end (Some output)) = Some OutputWithEnds
 objection question claim (Shown text) = shown_objection question claim

@@ -29,7 +29,7 @@ pub enum Objection {
     WaitingByOnly,
     WaitingWithAnyGates,
     WaitingAtOnce,
-    /// Those who wait at an end are named.
+    /// Those who wait at an end are named, and calls are made at once.
     NamesOfWaiting,
 }
 
@@ -38,13 +38,10 @@ pub fn topic_objection(question: Question, claim: Claim, topic: &Topic) -> Optio
     ensures { result ≡ spec.objection question claim topic.now }
 {
     match topic {
-        Topic::End {
-            end: EndPattern::AllWaiting(Some(_)),
-            ..
-        } => Some(Objection::NamesOfWaiting),
         Topic::End { end, output } => match question {
             Question::Rows => row_objection(end),
             _ if output.is_some() => Some(Objection::OutputWithEnds),
+            Question::EndsAtOnce => at_once_objection(end),
             _ => None,
         },
         Topic::Shown(_) => shown_objection(question, claim),
@@ -58,6 +55,16 @@ fn row_objection(end: &EndPattern) -> Option<Objection>
     match end {
         EndPattern::Alone(_) => Some(Objection::AloneWithoutEnds),
         EndPattern::Spins(_) => Some(Objection::SpinsWithoutEnds),
+        _ => None,
+    }
+}
+
+// With calls made at once it is not kept apart who waits.
+fn at_once_objection(end: &EndPattern) -> Option<Objection>
+    ensures { result ≡ spec.at_once_objection end.now }
+{
+    match end {
+        EndPattern::AllWaiting(Some(_)) => Some(Objection::NamesOfWaiting),
         _ => None,
     }
 }

@@ -14,28 +14,24 @@ use Rattle.cp_resolved.proofs.Resolving.{read_names}
 use Rattle.cp_resolved.specs.Enumerations.{constant_names}
 use Rattle.cp_resolved.specs.Resolving.{IsProgramOf}
 use Rattle.cp_machine_laws.specs.Named.{named_discipline}
+use Rattle.cp_tool.specs.Analysis.{is_at_once, is_endless}
 use Rattle.cp_tool.specs.declared.options.Options.{Options}
 use Rattle.cp_walk.specs.Text.{Spellings}
 use Rattle.cp_expectation.specs.Plain as plain
 use Rattle.cp_expectation.specs.Spelling.{SpellsJoined, SpellsOne, Words}
 use Rattle.cp_expectation.specs.Words.{words_behind, words_of}
 use Rattle.cp_expectation.specs.declared.expectation.Expectation.{Expectation}
-use Rattle.cp_verdict.specs.endless.AtOnce.{at_any_limit}
+use Rattle.cp_verdict.specs.endless.AtOnce.{IsMarkInTurn, at_any_limit}
 use Rattle.cp_verdict.specs.endless.Behaviour.{on_names}
 use Rattle.cp_verdict.specs.endless.Marked.{IsTrueMark, with_tables}
 use Rattle.cp_verdict.specs.endless.Naming.{Names, Processes}
 use Rattle.cp_verdict.specs.declared.endless.verdict.EndsMark.{EndsMark}
-use Rattle.cp_show_mark.specs.Given.{IsTrueBy, MeansEnds, Spells, TellsAsked, TellsBy, TellsEnds, TellsEndsBy, TellsIf, TellsSpelled, and_own, are_asked, can_be_judged, names_with}
+use Rattle.cp_show_mark.specs.Given.{IsTrueBy, IsTrueInTurn, MeansEnds, Spells, TellsAsked, TellsBy, TellsEnds, TellsEndsBy, TellsIf, TellsSpelled, and_own, are_asked, can_be_judged, names_with}
 use Rattle.cp_show_mark.specs.Showing.{ends_verdict_of}
 use Rattle.cp_show_mark.specs.declared.answer.ShowVerdict.{ShowVerdict}
 use Rattle.cp_show_mark.specs.declared.answer.ShowVerdict.TheVariants.{Misread}
 
 -- ---- on the program's own names
-
--- what is said by its names, or by those of its tables
-abbrev TrueBy : Options → Processes → Tree → List Expectation → EndsMark → Spellings → Type 0
-TrueBy o ps t es m values =
-    IsTrueMark (record { values = values; processes = ps }) (on_names t (named_discipline o.discipline) o.steps) es m ⊎ IsTrueMark (record { values = values; processes = ps }) (at_any_limit t) es m
 
 module _ (t : Tree) (r : Tables) (ps : Processes) (read : ∥ IsRead t.program ∥₁) (ok : IsAccepted t) (is : IsProgramOf t r) (o : Options) where
   names : r.names ≡ constant_names t.program
@@ -45,17 +41,22 @@ module _ (t : Tree) (r : Tables) (ps : Processes) (read : ∥ IsRead t.program �
   same_asked es = ap (λ (values : Spellings). are_asked o (record { values = values; processes = ps }) es) names
 
   module _ (es : List Expectation) (verdict : ShowVerdict) where
+    in_turn : (m : EndsMark) → IsRead t.program → IsMarkInTurn r ps o.discipline o.steps o.states es m → IsTrueMark (with_tables r ps) (on_names t (named_discipline o.discipline) o.steps) es m ⊎ IsTrueMark (with_tables r ps) (at_any_limit t) es m
+    in_turn m it (inl h) = inl (h.1 t it ok is.laid)
+    in_turn m it (inr h) = inr (h.2.meaning t it ok is.laid)
+
     meant_by : (at_once : Bool) → TellsEndsBy at_once r ps o es verdict → (m : EndsMark) × (verdict ≡ ends_verdict_of m) × ∥ IsTrueBy at_once t ps o es m ∥₁
     meant_by true (m, e, h) = (m, e, ∥∥₁_map read (λ it. subst (λ (values : Spellings). IsTrueMark (record { values = values; processes = ps }) (at_any_limit t) es m) names (h.meaning t it ok is.laid)))
-    meant_by false (m, e, inl h) = (m, e, ∥∥₁_map read (λ it. subst (TrueBy o ps t es m) names (inl (h.1 t it ok is.laid))))
-    meant_by false (m, e, inr h) = (m, e, ∥∥₁_map read (λ it. subst (TrueBy o ps t es m) names (inr (h.2.meaning t it ok is.laid))))
+    meant_by false (m, e, h) =
+        let true_by : Spellings → Type 0 = λ values. IsTrueInTurn t (record { values = values; processes = ps }) o.discipline o.steps es m in
+        (m, e, ∥∥₁_map read (λ it. subst true_by names (λ no. in_turn m it (h.0 no), λ named. (h.1 named).1 t it ok is.laid)))
 
     meant_if : (can at_once : Bool) → TellsIf can (TellsEndsBy at_once r ps o es verdict) verdict → TellsIf can ((m : EndsMark) × (verdict ≡ ends_verdict_of m) × ∥ IsTrueBy at_once t ps o es m ∥₁) verdict
     meant_if true at_once h = meant_by at_once h
     meant_if false at_once h = h
 
     pub ends_meant : TellsEnds r ps o es verdict → MeansEnds t ps o es verdict
-    ends_meant h = meant_if (can_be_judged o.at_once o.discipline es) o.at_once h
+    ends_meant h = meant_if (can_be_judged (is_at_once o.analysis) o.discipline es) (is_at_once o.analysis) h
 
 -- ---- what can be asked
 
@@ -80,11 +81,11 @@ told_more true told more verdict f h = f h
 told_more false told more verdict f h = h
 
 -- by schedules of any length, or by those within the limits
-pub any_asked : (o : Options) (n : Names) (es : List Expectation) (within any : List Expectation → Type 0) (verdict : ShowVerdict) → are_asked o n es ≡ true → o.ends ≡ true → any es → TellsAsked o n es within any verdict
-any_asked o n es within any verdict can ends h = told_when (are_asked o n es) (TellsBy o.ends within any es) verdict can (subst (λ (b : Bool). TellsBy b within any es) (sym ends) h)
+pub any_asked : (o : Options) (n : Names) (es : List Expectation) (within any : List Expectation → Type 0) (verdict : ShowVerdict) → are_asked o n es ≡ true → is_endless o.analysis ≡ true → any es → TellsAsked o n es within any verdict
+any_asked o n es within any verdict can ends h = told_when (are_asked o n es) (TellsBy (is_endless o.analysis) within any es) verdict can (subst (λ (b : Bool). TellsBy b within any es) (sym ends) h)
 
-pub within_asked : (o : Options) (n : Names) (es : List Expectation) (within any : List Expectation → Type 0) (verdict : ShowVerdict) → are_asked o n es ≡ true → o.ends ≡ false → within es → TellsAsked o n es within any verdict
-within_asked o n es within any verdict can ends h = told_when (are_asked o n es) (TellsBy o.ends within any es) verdict can (subst (λ (b : Bool). TellsBy b within any es) (sym ends) h)
+pub within_asked : (o : Options) (n : Names) (es : List Expectation) (within any : List Expectation → Type 0) (verdict : ShowVerdict) → are_asked o n es ≡ true → is_endless o.analysis ≡ false → within es → TellsAsked o n es within any verdict
+within_asked o n es within any verdict can ends h = told_when (are_asked o n es) (TellsBy (is_endless o.analysis) within any es) verdict can (subst (λ (b : Bool). TellsBy b within any es) (sym ends) h)
 
 -- ---- no words spell nothing
 

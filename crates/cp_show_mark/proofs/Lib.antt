@@ -1,4 +1,5 @@
 pub mod Constants
+pub mod EndsFloats
 pub mod Gathered
 pub mod Giving
 pub mod MarkFloats

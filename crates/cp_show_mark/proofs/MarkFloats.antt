@@ -10,7 +10,6 @@ use Rattle.cp_run.specs.declared.outcome.OutcomeKind.TheVariants as kind
 use Rattle.cp_story.proofs.Floats.{both, is_float_member, no_float-array, no_float-numbers, no_float-object, none_of}
 use Rattle.cp_story.specs.Objects.{text_data}
 use Rattle.cp_story.specs.StoryData.{kind_members, wait_data}
-use Rattle.cp_story.specs.Waiting.{who_waits}
 use Rattle.cp_verdict.specs.Judged.{row_line}
 use Rattle.cp_expectation.specs.Written.{expectation_text}
 use Rattle.cp_expectation.specs.declared.expectation.Expectation.{Expectation}
@@ -19,11 +18,12 @@ use Rattle.cp_verdict.specs.declared.judging.Judgement.TheVariants as judgement
 use Rattle.cp_verdict.specs.declared.program.Marked.{Marked}
 use Rattle.cp_verdict.specs.declared.program.Stops.{Stops}
 use Rattle.cp_show_mark.specs.MarkData as spec
-use Rattle.cp_show_mark.specs.MarkText.{Setting, doubt_told, reason_text, verdict_text}
+use Rattle.cp_show_mark.specs.Stories.{waits_at_end}
+use Rattle.cp_show_mark.specs.MarkText.{Setting, doubt_told, mark_name, reason_text, standing_of}
 
-end_free : (s : Setting) (word : List ℕ) (k : OutcomeKind) → list_any is_float_member (spec.end_members s word k) ≡ false
+pub end_free : (s : Setting) (word : List ℕ) (k : OutcomeKind) → list_any is_float_member (spec.end_members s word k) ≡ false
 end_free s word kind.Finished = refl
-end_free s word kind.AllWaiting = both (no_float-array (wait_data s.legend) (who_waits s.legend s.program s.discipline s.choices s.steps word) (wait_free s.legend)) refl
+end_free s word kind.AllWaiting = both (no_float-array (wait_data s.legend) (waits_at_end s.legend s.program s.discipline s.choices s.steps word) (wait_free s.legend)) refl
 end_free s word (kind.RunError name process line) = refl
 end_free s word kind.ChoiceLimit = refl
 end_free s word kind.StepLimit = refl
@@ -50,7 +50,7 @@ judged_free : (s : Setting) (stops : Stops) (p : Expectation × Judgement) → h
 unfolding spec.judged_data
 judged_free s stops p =
     let said = spec.said_members (reason_text s stops p.0.claim p.1) in
-    no_float-object ((codes "expectation", text_data (expectation_text p.0)) ∷ (codes "verdict", text_data (verdict_text p.1)) ∷ spec.shown_members s p.1 ++ said)
+    no_float-object ((codes "expectation", text_data (expectation_text p.0)) ∷ (codes "verdict", text_data (mark_name (standing_of p.1))) ∷ spec.shown_members s p.1 ++ said)
     (both refl (both refl (none_of (spec.shown_members s p.1) said (shown_free s p.1) (said_free (reason_text s stops p.0.claim p.1)))))
 
 note_free : (word : Option (List ℕ)) → list_any is_float_member (spec.note_members word) ≡ false

@@ -1,5 +1,5 @@
 -- Texts to which one piece after another is appended, where memory may be refused.
-use Rattle.std.proofs.Common.{◌≡◌, ◌∙◌, ◌+◌, ◌<◌, ℕ, List, [], ◌∷◌, ◌++◌, Bool, true, false, cond, length, map, take, get_or, Option, Some, None, Result, Ok, Err, IfOk, MatchResult, inl, inr, refl, sym, ap, subst, arith, true≢false}
+use Rattle.std.proofs.Common.{◌≡◌, ◌∙◌, ◌+◌, ◌<◌, ℕ, List, [], ◌∷◌, ◌++◌, Bool, true, false, cond, length, map, take, get_or, Option, Some, None, Result, Ok, Err, IfOk, MatchResult, inl, inr, refl, sym, ap, subst, true≢false}
 use Rattle.std.specs.List.{filter}
 use Rattle.std.proofs.lemmas.List.{append_assoc, append-nil, take_more}
 use Rattle.std.proofs.lemmas.List.Elements.{filter_more}
@@ -65,6 +65,12 @@ pub one_more : {A B : Type 0} (f : B → List ℕ) (g : A → B) (xs : List A) (
 one_more f g xs k d old now new lt h e =
     let more = ap (λ l. each f (map g l)) (take_more xs k d lt) ∙ each_map_one f g (take k xs) (get_or xs k d) in
     also old new (sym more) (two old now new (each f (map g (take k xs))) (f (g (get_or xs k d))) h e)
+
+-- one piece more
+pub one_piece : {A : Type 0} (f : A → List ℕ) (xs : List A) (k : ℕ) (x : A) (old now new : Option (List ℕ)) → k < length xs → x ≡ get_or xs k x → UnlessRefused now (appended old (each f (take k xs))) → UnlessRefused new (appended now (f x)) → UnlessRefused new (appended old (each f (take (k + 1) xs)))
+one_piece f xs k x old now new lt here h e =
+    let more = ap (each f) (take_more xs k x lt) ∙ each_append f (take k xs) (get_or xs k x ∷ []) ∙ ap (λ l. each f (take k xs) ++ l) (append-nil (f (get_or xs k x))) in
+    also old new (sym more) (two old now new (each f (take k xs)) (f (get_or xs k x)) h (also now new (ap f here) e))
 
 -- ---- a text that is made, and one that is finished
 

@@ -1,6 +1,6 @@
 -- Whether an expectation can be asked of a program, by what is said against it.
 use Rattle.std.proofs.Common.{◌≡◌, ◌∙◌, Bool, true, false, not, ◌&&◌, List, [], ◌∷◌, None, Some, ap, refl, sym}
-use Rattle.std.specs.Prelude.{Option, is_none, is_some}
+use Rattle.std.specs.Prelude.{Option, is_none}
 use Rattle.std.specs.List.{list_all}
 use Rattle.cp_expectation.specs.Objections.{objection_to}
 use Rattle.cp_expectation.specs.declared.expectation.Expectation.{Expectation}

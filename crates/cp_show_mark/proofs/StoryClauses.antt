@@ -1,9 +1,8 @@
 -- What is told of a word within the limits that the options give.
-use Rattle.std.proofs.Common.{◌≡◌, ℕ, List, map, option_map, Result, Ok, Err, IfOk, subst}
+use Rattle.std.proofs.Common.{◌≡◌, ℕ, List, map, option_map, Result, Ok, Err, IfOk}
 use Rattle.std.specs.declared.alloc.AllocError.{AllocError}
 use Rattle.cp_slots.specs.Tables.{Tables}
 use Rattle.cp_legend.specs.Names.{Legend}
-use Rattle.cp_machine.specs.declared.discipline.Discipline.{Discipline}
 use Rattle.cp_run.specs.Code.{answer_of}
 use Rattle.cp_run.specs.Run.{run}
 use Rattle.cp_run.specs.Slots.{slots}
@@ -18,17 +17,9 @@ use Rattle.cp_story.specs.Waiting.{who_waits}
 use Rattle.cp_story.specs.declared.story.Story.{Story}
 use Rattle.cp_tool.specs.declared.options.Options.{Options}
 use Rattle.cp_show_mark.specs.Stories.{IsStoryOf}
+use Rattle.cp_show_mark.proofs.Telling.{as_asked}
 
 module _ (o : Options) (limits : Limits) (l : Legend) (r : Tables) (word : List ℕ) where
-  abbrev Within : ℕ → ℕ → Discipline → Story → Type 0
-  Within choices steps discipline s = IsStoryOf l r discipline choices steps word s
-
-  within : (s : Story) → (limits.choices ≡ o.choices) × (limits.steps ≡ o.steps) × (limits.discipline ≡ o.discipline) → Within limits.choices limits.steps limits.discipline s → Within o.choices o.steps o.discipline s
-  within s same h =
-      let a = subst (λ (n : ℕ). Within n limits.steps limits.discipline s) same.0 h in
-      let b = subst (λ (n : ℕ). Within o.choices n limits.discipline s) same.1 a in
-      subst (λ (g : Discipline). Within o.choices o.steps g s) same.2 b
-
   -- the clauses of a story as one
   pub story_within : (result : Result Story AllocError) → (limits.choices ≡ o.choices) × (limits.steps ≡ o.steps) × (limits.discipline ≡ o.discipline)
       → IfOk result (λ s. lines_of s.events.items ≡ trace (slots r limits.discipline) limits.choices limits.steps word)
@@ -39,5 +30,5 @@ module _ (o : Options) (limits : Limits) (l : Legend) (r : Tables) (word : List 
       → IfOk result (λ s. option_map halted_seen s.stop ≡ how_halted l r limits.discipline limits.choices limits.steps word)
       → IfOk result (λ s. s.left ≡ numbers_left word (run (slots r limits.discipline) limits.choices limits.steps word))
       → IfOk result (IsStoryOf l r o.discipline o.choices o.steps word)
-  story_within (Ok s) same lines told choice waits end stop left = within s same (record { lines = lines; told = told; choice = choice; waits = waits; end = end; stop = stop; left = left })
+  story_within (Ok s) same lines told choice waits end stop left = as_asked (λ choices steps discipline. IsStoryOf l r discipline choices steps word s) o limits same (record { lines = lines; told = told; choice = choice; waits = waits; end = end; stop = stop; left = left })
   story_within (Err e) same lines told choice waits end stop left = tt

@@ -1,5 +1,5 @@
 -- Which expectations are given for a program, and what is told of them.
-use Rattle.std.specs.Prelude.{◌≡◌, ◌⊎◌, ◌==◌, ◌&&◌, ◌||◌, ℕ, not, if◌then◌else◌, Bool, true, false, List, [], ◌++◌, Option, None, Some, is_none, codes, length, map, string_bytes}
+use Rattle.std.specs.Prelude.{◌≡◌, ◌⊎◌, ◌==◌, ◌&&◌, ◌||◌, ℕ, not, if◌then◌else◌, Bool, true, false, List, [], ◌++◌, Option, Some, is_none, codes, length, map, string_bytes}
 use Rattle.std.specs.List.{list_all}
 use Rattle.std.specs.Str.{bytes_eq}
 use Rattle.cp_text.specs.Reading.{AreCut, Part, joined}
@@ -9,9 +9,8 @@ use Rattle.cp_resolved.specs.Enumerations.{constant_names}
 use Rattle.cp_machine.specs.declared.discipline.Discipline.{Discipline}
 use Rattle.cp_machine.specs.declared.discipline.Gates.{Gates}
 use Rattle.cp_machine.specs.declared.discipline.Gates.TheVariants.{First, Any}
-use Rattle.cp_run.specs.Slots.{slots}
-use Rattle.cp_run.specs.Table.{table}
-use Rattle.cp_machine_laws.specs.Named.{named, named_discipline}
+use Rattle.cp_machine_laws.specs.Named.{named_discipline}
+use Rattle.cp_tool.specs.Analysis.{is_at_once, is_endless}
 use Rattle.cp_tool.specs.declared.options.Options.{Options}
 use Rattle.cp_walk.specs.Text.{Spellings}
 use Rattle.cp_expectation.specs.Objections.{objection_to}
@@ -31,9 +30,12 @@ use Rattle.cp_verdict.specs.endless.Behaviour.{on_names}
 use Rattle.cp_verdict.specs.endless.Marked.{IsTrueMark, can_be_asked, with_tables}
 use Rattle.cp_verdict.specs.endless.Naming.{Names, Processes, knows_processes}
 use Rattle.cp_verdict.specs.declared.endless.verdict.EndsMark.{EndsMark}
+use Rattle.cp_verdict.specs.waiting.Asking.{name_who}
+use Rattle.cp_verdict.specs.waiting.EndsMarked as who_in_ends
+use Rattle.cp_verdict.specs.waiting.Who.{who_on_names}
 use Rattle.cp_show_mark.specs.MarkText.{Setting, is_declared}
-use Rattle.cp_show_mark.specs.Showing.{TellsEndsMark, TellsMark, TellsMarkAtOnce, ends_verdict_of}
-use Rattle.cp_show_mark.specs.Told.{TellsText}
+use Rattle.cp_show_mark.specs.Showing.{TellsEndsMark, TellsMarkAtOnce, TellsNamedMark, TellsSlotMark, ends_verdict_of}
+use Rattle.cp_show_mark.specs.Told.{TellsEndsText, TellsText}
 use Rattle.cp_show_mark.specs.declared.answer.ShowVerdict.{ShowVerdict}
 use Rattle.cp_show_mark.specs.declared.answer.ShowVerdict.TheVariants.{Misread}
 
@@ -78,7 +80,7 @@ ends_question false First = Ends
 
 -- by which schedules expectations are judged
 abbrev pub question_of : Options → Question
-question_of o = if o.ends then ends_question o.at_once o.discipline.gates else Rows
+question_of o = if is_endless o.analysis then ends_question (is_at_once o.analysis) o.discipline.gates else Rows
 
 -- a value that some display of the program can print: no name, or that of a truth value or of a constant
 abbrev pub can_be_shown : Spellings → List ℕ → Bool
@@ -114,7 +116,7 @@ TellsBy false within any es = within es
 TellsBy true within any es = any es
 
 abbrev pub TellsAsked : Options → Names → List Expectation → (List Expectation → Type 0) → (List Expectation → Type 0) → ShowVerdict → Type 0
-TellsAsked o names es within any verdict = TellsIf (are_asked o names es) (TellsBy o.ends within any es) verdict
+TellsAsked o names es within any verdict = TellsIf (are_asked o names es) (TellsBy (is_endless o.analysis) within any es) verdict
 
 abbrev pub TellsWords : Options → Names → spelling.Words → (List Expectation → Type 0) → (List Expectation → Type 0) → ShowVerdict → Type 0
 TellsWords o names ws within any verdict = TellsSpelled (Spells ws) plain.expected_of (λ es. TellsAsked o names es within any verdict) verdict
@@ -131,31 +133,41 @@ TellsEndsBy false r ps o es verdict = TellsEndsMark r ps o.discipline o.steps o.
 TellsEndsBy true r ps o es verdict = TellsMarkAtOnce r ps o.steps es verdict
 
 abbrev pub TellsEnds : Tables → Processes → Options → List Expectation → ShowVerdict → Type 0
-TellsEnds r ps o es verdict = TellsIf (can_be_judged o.at_once o.discipline es) (TellsEndsBy o.at_once r ps o es verdict) verdict
+TellsEnds r ps o es verdict = TellsIf (can_be_judged (is_at_once o.analysis) o.discipline es) (TellsEndsBy (is_at_once o.analysis) r ps o es verdict) verdict
 
--- on the program's own names: with this limit of steps, or, by kernel calls at once, with any
+-- on the program's own names
 abbrev pub names_with : Tree → Processes → Names
 names_with t ps = record { values = constant_names t.program; processes = ps }
 
+-- with this limit of steps, or, where nobody is named, with any: by kernel calls at once
+abbrev pub IsTrueInTurn : Tree → Names → Discipline → (steps : ℕ) → List Expectation → EndsMark → Type 0
+IsTrueInTurn t names discipline steps es m =
+    (name_who es ≡ false → IsTrueMark names (on_names t (named_discipline discipline) steps) es m ⊎ IsTrueMark names (at_any_limit t) es m) ×
+    (name_who es ≡ true → who_in_ends.IsTrueMark names (who_on_names t (named_discipline discipline) steps) (on_names t (named_discipline discipline) steps) es m)
+
 abbrev pub IsTrueBy : (at_once : Bool) → Tree → Processes → Options → List Expectation → EndsMark → Type 0
-IsTrueBy false t ps o es m = IsTrueMark (names_with t ps) (on_names t (named_discipline o.discipline) o.steps) es m ⊎ IsTrueMark (names_with t ps) (at_any_limit t) es m
+IsTrueBy false t ps o es m = IsTrueInTurn t (names_with t ps) o.discipline o.steps es m
 IsTrueBy true t ps o es m = IsTrueMark (names_with t ps) (at_any_limit t) es m
 
 abbrev pub MeansEnds : Tree → Processes → Options → List Expectation → ShowVerdict → Type 0
-MeansEnds t ps o es verdict = TellsIf (can_be_judged o.at_once o.discipline es) ((m : EndsMark) × (verdict ≡ ends_verdict_of m) × ∥ IsTrueBy o.at_once t ps o es m ∥₁) verdict
+MeansEnds t ps o es verdict = TellsIf (can_be_judged (is_at_once o.analysis) o.discipline es) ((m : EndsMark) × (verdict ≡ ends_verdict_of m) × ∥ IsTrueBy (is_at_once o.analysis) t ps o es m ∥₁) verdict
 
 -- ---- the whole
 
 -- by the tables of the program
 abbrev pub TellsGiven : Tables → Options → Processes → spelling.Words → ShowVerdict → Type 0
 TellsGiven r o ps ws verdict =
-    TellsWords o (with_tables r ps) ws (λ es. TellsMark r.names es (table (slots r o.discipline) o.choices o.steps) verdict) (λ es. TellsEnds r ps o es verdict) verdict
+    TellsWords o (with_tables r ps) ws (λ es. TellsSlotMark r ps o.discipline o.choices o.steps es verdict) (λ es. TellsEnds r ps o es verdict) verdict
 
 -- on its own names
 abbrev pub MeansGiven : Tree → Options → Processes → spelling.Words → ShowVerdict → Type 0
 MeansGiven t o ps ws verdict =
-    TellsWords o (names_with t ps) ws (λ es. TellsMark (constant_names t.program) es (table (named t (named_discipline o.discipline)) o.choices o.steps) verdict) (λ es. MeansEnds t ps o es verdict) verdict
+    TellsWords o (names_with t ps) ws (λ es. TellsNamedMark t ps o.discipline o.choices o.steps es verdict) (λ es. MeansEnds t ps o es verdict) verdict
 
 -- by schedules within the limits, with what is said of them; a doubtful word may be among the words
 abbrev pub TellsGivenText : Setting → Options → Names → spelling.Words → ShowVerdict → List ℕ → Type 0
 TellsGivenText s o names ws verdict text = TellsSpelled (Spells ws) plain.expected_of (λ es. TellsIf (are_asked o names es) ((doubtful : Option (List ℕ)) × TellsText s es doubtful verdict text) verdict) verdict
+
+-- by schedules of any length
+abbrev pub TellsGivenEnds : Setting → Options → Names → spelling.Words → ShowVerdict → List ℕ → Type 0
+TellsGivenEnds s o names ws verdict text = TellsSpelled (Spells ws) plain.expected_of (λ es. TellsIf (are_asked o names es) (TellsEndsText s verdict text) verdict) verdict

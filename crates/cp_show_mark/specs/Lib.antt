@@ -1,3 +1,5 @@
+pub mod EndsData
+pub mod EndsText
 pub mod Given
 pub mod MarkData
 pub mod MarkText

@@ -13,18 +13,16 @@ use Rattle.cp_run.specs.declared.outcome.OutcomeKind.TheVariants.{AllWaiting, Ru
 use Rattle.cp_story.specs.Ends.{output_text}
 use Rattle.cp_story.specs.Objects.{Member, array_of, numbers_data, object_with, text_data}
 use Rattle.cp_story.specs.StoryData.{kind_members, signals_members, waits_data}
-use Rattle.cp_story.specs.Waiting.{who_waits}
 use Rattle.cp_verdict.specs.Judged.{row_line}
 use Rattle.cp_expectation.specs.Written.{doubt_text, expectation_text}
 use Rattle.cp_verdict.specs.Written.{is_stopped, named_if}
 use Rattle.cp_expectation.specs.declared.expectation.Expectation.{Expectation}
 use Rattle.cp_verdict.specs.declared.judging.Judgement.{Judgement}
 use Rattle.cp_verdict.specs.declared.judging.Judgement.TheVariants as judgement
-use Rattle.cp_verdict.specs.declared.marking.Standing.{Standing}
-use Rattle.cp_verdict.specs.declared.marking.Standing.TheVariants as mark
 use Rattle.cp_verdict.specs.declared.program.Marked.{Marked}
 use Rattle.cp_verdict.specs.declared.program.Stops.{Stops}
-use Rattle.cp_show_mark.specs.MarkText.{Setting, doubt_told, line_text, reason_text, verdict_text}
+use Rattle.cp_show_mark.specs.MarkText.{Setting, doubt_told, line_text, mark_name, reason_text, standing_of}
+use Rattle.cp_show_mark.specs.Stories.{waits_at_end}
 use Rattle.cp_show_mark.specs.declared.excess.MarkExcess.{MarkExcess}
 use Rattle.cp_show_mark.specs.declared.excess.MarkExcess.TheVariants.{States, Outcomes}
 
@@ -32,7 +30,7 @@ use Rattle.cp_show_mark.specs.declared.excess.MarkExcess.TheVariants.{States, Ou
 
 -- who waits where at the end of a schedule
 abbrev pub final_data : Setting → (word : List ℕ) → Data
-final_data s word = waits_data s.legend (who_waits s.legend s.program s.discipline s.choices s.steps word)
+final_data s word = waits_data s.legend (waits_at_end s.legend s.program s.discipline s.choices s.steps word)
 
 -- at the end of a schedule: where all wait, who waits and where; of a run error, the text of its line
 abbrev pub end_members : Setting → (word : List ℕ) → OutcomeKind → List Member
@@ -56,14 +54,9 @@ said_members reason = if length reason == 0 then [] else (codes "said", text_dat
 
 -- the expectation as it is written, the verdict, the schedule that settles it, and why it does not hold or is not settled
 unfoldable pub judged_data : Setting → Stops → Expectation × Judgement → Data
-judged_data s stops p = object_with ((codes "expectation", text_data (expectation_text p.0)) ∷ (codes "verdict", text_data (verdict_text p.1)) ∷ shown_members s p.1 ++ said_members (reason_text s stops p.0.claim p.1))
+judged_data s stops p = object_with ((codes "expectation", text_data (expectation_text p.0)) ∷ (codes "verdict", text_data (mark_name (standing_of p.1))) ∷ shown_members s p.1 ++ said_members (reason_text s stops p.0.claim p.1))
 
 -- ---- the whole
-
-abbrev pub mark_name : Standing → List ℕ
-mark_name mark.Holds = codes "holds"
-mark_name mark.Fails = codes "fails"
-mark_name mark.Open = codes "not settled"
 
 -- the limits at which runs ended, by the names of a report
 abbrev pub stop_names : Stops → List (List ℕ)

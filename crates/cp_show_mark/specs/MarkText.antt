@@ -10,9 +10,10 @@ use Rattle.cp_run.specs.Table.{Line, each}
 use Rattle.cp_run.specs.declared.outcome.OutcomeKind.{OutcomeKind}
 use Rattle.cp_run.specs.declared.outcome.OutcomeKind.TheVariants.{AllWaiting, RunError, ChoiceLimit}
 use Rattle.cp_story.specs.Sentences.{wait_text}
-use Rattle.cp_story.specs.Waiting.{Waiting, who_waits}
+use Rattle.cp_story.specs.Waiting.{Waiting}
 use Rattle.cp_walk.specs.Text.{Spellings, outcome_text, word_text}
 use Rattle.cp_verdict.specs.Judged.{row_line}
+use Rattle.cp_verdict.specs.endless.Naming.{Processes}
 use Rattle.cp_verdict.specs.Marked.{is_against, is_unsettled}
 use Rattle.cp_expectation.specs.Written.{doubt_text, expectation_text}
 use Rattle.cp_verdict.specs.Written.{is_stopped, stops_text}
@@ -25,6 +26,7 @@ use Rattle.cp_verdict.specs.declared.marking.Standing.{Standing}
 use Rattle.cp_verdict.specs.declared.marking.Standing.TheVariants as mark
 use Rattle.cp_verdict.specs.declared.program.Marked.{Marked}
 use Rattle.cp_verdict.specs.declared.program.Stops.{Stops}
+use Rattle.cp_show_mark.specs.Stories.{waits_at_end}
 use Rattle.cp_show_mark.specs.declared.examinee.Examinee.{Examinee}
 use Rattle.cp_show_mark.specs.declared.excess.MarkExcess.{MarkExcess}
 use Rattle.cp_show_mark.specs.declared.excess.MarkExcess.TheVariants.{States, Outcomes}
@@ -55,6 +57,10 @@ setting_of x =
       as_json = x.as_json;
     }
 
+-- its processes by their names and types
+abbrev pub processes_in : Legend → Processes
+processes_in l = record { components = l.components; systems = l.systems }
+
 -- ---- lines of the source
 
 abbrev pub without_blanks_before : List ℕ → List ℕ
@@ -78,7 +84,7 @@ place_text s process line = codes "  " ++ decimal process ++ codes " " ++ path_i
 
 -- at the end of a schedule: where all wait, who waits and where; of a run error, who was in error and at which line
 abbrev pub end_text : Setting → (word : List ℕ) → OutcomeKind → List ℕ
-end_text s word AllWaiting = each (waiting_text s.legend) (who_waits s.legend s.program s.discipline s.choices s.steps word)
+end_text s word AllWaiting = each (waiting_text s.legend) (waits_at_end s.legend s.program s.discipline s.choices s.steps word)
 end_text s word (RunError name process line) = place_text s process line
 end_text s word _ = []
 
@@ -91,12 +97,17 @@ row_text s l = codes "first against it: " ++ schedule_text s l ++ end_text s l.w
 
 -- ---- an expectation with its judgement
 
-abbrev pub verdict_text : Judgement → List ℕ
-verdict_text judgement.Holds = codes "holds"
-verdict_text (judgement.Shown r) = codes "holds"
-verdict_text (judgement.Against r) = codes "fails"
-verdict_text judgement.Missing = codes "fails"
-verdict_text judgement.Unsettled = codes "not settled"
+abbrev pub mark_name : Standing → List ℕ
+mark_name mark.Holds = codes "holds"
+mark_name mark.Fails = codes "fails"
+mark_name mark.Open = codes "not settled"
+
+abbrev pub standing_of : Judgement → Standing
+standing_of judgement.Holds = mark.Holds
+standing_of (judgement.Shown r) = mark.Holds
+standing_of (judgement.Against r) = mark.Fails
+standing_of judgement.Missing = mark.Fails
+standing_of judgement.Unsettled = mark.Open
 
 abbrev pub open_text : Claim → List ℕ
 open_text Never = codes ", and none so far is against it\n"
@@ -115,7 +126,7 @@ reason_text s stops claim _ = []
 
 -- the verdict, the expectation as it is written, and why
 abbrev pub judged_text : Setting → Stops → Expectation × Judgement → List ℕ
-judged_text s stops p = verdict_text p.1 ++ codes ": " ++ expectation_text p.0 ++ codes "\n" ++ reason_text s stops p.0.claim p.1
+judged_text s stops p = mark_name (standing_of p.1) ++ codes ": " ++ expectation_text p.0 ++ codes "\n" ++ reason_text s stops p.0.claim p.1
 
 -- those that fail, or those that are not settled
 abbrev pub is_of : (failing : Bool) → Judgement → Bool

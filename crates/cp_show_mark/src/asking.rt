@@ -20,10 +20,10 @@ fn question_of(examinee: Examinee<'_>) -> Question
     ensures { result ≡ spec.question_of examinee.entry.options.now }
 {
     let options = examinee.options;
-    if !options.ends {
+    if !options.analysis.is_endless() {
         return Question::Rows;
     }
-    if options.at_once {
+    if options.analysis.is_at_once() {
         return Question::EndsAtOnce;
     }
     match options.discipline.gates {

@@ -3,6 +3,7 @@
 
 pub mod answer;
 mod asking;
+mod ends_objects;
 mod ends_words;
 pub mod examinee;
 mod excess;

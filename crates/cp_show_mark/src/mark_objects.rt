@@ -1,9 +1,10 @@
 //! The same as JSON.
 
-ghost use Rattle.std.specs.Prelude.{◌≡◌, ◌++◌, ◌∷◌, [], IfOk, OnOk, if◌then◌else◌, map, option_map, string_bytes};
+ghost use Rattle.std.specs.Prelude.{◌≡◌, ◌≤◌, ◌++◌, ◌∷◌, [], IfOk, OnOk, if◌then◌else◌, length, map, option_map, string_bytes};
 ghost use Rattle.std.specs.List.{zip};
 ghost use Rattle.serde_json.specs.View.{view};
 ghost use Rattle.serde_json.specs.Written.{compact_text};
+ghost use Rattle.cp_story.specs.Ends.{kind_name};
 ghost use Rattle.cp_story.specs.Objects.{array_of, line_of, members_in, text_data, with_members};
 ghost use Rattle.cp_verdict.specs.Judged.{row_line};
 ghost use Rattle.cp_verdict.specs.Written.{named_if};
@@ -12,7 +13,7 @@ ghost use Rattle.cp_show_mark.specs.MarkText as text_spec;
 ghost use Rattle.cp_show_mark.specs.MarkText.{setting_of};
 
 use crate::examinee::Examinee;
-use crate::mark_texts::{doubt_text, doubtful, expectation_text, verdict_words};
+use crate::mark_texts::{doubt_text, doubtful, expectation_text, mark_words, standing_of};
 use crate::mark_words::push_reason;
 use crate::stories::waits_of;
 use cp_expectation::{Expectation, Reading};
@@ -20,8 +21,8 @@ use cp_machine::Signals;
 use cp_prose::Prose;
 use cp_run::OutcomeKind;
 use cp_story::objects::{Object, numbers, put_kind, put_signals, waits};
-use cp_story::output_words;
-use cp_verdict::{Judgement, Marked, SeenRow, Standing, Stops};
+use cp_story::{kind_words, output_words};
+use cp_verdict::{Judgement, Marked, SeenRow, Stops};
 use serde_json::Value;
 use std::alloc::{AllocError, Global};
 
@@ -101,25 +102,14 @@ fn put_note(
     }
 }
 
-/// What a mark is called.
-pub fn mark_words(mark: Standing) -> &'static str
-    ensures { result.now ≡ spec.mark_name mark }
-{
-    match mark {
-        Standing::Holds => "holds",
-        Standing::Fails => "fails",
-        Standing::Open => "not settled",
-    }
-}
-
 // The limits at which some schedules ended.
 fn limits(alloc: Global, stops: Stops) -> Result<Value, AllocError>
     ensures { IfOk result (λ v. view v ≡ array_of (map text_data (spec.stop_names stops))) }
 {
     let mut names = Vec::new(alloc);
-    push_limit(alloc, &mut names, stops.choices, "choice-limit")?;
-    push_limit(alloc, &mut names, stops.steps, "step-limit")?;
-    push_limit(alloc, &mut names, stops.output, "output-limit")?;
+    push_limit(alloc, &mut names, stops.choices, OutcomeKind::ChoiceLimit)?;
+    push_limit(alloc, &mut names, stops.steps, OutcomeKind::StepLimit)?;
+    push_limit(alloc, &mut names, stops.output, OutcomeKind::OutputLimit)?;
     Ok(Value::Array(names))
 }
 
@@ -127,14 +117,14 @@ fn push_limit(
     alloc: Global,
     names: &mut Vec<Value>,
     is_met: bool,
-    name: &str,
+    limit: OutcomeKind,
 ) -> Result<(), AllocError>
-    ensures { IfOk result (λ _. map view names.new.items ≡ map view names.old.items ++ map text_data (named_if is_met name.now)) }
+    ensures { IfOk result (λ _. map view names.new.items ≡ map view names.old.items ++ map text_data (named_if is_met (kind_name limit))) }
 {
     if !is_met {
         return Ok(());
     }
-    names.push(Value::try_from_str(alloc, name)?)?;
+    names.push(Value::try_from_str(alloc, kind_words(limit))?)?;
     Ok(())
 }
 
@@ -166,7 +156,7 @@ fn judged_object(
     let mut object = Object::new(alloc);
     let expected = expectation_text(alloc, expectation)?;
     object.text("expectation", expected.as_str())?;
-    object.text("verdict", verdict_words(judgement))?;
+    object.text("verdict", mark_words(standing_of(judgement)))?;
     put_shown(alloc, examinee, &mut object, judgement)?;
     let reason = reason_text(alloc, examinee, expectation, judgement, marked)?;
     put_said(&mut object, reason.as_str())?;
@@ -224,28 +214,33 @@ fn put_row(
     put_kind(object, row.outcome.kind)?;
     let output = output_words(alloc, examinee.legend, row.outcome.output.as_slice())?;
     object.text("output", output.as_str())?;
-    put_end(alloc, examinee, object, row)
+    let word = row.schedule.as_slice();
+    put_end(alloc, examinee, object, word, row.outcome.kind)
 }
 
-fn put_end(
+/// Who waits where at the end of a schedule, or the text of the line of its error.
+pub fn put_end(
     alloc: Global,
     examinee: Examinee<'_>,
     object: &mut Object,
-    row: &SeenRow,
+    word: &[u8],
+    kind: OutcomeKind,
 ) -> Result<(), AllocError>
-    ensures { OnOk result (members_in object.new ≡ with_members (members_in object.old) (spec.end_members (setting_of examinee.entry) row.now.schedule.items row.now.outcome.kind)) }
+    requires { length word.now ≤ 100 }
+    ensures { OnOk result (members_in object.new ≡ with_members (members_in object.old) (spec.end_members (setting_of examinee.entry) word.now kind)) }
 {
-    match row.outcome.kind {
-        OutcomeKind::AllWaiting => object.put("final", final_waits(alloc, examinee, row)?),
+    match kind {
+        OutcomeKind::AllWaiting => object.put("final", final_waits(alloc, examinee, word)?),
         OutcomeKind::RunError { line, .. } => object.text("text", examinee.line(line)),
         _ => Ok(()),
     }
 }
 
 // Who waits where at the end of a schedule.
-fn final_waits(alloc: Global, examinee: Examinee<'_>, row: &SeenRow) -> Result<Value, AllocError>
-    ensures { IfOk result (λ v. view v ≡ spec.final_data (setting_of examinee.entry) row.now.schedule.items) }
+fn final_waits(alloc: Global, examinee: Examinee<'_>, word: &[u8]) -> Result<Value, AllocError>
+    requires { length word.now ≤ 100 }
+    ensures { IfOk result (λ v. view v ≡ spec.final_data (setting_of examinee.entry) word.now) }
 {
-    let all = waits_of(alloc, examinee, row.schedule.as_slice())?;
+    let all = waits_of(alloc, examinee, word)?;
     waits(alloc, examinee.legend, &all)
 }

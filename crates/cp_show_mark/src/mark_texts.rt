@@ -12,17 +12,29 @@ ghost use Rattle.cp_show_mark.specs.MarkText.{setting_of};
 use crate::examinee::Examinee;
 use cp_expectation::{Expectation, Reading, push_doubt, push_expectation};
 use cp_prose::Prose;
-use cp_verdict::{Judgement, SeenRow, Stops};
+use cp_verdict::{Judgement, SeenRow, Standing, Stops};
 use cp_walk::text::{push_outcome, push_word};
 use std::alloc::{AllocError, Global};
 
-pub fn verdict_words(judgement: &Judgement) -> &'static str
-    ensures { result.now ≡ spec.verdict_text judgement.now }
+/// What a mark is called.
+pub fn mark_words(mark: Standing) -> &'static str
+    ensures { result.now ≡ spec.mark_name mark }
+{
+    match mark {
+        Standing::Holds => "holds",
+        Standing::Fails => "fails",
+        Standing::Open => "not settled",
+    }
+}
+
+/// The mark that a judgement gives its expectation.
+pub fn standing_of(judgement: &Judgement) -> Standing
+    ensures { result ≡ spec.standing_of judgement.now }
 {
     match judgement {
-        Judgement::Holds | Judgement::Shown(_) => "holds",
-        Judgement::Against(_) | Judgement::Missing => "fails",
-        Judgement::Unsettled => "not settled",
+        Judgement::Holds | Judgement::Shown(_) => Standing::Holds,
+        Judgement::Against(_) | Judgement::Missing => Standing::Fails,
+        Judgement::Unsettled => Standing::Open,
     }
 }
 

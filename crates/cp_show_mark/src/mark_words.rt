@@ -1,6 +1,6 @@
 //! What is said of expectations, in words.
 
-ghost use Rattle.std.specs.Prelude.{◌≡◌, IfOk, if◌then◌else◌, length, map, option_map, string_bytes};
+ghost use Rattle.std.specs.Prelude.{◌≡◌, ◌≤◌, IfOk, if◌then◌else◌, length, map, option_map, string_bytes};
 ghost use Rattle.std.specs.List.{list_any, zip};
 ghost use Rattle.cp_legend.specs.Names.{legend_seen};
 ghost use Rattle.cp_prose.specs.Telling.{UnlessRefused, appended};
@@ -16,7 +16,7 @@ ghost use Rattle.cp_show_mark.specs.Told.{saying};
 use crate::examinee::Examinee;
 use crate::mark_objects::{marks_as_json, misread_json};
 use crate::mark_texts::{
-    doubt_text, doubtful, expectation_text, push_schedule, stops_text, verdict_words,
+    doubt_text, doubtful, expectation_text, mark_words, push_schedule, standing_of, stops_text,
 };
 use crate::stories::waits_of;
 use cp_expectation::{Claim, Expectation, Reading};
@@ -195,7 +195,7 @@ fn push_judged(
 )
     ensures { UnlessRefused text.new (appended text.old (spec.judged_text (setting_of examinee.entry) marked.now.stops (expectation.now, judgement.now))) }
 {
-    text.put(verdict_words(judgement));
+    text.put(mark_words(standing_of(judgement)));
     text.put(": ");
     text.put_made(expectation_text(alloc, expectation));
     text.put("\n");
@@ -245,14 +245,28 @@ fn push_row(alloc: Global, examinee: Examinee<'_>, text: &mut Prose, row: &SeenR
 {
     text.put("first against it: ");
     push_schedule(alloc, examinee, text, row);
-    push_end(alloc, examinee, text, row);
+    push_end(
+        alloc,
+        examinee,
+        text,
+        row.schedule.as_slice(),
+        row.outcome.kind,
+    );
 }
 
-fn push_end(alloc: Global, examinee: Examinee<'_>, text: &mut Prose, row: &SeenRow)
-    ensures { UnlessRefused text.new (appended text.old (spec.end_text (setting_of examinee.entry) row.now.schedule.items row.now.outcome.kind)) }
+/// Who waits where at the end of a schedule, or the line of its error.
+pub fn push_end(
+    alloc: Global,
+    examinee: Examinee<'_>,
+    text: &mut Prose,
+    word: &[u8],
+    kind: OutcomeKind,
+)
+    requires { length word.now ≤ 100 }
+    ensures { UnlessRefused text.new (appended text.old (spec.end_text (setting_of examinee.entry) word.now kind)) }
 {
-    match row.outcome.kind {
-        OutcomeKind::AllWaiting => match waits_of(alloc, examinee, row.schedule.as_slice()) {
+    match kind {
+        OutcomeKind::AllWaiting => match waits_of(alloc, examinee, word) {
             Ok(waits) => push_waits(alloc, examinee, text, &waits),
             Err(_) => text.refuse(),
         },

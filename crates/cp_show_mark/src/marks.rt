@@ -1,15 +1,12 @@
 //! The mark of a program, as an answer.
 
-ghost use Rattle.std.specs.Prelude.{◌≡◌, IfOk, List, Some, ℕ, false, map, option_map, string_bytes};
+ghost use Rattle.std.specs.Prelude.{◌≡◌, IfOk, IfSome, List, ℕ, false, true, map, option_map, string_bytes};
 ghost use Rattle.cp_meaning_laws.specs.Accepted.{IsAccepted};
 ghost use Rattle.cp_merged.specs.Code.{tally_of};
-ghost use Rattle.cp_machine_laws.specs.Named.{named, named_discipline};
-ghost use Rattle.cp_resolved.specs.Enumerations.{constant_names};
 ghost use Rattle.cp_resolved.specs.Resolving.{IsProgramOf};
-ghost use Rattle.cp_run.specs.Slots.{slots};
-ghost use Rattle.cp_run.specs.Table.{table};
 ghost use Rattle.cp_tree.specs.Read.{IsRead};
 ghost use Rattle.cp_tree.specs.Syntax.{Tree};
+ghost use Rattle.cp_tool.specs.Analysis.{is_endless};
 ghost use Rattle.cp_expectation.specs.Words.{words_of};
 ghost use Rattle.cp_verdict.specs.endless.Marked.{with_tables};
 ghost use Rattle.cp_verdict.specs.endless.Naming.{processes_of};
@@ -17,12 +14,12 @@ ghost use Rattle.cp_show_mark.specs.Given as given;
 ghost use Rattle.cp_show_mark.specs.MarkText.{setting_of};
 ghost use Rattle.cp_show_mark.specs.Showing as spec;
 ghost use Rattle.cp_show_mark.specs.Told as told_spec;
-ghost use Rattle.cp_show_mark.specs.Told.{IsExcessTold, SaysOfTallies, TellsText, saying};
+ghost use Rattle.cp_show_mark.specs.Told.{IsExcessTold, SaysOfTallies, TellsEndsText, TellsKnown, TellsText, saying};
 ghost use Rattle.cp_show_mark.specs.declared.answer.ShowVerdict.TheVariants.{TooMany};
 
 use crate::answer::{ShowAnswer, ShowVerdict};
 use crate::asking::refusal;
-use crate::ends_words::ends_told;
+use crate::ends_words::ends_text;
 use crate::examinee::Examinee;
 use crate::excess::{MarkExcess, excess_text};
 use crate::mark_words::{mark_text, misread_text};
@@ -31,7 +28,7 @@ use cp_outcomes::completing::greatest_known;
 use cp_outcomes::known::Known;
 use cp_progress::ObserveProgress;
 use cp_verdict::endless::{EndsMark, MarkSubject, MarkedEnds, mark_at_once, mark_in_turn};
-use cp_verdict::{MarkFault, Marked, Standing, expectations_in, mark_program, mark_tallies};
+use cp_verdict::{MarkFault, Marked, Standing, expectations_in, mark_known, mark_named};
 use cp_walk::Job;
 use std::alloc::{AllocError, Global};
 
@@ -46,7 +43,8 @@ pub fn mark_answer<O: ObserveProgress>(
 ) -> Result<ShowAnswer, AllocError>
     ensures mark { IfOk result (λ a. (text : List ℕ) × given.IsGiven words.now with_own source.now text × given.TellsGiven examinee.entry.program.now examinee.entry.options.now (processes_of examinee.entry.legend.now) (words_of text) a.verdict) }
     ensures meaning { (t : Tree) → ∥ IsRead t.program ∥₁ → IsAccepted t → IsProgramOf t examinee.entry.program.now → IfOk result (λ a. (text : List ℕ) × given.IsGiven words.now with_own source.now text × given.MeansGiven t examinee.entry.options.now (processes_of examinee.entry.legend.now) (words_of text) a.verdict) }
-    ensures text { examinee.entry.options.now.ends ≡ false → IfOk result (λ a. (text : List ℕ) × given.IsGiven words.now with_own source.now text × given.TellsGivenText (setting_of examinee.entry) examinee.entry.options.now (with_tables examinee.entry.program.now (processes_of examinee.entry.legend.now)) (words_of text) a.verdict (string_bytes a.text)) }
+    ensures text { is_endless examinee.entry.options.now.analysis ≡ false → IfOk result (λ a. (text : List ℕ) × given.IsGiven words.now with_own source.now text × given.TellsGivenText (setting_of examinee.entry) examinee.entry.options.now (with_tables examinee.entry.program.now (processes_of examinee.entry.legend.now)) (words_of text) a.verdict (string_bytes a.text)) }
+    ensures ends_text { is_endless examinee.entry.options.now.analysis ≡ true → IfOk result (λ a. (text : List ℕ) × given.IsGiven words.now with_own source.now text × given.TellsGivenEnds (setting_of examinee.entry) examinee.entry.options.now (with_tables examinee.entry.program.now (processes_of examinee.entry.legend.now)) (words_of text) a.verdict (string_bytes a.text)) }
 {
     let text = expectation_text(alloc, words, with_own, source)?;
     mark_given(alloc, examinee, observer, text.as_str())
@@ -61,7 +59,8 @@ fn mark_given<O: ObserveProgress>(
 ) -> Result<ShowAnswer, AllocError>
     ensures mark { IfOk result (λ a. given.TellsGiven examinee.entry.program.now examinee.entry.options.now (processes_of examinee.entry.legend.now) (words_of text.now) a.verdict) }
     ensures meaning { (t : Tree) → ∥ IsRead t.program ∥₁ → IsAccepted t → IsProgramOf t examinee.entry.program.now → IfOk result (λ a. given.MeansGiven t examinee.entry.options.now (processes_of examinee.entry.legend.now) (words_of text.now) a.verdict) }
-    ensures text { examinee.entry.options.now.ends ≡ false → IfOk result (λ a. given.TellsGivenText (setting_of examinee.entry) examinee.entry.options.now (with_tables examinee.entry.program.now (processes_of examinee.entry.legend.now)) (words_of text.now) a.verdict (string_bytes a.text)) }
+    ensures text { is_endless examinee.entry.options.now.analysis ≡ false → IfOk result (λ a. given.TellsGivenText (setting_of examinee.entry) examinee.entry.options.now (with_tables examinee.entry.program.now (processes_of examinee.entry.legend.now)) (words_of text.now) a.verdict (string_bytes a.text)) }
+    ensures ends_text { is_endless examinee.entry.options.now.analysis ≡ true → IfOk result (λ a. given.TellsGivenEnds (setting_of examinee.entry) examinee.entry.options.now (with_tables examinee.entry.program.now (processes_of examinee.entry.legend.now)) (words_of text.now) a.verdict (string_bytes a.text)) }
 {
     if text.is_empty() {
         return misread(
@@ -120,7 +119,8 @@ fn mark_by<O: ObserveProgress>(
 ) -> Result<ShowAnswer, AllocError>
     ensures mark { IfOk result (λ a. given.TellsGiven examinee.entry.program.now examinee.entry.options.now (processes_of examinee.entry.legend.now) (words_of text.now) a.verdict) }
     ensures meaning { (t : Tree) → ∥ IsRead t.program ∥₁ → IsAccepted t → IsProgramOf t examinee.entry.program.now → IfOk result (λ a. given.MeansGiven t examinee.entry.options.now (processes_of examinee.entry.legend.now) (words_of text.now) a.verdict) }
-    ensures text { examinee.entry.options.now.ends ≡ false → IfOk result (λ a. given.TellsGivenText (setting_of examinee.entry) examinee.entry.options.now (with_tables examinee.entry.program.now (processes_of examinee.entry.legend.now)) (words_of text.now) a.verdict (string_bytes a.text)) }
+    ensures text { is_endless examinee.entry.options.now.analysis ≡ false → IfOk result (λ a. given.TellsGivenText (setting_of examinee.entry) examinee.entry.options.now (with_tables examinee.entry.program.now (processes_of examinee.entry.legend.now)) (words_of text.now) a.verdict (string_bytes a.text)) }
+    ensures ends_text { is_endless examinee.entry.options.now.analysis ≡ true → IfOk result (λ a. given.TellsGivenEnds (setting_of examinee.entry) examinee.entry.options.now (with_tables examinee.entry.program.now (processes_of examinee.entry.legend.now)) (words_of text.now) a.verdict (string_bytes a.text)) }
 {
     match expectations(alloc, text) {
         Ok(reading) => mark_asked(alloc, examinee, observer, &reading),
@@ -140,15 +140,16 @@ fn mark_asked<O: ObserveProgress>(
     observer: &mut O,
     reading: &Reading,
 ) -> Result<ShowAnswer, AllocError>
-    ensures mark { IfOk result (λ a. given.TellsAsked examinee.entry.options.now (with_tables examinee.entry.program.now (processes_of examinee.entry.legend.now)) reading.now.expectations.items (λ es. spec.TellsMark examinee.entry.program.now.names es (table (slots examinee.entry.program.now examinee.entry.options.now.discipline) examinee.entry.options.now.choices examinee.entry.options.now.steps) a.verdict) (λ es. given.TellsEnds examinee.entry.program.now (processes_of examinee.entry.legend.now) examinee.entry.options.now es a.verdict) a.verdict) }
-    ensures meaning { (t : Tree) → ∥ IsRead t.program ∥₁ → IsAccepted t → IsProgramOf t examinee.entry.program.now → IfOk result (λ a. given.TellsAsked examinee.entry.options.now (given.names_with t (processes_of examinee.entry.legend.now)) reading.now.expectations.items (λ es. spec.TellsMark (constant_names t.program) es (table (named t (named_discipline examinee.entry.options.now.discipline)) examinee.entry.options.now.choices examinee.entry.options.now.steps) a.verdict) (λ es. given.MeansEnds t (processes_of examinee.entry.legend.now) examinee.entry.options.now es a.verdict) a.verdict) }
-    ensures text { examinee.entry.options.now.ends ≡ false → IfOk result (λ a. given.TellsIf (given.are_asked examinee.entry.options.now (with_tables examinee.entry.program.now (processes_of examinee.entry.legend.now)) reading.now.expectations.items) (TellsText (setting_of examinee.entry) reading.now.expectations.items (option_map (λ w. w.now) reading.now.doubtful) a.verdict (string_bytes a.text)) a.verdict) }
+    ensures mark { IfOk result (λ a. given.TellsAsked examinee.entry.options.now (with_tables examinee.entry.program.now (processes_of examinee.entry.legend.now)) reading.now.expectations.items (λ es. spec.TellsSlotMark examinee.entry.program.now (processes_of examinee.entry.legend.now) examinee.entry.options.now.discipline examinee.entry.options.now.choices examinee.entry.options.now.steps es a.verdict) (λ es. given.TellsEnds examinee.entry.program.now (processes_of examinee.entry.legend.now) examinee.entry.options.now es a.verdict) a.verdict) }
+    ensures meaning { (t : Tree) → ∥ IsRead t.program ∥₁ → IsAccepted t → IsProgramOf t examinee.entry.program.now → IfOk result (λ a. given.TellsAsked examinee.entry.options.now (given.names_with t (processes_of examinee.entry.legend.now)) reading.now.expectations.items (λ es. spec.TellsNamedMark t (processes_of examinee.entry.legend.now) examinee.entry.options.now.discipline examinee.entry.options.now.choices examinee.entry.options.now.steps es a.verdict) (λ es. given.MeansEnds t (processes_of examinee.entry.legend.now) examinee.entry.options.now es a.verdict) a.verdict) }
+    ensures text { is_endless examinee.entry.options.now.analysis ≡ false → IfOk result (λ a. given.TellsIf (given.are_asked examinee.entry.options.now (with_tables examinee.entry.program.now (processes_of examinee.entry.legend.now)) reading.now.expectations.items) (TellsText (setting_of examinee.entry) reading.now.expectations.items (option_map (λ w. w.now) reading.now.doubtful) a.verdict (string_bytes a.text)) a.verdict) }
+    ensures ends_text { is_endless examinee.entry.options.now.analysis ≡ true → IfOk result (λ a. given.TellsIf (given.are_asked examinee.entry.options.now (with_tables examinee.entry.program.now (processes_of examinee.entry.legend.now)) reading.now.expectations.items) (TellsEndsText (setting_of examinee.entry) a.verdict (string_bytes a.text)) a.verdict) }
 {
     let list = reading.expectations.as_slice();
     if let Some(said) = refusal(alloc, examinee, list)? {
         return misread(alloc, examinee, said.as_str());
     }
-    if examinee.options.ends {
+    if examinee.options.analysis.is_endless() {
         judge_ends(alloc, examinee, observer, list)
     } else {
         mark_of(alloc, examinee, observer, reading)
@@ -162,7 +163,8 @@ fn judge_ends<O: ObserveProgress>(
     observer: &mut O,
     list: &[Expectation],
 ) -> Result<ShowAnswer, AllocError>
-    ensures { IfOk result (λ a. given.TellsEnds examinee.entry.program.now (processes_of examinee.entry.legend.now) examinee.entry.options.now list.now a.verdict) }
+    ensures mark { IfOk result (λ a. given.TellsEnds examinee.entry.program.now (processes_of examinee.entry.legend.now) examinee.entry.options.now list.now a.verdict) }
+    ensures text { IfOk result (λ a. TellsEndsText (setting_of examinee.entry) a.verdict (string_bytes a.text)) }
 {
     let Examinee {
         options,
@@ -177,7 +179,7 @@ fn judge_ends<O: ObserveProgress>(
         most: options.states,
     };
     // Without calls at once they are made all the same where there are too many states.
-    if options.at_once {
+    if options.analysis.is_at_once() {
         let marked = mark_at_once(alloc, subject, list, observer)?;
         ends_answer(alloc, examinee, &marked)
     } else {
@@ -191,9 +193,10 @@ fn ends_answer(
     examinee: Examinee<'_>,
     marked: &MarkedEnds,
 ) -> Result<ShowAnswer, AllocError>
-    ensures { IfOk result (λ a. a.verdict ≡ spec.ends_verdict_of marked.now.mark) }
+    ensures verdict { IfOk result (λ a. a.verdict ≡ spec.ends_verdict_of marked.now.mark) }
+    ensures text { IfOk result (λ a. string_bytes a.text ≡ told_spec.ends_saying (setting_of examinee.entry) marked.now) }
 {
-    let text = ends_told(alloc, examinee, marked)?;
+    let text = ends_text(alloc, examinee, marked)?;
     Ok(ShowAnswer {
         verdict: ends_verdict_of(marked.mark),
         text,
@@ -219,8 +222,8 @@ fn mark_of<O: ObserveProgress>(
     observer: &mut O,
     reading: &Reading,
 ) -> Result<ShowAnswer, AllocError>
-    ensures mark { IfOk result (λ a. spec.TellsMark examinee.entry.program.now.names reading.now.expectations.items (table (slots examinee.entry.program.now examinee.entry.options.now.discipline) examinee.entry.options.now.choices examinee.entry.options.now.steps) a.verdict) }
-    ensures meaning { (t : Tree) → ∥ IsRead t.program ∥₁ → IsAccepted t → IsProgramOf t examinee.entry.program.now → IfOk result (λ a. spec.TellsMark (constant_names t.program) reading.now.expectations.items (table (named t (named_discipline examinee.entry.options.now.discipline)) examinee.entry.options.now.choices examinee.entry.options.now.steps) a.verdict) }
+    ensures mark { IfOk result (λ a. spec.TellsSlotMark examinee.entry.program.now (processes_of examinee.entry.legend.now) examinee.entry.options.now.discipline examinee.entry.options.now.choices examinee.entry.options.now.steps reading.now.expectations.items a.verdict) }
+    ensures meaning { (t : Tree) → ∥ IsRead t.program ∥₁ → IsAccepted t → IsProgramOf t examinee.entry.program.now → IfOk result (λ a. spec.TellsNamedMark t (processes_of examinee.entry.legend.now) examinee.entry.options.now.discipline examinee.entry.options.now.choices examinee.entry.options.now.steps reading.now.expectations.items a.verdict) }
     ensures text { IfOk result (λ a. TellsText (setting_of examinee.entry) reading.now.expectations.items (option_map (λ w. w.now) reading.now.doubtful) a.verdict (string_bytes a.text)) }
 {
     let limits = examinee.options.limits();
@@ -229,7 +232,8 @@ fn mark_of<O: ObserveProgress>(
         limits,
     };
     let list = reading.expectations.as_slice();
-    match mark_program(alloc, job, examinee.options.states, list, observer) {
+    let states = examinee.options.states;
+    match mark_named(alloc, job, examinee.legend, states, list, observer) {
         Ok(marked) => told_answer(alloc, examinee, reading, &marked),
         Err(MarkFault::Memory) => Err(AllocError),
         Err(MarkFault::TooManyStates) => {
@@ -313,39 +317,50 @@ fn too_many_text<O: ObserveProgress>(
     };
     let found = greatest_known(alloc, job, examinee.options.states, observer)?;
     match found {
-        Some(known) => known_text(alloc, examinee, reading, excess, &known),
+        Some(known) => known_text(alloc, examinee, observer, reading, excess, &known),
         None => excess_text(alloc, examinee, excess, None),
     }
 }
 
 // The same with what is said of all schedules of fewer choices.
-fn known_text(
+fn known_text<O: ObserveProgress>(
     alloc: Global,
     examinee: Examinee<'_>,
+    observer: &mut O,
     reading: &Reading,
     excess: MarkExcess,
     known: &Known,
 ) -> Result<String, AllocError>
-    ensures { IfOk result (λ t. (said : List ℕ) × SaysOfTallies (setting_of examinee.entry) reading.now.expectations.items (option_map (λ w. w.now) reading.now.doubtful) (map tally_of known.now.tallies) said × (string_bytes t ≡ told_spec.excess_saying (setting_of examinee.entry) excess (Some (known.now.choices, said)))) }
+    ensures { IfOk result (λ t. TellsKnown (setting_of examinee.entry) reading.now.expectations.items (option_map (λ w. w.now) reading.now.doubtful) excess known.now (string_bytes t)) }
 {
-    let said = saying_of_known(alloc, examinee, reading, known)?;
-    excess_text(
-        alloc,
-        examinee,
-        excess,
-        Some((known.choices, said.as_str())),
-    )
+    match saying_of_known(alloc, examinee, observer, reading, known)? {
+        Some(said) => {
+            let told = Some((known.choices, said.as_str()));
+            excess_text(alloc, examinee, excess, told)
+        }
+        None => excess_text(alloc, examinee, excess, None),
+    }
 }
 
-fn saying_of_known(
+fn saying_of_known<O: ObserveProgress>(
     alloc: Global,
     examinee: Examinee<'_>,
+    observer: &mut O,
     reading: &Reading,
     known: &Known,
-) -> Result<String, AllocError>
-    ensures { IfOk result (λ t. SaysOfTallies (setting_of examinee.entry) reading.now.expectations.items (option_map (λ w. w.now) reading.now.doubtful) (map tally_of known.now.tallies) (string_bytes t)) }
+) -> Result<Option<String>, AllocError>
+    ensures { IfOk result (λ said. IfSome said (λ t. SaysOfTallies (setting_of examinee.entry) known.now.choices reading.now.expectations.items (option_map (λ w. w.now) reading.now.doubtful) (map tally_of known.now.tallies) (string_bytes t))) }
 {
+    let job = Job {
+        program: examinee.program,
+        limits: examinee.options.limits().with_choices(known.choices),
+    };
     let list = reading.expectations.as_slice();
-    let marked = mark_tallies(alloc, examinee.program, list, known.tallies.as_slice())?;
-    mark_text(alloc, examinee, reading, &marked)
+    let tallies = known.tallies.as_slice();
+    let states = examinee.options.states;
+    match mark_known(alloc, job, examinee.legend, states, list, tallies, observer) {
+        Ok(marked) => Ok(Some(mark_text(alloc, examinee, reading, &marked)?)),
+        Err(MarkFault::Memory) => Err(AllocError),
+        Err(MarkFault::TooManyStates | MarkFault::TooManyOutcomes) => Ok(None),
+    }
 }

@@ -2,15 +2,16 @@
 
 ghost use Rattle.std.specs.Prelude.{◌≡◌, ◌≤◌, IfOk, length, map};
 ghost use Rattle.cp_legend.specs.Names.{legend_seen};
+ghost use Rattle.cp_run.specs.Code.{answer_of};
 ghost use Rattle.cp_story.specs.Views.{wait_of};
-ghost use Rattle.cp_story.specs.Waiting.{who_waits};
 ghost use Rattle.cp_walk.specs.Rows.{UsedWithin};
-ghost use Rattle.cp_show_mark.specs.Stories.{IsStoryOf};
+ghost use Rattle.cp_show_mark.specs.Stories as spec;
+ghost use Rattle.cp_show_mark.specs.Stories.{IsStoryOf, waits_at_end};
 
 use crate::examinee::Examinee;
 use cp_legend::Legend;
 use cp_machine::Uncounted;
-use cp_run::Job;
+use cp_run::{Job, OutcomeKind, RunEnd};
 use cp_slots::Resolved;
 use cp_story::{Story, Wait, tell};
 use cp_tool::Options;
@@ -40,10 +41,10 @@ pub fn story_of(
     )
 }
 
-/// Who waits where at the end of a word.
+/// Who waits where at the end of a word, if all do there.
 pub fn waits_of(alloc: Global, examinee: Examinee<'_>, word: &[u8]) -> Result<Vec<Wait>, AllocError>
     requires { length word.now ≤ 100 }
-    ensures { IfOk result (λ waits. map wait_of waits.items ≡ who_waits (legend_seen examinee.entry.legend.now) examinee.entry.program.now examinee.entry.options.now.discipline examinee.entry.options.now.choices examinee.entry.options.now.steps word.now) }
+    ensures { IfOk result (λ waits. map wait_of waits.items ≡ waits_at_end (legend_seen examinee.entry.legend.now) examinee.entry.program.now examinee.entry.options.now.discipline examinee.entry.options.now.choices examinee.entry.options.now.steps word.now) }
 {
     let Examinee {
         options,
@@ -51,5 +52,19 @@ pub fn waits_of(alloc: Global, examinee: Examinee<'_>, word: &[u8]) -> Result<Ve
         legend,
         ..
     } = examinee;
-    Ok(story_of(alloc, options, program, legend, word)?.waits)
+    let story = story_of(alloc, options, program, legend, word)?;
+    if ends_waiting(&story.end) {
+        Ok(story.waits)
+    } else {
+        Ok(Vec::new(alloc))
+    }
+}
+
+fn ends_waiting(end: &RunEnd) -> bool
+    ensures { result ≡ spec.ends_waiting (answer_of end.now) }
+{
+    match end {
+        RunEnd::Ended { outcome, .. } => matches!(outcome.kind, OutcomeKind::AllWaiting),
+        _ => false,
+    }
 }

@@ -10,3 +10,4 @@ pub mod Tallied
 pub mod Verdicts
 pub mod Written
 pub mod any_length
+pub mod who

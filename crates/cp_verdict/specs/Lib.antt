@@ -10,3 +10,4 @@ pub mod Meant
 pub mod Outputs
 pub mod Written
 pub mod endless
+pub mod waiting

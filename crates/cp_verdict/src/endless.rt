@@ -10,6 +10,7 @@ pub mod matching;
 pub mod process;
 pub mod saying;
 pub mod verdict;
+pub mod waiting;
 pub mod words;
 
 pub use at_once::{mark_at_once, mark_in_turn};

@@ -46,7 +46,7 @@ fn first_settling(
 }
 
 /// Whether a limit stopped some run that might settle an expectation.
-fn has_open(
+pub fn has_open(
     alloc: Global,
     program: &Resolved,
     expectation: &Expectation,
@@ -62,7 +62,8 @@ fn has_open(
     Ok(false)
 }
 
-fn settle(claim: Claim, found: Option<SeenRow>, left_open: bool) -> Judgement
+/// The judgement by the first row that settles an expectation, and whether some run that a limit stopped might.
+pub fn settle(claim: Claim, found: Option<SeenRow>, left_open: bool) -> Judgement
     ensures { result ≡ spec.judgement_of claim found left_open }
 {
     match (claim, found) {

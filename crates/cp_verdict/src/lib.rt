@@ -11,10 +11,12 @@ pub mod output;
 pub mod program;
 pub mod seen;
 pub mod stops;
+pub mod waiting;
 
 pub use comments::expectations_in;
 pub use judging::{Judgement, judge};
 pub use laws::{law_holds, law_output, law_stays};
 pub use marking::{Standing, judge_each, mark_of};
-pub use program::{MarkFault, Marked, Stops, mark_program, mark_tallies};
+pub use program::{MarkFault, Marked, Stops, mark_tallies};
 pub use seen::{Seen, SeenRow};
+pub use waiting::{mark_known, mark_named};

@@ -66,7 +66,8 @@ fn texts_of(alloc: Global, program: &Resolved, values: &[Shown]) -> Result<Vec<S
     Ok(texts)
 }
 
-fn has_output(
+/// Whether values are such an output.
+pub fn has_output(
     alloc: Global,
     program: &Resolved,
     pattern: &OutputPattern,
@@ -96,8 +97,8 @@ fn shows(
     Ok(false)
 }
 
-// Whether a topic speaks of an outcome. Waiting for ever is of no schedule within limits.
-fn fits(
+/// Whether a topic speaks of an outcome. Waiting for ever is of no schedule within limits.
+pub fn fits(
     alloc: Global,
     program: &Resolved,
     topic: &Topic,

@@ -9,7 +9,6 @@ ghost use Rattle.cp_merged.specs.Tallies.{tally};
 ghost use Rattle.cp_verdict.specs.Judged.{line_of};
 ghost use Rattle.cp_verdict.specs.Limits.{AreStopsOf, ended_for_choices, ended_for_output, ended_for_steps};
 ghost use Rattle.cp_verdict.specs.Marked as spec;
-ghost use Rattle.cp_verdict.specs.Meant.{IsMeantMark};
 
 use crate::judging::Judgement;
 use crate::marking::{Standing, judge_each, mark_of};
@@ -74,7 +73,8 @@ impl Stops {
     }
 }
 
-fn stops_of(seen: &[Seen]) -> Stops
+/// The limits at which some of these ended.
+pub fn stops_of(seen: &[Seen]) -> Stops
     ensures { AreStopsOf (map line_of seen.now) result }
 {
     let mut stops = Stops {
@@ -89,7 +89,7 @@ fn stops_of(seen: &[Seen]) -> Stops
 }
 
 /// The outcomes of a table, each with its first schedule.
-fn seen_of<'a>(alloc: Global, tallies: &'a [Tally]) -> Result<Vec<Seen<'a>>, AllocError>
+pub fn seen_of<'a>(alloc: Global, tallies: &'a [Tally]) -> Result<Vec<Seen<'a>>, AllocError>
     ensures { IfOk result (λ v. map line_of v.items ≡ map (λ t. t.first) (map tally_of tallies.entry.now)) }
 {
     let mut seen = Vec::new(alloc);
@@ -103,7 +103,7 @@ fn seen_of<'a>(alloc: Global, tallies: &'a [Tally]) -> Result<Vec<Seen<'a>>, All
 }
 
 /// The outcomes of a job, or what there is too much of. A layer may have so many states.
-fn outcomes_of<O: ObserveProgress>(
+pub fn outcomes_of<O: ObserveProgress>(
     alloc: Global,
     job: Job,
     states: u32,
@@ -137,24 +137,4 @@ pub fn mark_tallies(
         mark,
         stops,
     })
-}
-
-/// What the outcomes of all schedules of a job say of some expectations. A layer may have so many states. An observer is told how far the
-/// search has come.
-///
-/// # Errors
-/// What there is too much of; or memory was refused.
-pub fn mark_program<O: ObserveProgress>(
-    alloc: Global,
-    job: Job,
-    states: u32,
-    expectations: &[Expectation],
-    observer: &mut O,
-) -> Result<Marked, MarkFault>
-    ensures mark { IfOk result (λ m. spec.IsMarked job.entry.program.now.names expectations.entry.now (table (slots job.entry.program.now job.entry.limits.discipline) job.entry.limits.choices job.entry.limits.steps) m) }
-    ensures meaning { IfOk result (λ m. IsMeantMark job.entry.program.now job.entry.limits.discipline job.entry.limits.choices job.entry.limits.steps expectations.entry.now m) }
-{
-    let tallies = outcomes_of(alloc, job, states, observer)?;
-    let marked = mark_tallies(alloc, job.program, expectations, tallies.as_slice())?;
-    Ok(marked)
 }

@@ -2,6 +2,7 @@
 use Rattle.std.specs.Prelude.{◌≡◌, ◌≤◌, ◌<◌, ℕ, List, [], length, option_map, unwrap_or}
 use Rattle.cp_slots.specs.Tables.{Tables}
 use Rattle.cp_run.specs.declared.job.Job.{Job}
+use Rattle.cp_tool.specs.Analysis.{is_at_once, tells_waits}
 use Rattle.cp_tool.specs.declared.options.Options.{Options}
 use Rattle.cp_outcomes.specs.Chosen.{IsChosen, IsFirst, IsSchedule}
 use Rattle.cp_outcomes.specs.declared.telling.First.{First}
@@ -61,8 +62,8 @@ pub record IsEndsSubjectOf (s : EndsSubject) (o : Options) (r : Tables) : Type 0
   pub steps : s.limits.steps ≡ o.steps
   pub discipline : s.limits.discipline ≡ o.discipline
   pub most : s.most ≡ o.states
-  pub waits : s.waits ≡ o.waits
-  pub at_once : s.at_once ≡ o.at_once
+  pub waits : s.waits ≡ tells_waits o.analysis
+  pub at_once : s.at_once ≡ is_at_once o.analysis
 
 -- a word of up to 100 numbers is shown
 abbrev pub IsOfNumber : NumberedSchedule → Selection → Type 0

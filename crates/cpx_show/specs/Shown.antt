@@ -1,5 +1,5 @@
 -- What is shown of a program that is accepted: by each part, a verdict and a text.
-use Rattle.std.specs.Prelude.{◌≡◌, ℕ, List, map, Bool, false, codes, option_map, string_bytes}
+use Rattle.std.specs.Prelude.{◌≡◌, ℕ, List, map, Bool, false, true, codes, option_map, string_bytes}
 use Rattle.cp_tree.specs.Syntax.{Tree}
 use Rattle.cp_symbols.specs.declared.symbols.Symbols.{Symbols}
 use Rattle.cp_slots.specs.Tables.{Tables}
@@ -15,6 +15,7 @@ use Rattle.cp_run.specs.Run.{run}
 use Rattle.cp_run.specs.Table.{table}
 use Rattle.cp_run.specs.Trace.{trace}
 use Rattle.cp_machine_laws.specs.Named.{named, named_discipline}
+use Rattle.cp_tool.specs.Analysis.{is_endless}
 use Rattle.cp_tool.specs.declared.options.Options.{Options}
 use Rattle.cp_story.specs.Halted.{halted_seen}
 use Rattle.cp_story.specs.Told.{lines_of}
@@ -29,7 +30,7 @@ use Rattle.cp_refusal.specs.Text.{BeginsWith}
 use Rattle.cp_expectation.specs.Words.{words_of}
 use Rattle.cp_verdict.specs.endless.Marked.{with_tables}
 use Rattle.cp_verdict.specs.endless.Naming.{processes_of}
-use Rattle.cp_show_mark.specs.Given.{IsGiven, MeansGiven, TellsGivenText}
+use Rattle.cp_show_mark.specs.Given.{IsGiven, MeansGiven, TellsGivenEnds, TellsGivenText}
 use Rattle.cp_show_mark.specs.MarkText.{Setting}
 use Rattle.cp_show_mark.specs.declared.answer.ShowVerdict.{ShowVerdict}
 use Rattle.cp_show_mark.specs.declared.answer.ShowVerdict.TheVariants.{Reported}
@@ -81,10 +82,10 @@ AreOutcomesShown json cover o t r l verdict text = (told : List ℕ) × AreOutco
 abbrev pub setting_of : (json : Bool) → Options → Tables → code_legend.Legend → (source : List (List ℕ)) → Setting
 setting_of json o r l source = record { legend = legend_seen l; program = r; discipline = o.discipline; choices = o.choices; steps = o.steps; states = o.states; source = source; as_json = json }
 
--- the mark of the expectations that the words or the comments of the source give, by the meaning; and what tells it of schedules within the limits
+-- the mark of the expectations that the words or the comments of the source give, by the meaning; and what tells it, of schedules within the limits or of any length
 abbrev pub IsGivenMark : (json : Bool) → Options → Tree → Tables → code_legend.Legend → (words : List ℕ) → (with_own : Bool) → (bytes : List ℕ) → (source : List (List ℕ)) → ShowVerdict → List ℕ → Type 0
 IsGivenMark json o t r l words with_own bytes source verdict text =
-    ((given : List ℕ) × IsGiven words with_own bytes given × MeansGiven t o (processes_of l) (words_of given) verdict) × (o.ends ≡ false → (given : List ℕ) × IsGiven words with_own bytes given × TellsGivenText (setting_of json o r l source) o (with_tables r (processes_of l)) (words_of given) verdict text)
+    ((given : List ℕ) × IsGiven words with_own bytes given × MeansGiven t o (processes_of l) (words_of given) verdict) × (is_endless o.analysis ≡ false → (given : List ℕ) × IsGiven words with_own bytes given × TellsGivenText (setting_of json o r l source) o (with_tables r (processes_of l)) (words_of given) verdict text) × (is_endless o.analysis ≡ true → (given : List ℕ) × IsGiven words with_own bytes given × TellsGivenEnds (setting_of json o r l source) o (with_tables r (processes_of l)) (words_of given) verdict text)
 
 -- ---- the parts
 

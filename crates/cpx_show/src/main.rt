@@ -14,42 +14,32 @@ ghost use Rattle.std.specs.Prelude.{◌≡◌};
 
 use crate::answering::show_stream;
 use cp_progress::{ObserveWork, ProgressLine, terminal_of};
-use cp_show_options::{Asked, read_parts, refused_part};
+use cp_show_options::{Asked, read_parts};
 use cp_tool::{OptionFault, VERSION, Wrapped};
-use std::alloc::{AllocError, Global};
+use std::alloc::Global;
 use std::env;
 use std::io::{ErrorKind, Stderr, Stdin, Stdout};
 use std::marker::Brand;
 use std::process::ExitCode;
 use std::sync::ledger::{Blank, Ledger};
 
-// What the words ask for.
-#[derive(Drop)]
-enum Wish {
-    Part(Asked),
-    Version,
-    // The words are refused, and this says why.
-    Refused(String),
-    Help(String),
-}
-
 fn main(rt: HostRuntime) -> ExitCode {
     let code = match read_words(&rt) {
-        Ok(Wish::Part(asked)) => {
+        Ok(asked) => {
             let code = show_input(&rt, &asked);
             if code == 1 && !asked.part.tells_refusal() {
                 let _ = eprintln!(rt; "./show refusal says why");
             }
             code
         }
-        Ok(Wish::Version) => print_status(print!(rt; "cpx_show {VERSION}\n")),
-        Ok(Wish::Refused(why)) => {
+        Err(OptionFault::Version) => print_status(print!(rt; "cpx_show {VERSION}\n")),
+        Err(OptionFault::Refused(why)) => {
             let _ = eprintln!(rt; "options refused: --help says which there are");
             let _ = eprintln!(rt; "{why}");
             2
         }
-        Ok(Wish::Help(text)) => print_status(print!(rt; "{text}")),
-        Err(_) => 3,
+        Err(OptionFault::Help(text)) => print_status(print!(rt; "{text}")),
+        Err(OptionFault::Memory) => 3,
     };
     match code {
         3 => {
@@ -72,43 +62,31 @@ fn print_status<T: Drop, E: Drop>(print: Result<T, E>) -> u8 {
 }
 
 /// What the program's arguments ask for. Arguments that are no text are refused.
-fn read_words(rt: &HostRuntime) -> Result<Wish, AllocError> {
+fn read_words(rt: &HostRuntime) -> Result<Asked, OptionFault> {
     let alloc = rt.alloc();
     let words = match env::args(rt) {
         Ok(words) => words,
         Err(error) => {
-            return match error.kind() {
-                ErrorKind::OutOfMemory => Err(AllocError),
-                _ => Ok(Wish::Refused(String::from_str(alloc, "a word is no text in UTF-8")?)),
-            };
+            return Err(match error.kind() {
+                ErrorKind::OutOfMemory => OptionFault::Memory,
+                _ => OptionFault::Refused(String::from_str(alloc, "a word is no text in UTF-8")?),
+            });
         }
     };
     let words: Vec<String> = words.collect(alloc)?;
     let mut texts = Vec::new(alloc);
     for word in &words {
-        texts.push(word.as_str())?;
+        let Ok(()) = texts.push(word.as_str()) else {
+            return Err(OptionFault::Memory);
+        };
     }
-    wish_of(alloc, &texts)
-}
-
-// What the words ask for, of which the first is the program's name.
-fn wish_of<'a>(alloc: Global, words: &'a [&'a str]) -> Result<Wish, AllocError> {
-    match read_parts(alloc, words) {
-        Ok(asked) => Ok(Wish::Part(asked)),
-        Err(OptionFault::Refused) => Ok(Wish::Refused(refused_part(alloc, words)?)),
-        Err(OptionFault::Memory) => Err(AllocError),
-        Err(OptionFault::Help(text)) => Ok(Wish::Help(text)),
-        Err(OptionFault::Version) => Ok(Wish::Version),
-    }
+    read_parts(alloc, &texts)
 }
 
 // The status of showing standard input. What long work is at is told on standard error, where that is a terminal.
 fn show_input(rt: &HostRuntime, asked: &Asked) -> u8 {
-    let counted = if asked.options.ends {
-        "ends"
-    } else {
-        "outcomes"
-    };
+    let is_endless = asked.options.analysis.is_endless();
+    let counted = if is_endless { "ends" } else { "outcomes" };
     let mut line = ProgressLine::new(rt.alloc(), rt, terminal_of(rt.stderr()), counted);
     show::<ProgressLine<&HostRuntime, Stderr>, Brand, Brand>(
         rt.alloc(),

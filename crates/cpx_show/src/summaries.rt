@@ -47,7 +47,7 @@ pub fn page_answer<O: ObserveProgress>(
 }
 
 fn length_of(options: &Options) -> Length {
-    if options.ends {
+    if options.analysis.is_endless() {
         Length::Any
     } else {
         Length::Limited
@@ -133,8 +133,8 @@ pub fn ends_subject<'a>(
         legend,
         limits: options.longest_limits(),
         most: options.states,
-        waits: options.waits,
-        at_once: options.at_once,
+        waits: options.analysis.tells_waits(),
+        at_once: options.analysis.is_at_once(),
         source,
     }
 }

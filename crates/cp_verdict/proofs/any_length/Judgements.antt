@@ -89,7 +89,7 @@ other_none (Some x) p e = absurd (cc)
 -- ---- what is kept
 
 -- a topic of waiting is among those that speak of who waits, and of a value among those that speak of values
-waiting_kept : (ps : Processes) (k : KnownEnds) (ts : List Topic) (q : ℕ) → list_all (λ t. is_kept t k) ts ≡ true → is_waiting_named ps ts q ≡ true → is_some k.waits ≡ true
+pub waiting_kept : (ps : Processes) (k : KnownEnds) (ts : List Topic) (q : ℕ) → list_all (λ t. is_kept t k) ts ≡ true → is_waiting_named ps ts q ≡ true → is_some k.waits ≡ true
 waiting_kept ps k [] q kept is = absurd (cc)
 waiting_kept ps k (topic.End end output ∷ ts) q kept is = waiting_kept ps k ts q kept is
 waiting_kept ps k (topic.Shown text ∷ ts) q kept is = waiting_kept ps k ts q (both (nat_le (vec_len k.values) MOST_VALUES) (list_all (λ t. is_kept t k) ts) kept).1 is
@@ -107,7 +107,7 @@ module _ (r : Tables) (discipline : Discipline) (steps most : ℕ) (k : KnownEnd
 
   -- ---- all is known
 
-  looked_none : is_whole k ≡ true → k.looked ≡ None
+  pub looked_none : is_whole k ≡ true → k.looked ≡ None
   looked_none whole = none_is k.looked (both (is_none k.looked) (list_all (λ (e : KnownEnd). not (is_cut e.end)) k.ends.items) whole).0
 
   pub all_ends : is_whole k ≡ true → AreFirsts b.ends (map end_pair k.ends.items)
@@ -147,7 +147,7 @@ module _ (r : Tables) (discipline : Discipline) (steps most : ℕ) (k : KnownEnd
   -- ---- values
 
   module _ (q : Shown → Bool) where
-    values_first : (f : Finding) (t : Finding → Bool) → ((x : Shown × List ℕ) → t (shown x) ≡ q x.0) → find t (map shown (map value_pair k.values.items)) ≡ Some f → (x : Shown × List ℕ) × (shown x ≡ f) × IsFirstSo q (map value_pair k.values.items) (suc MOST_VALUES) b.shows x
+    pub values_first : (f : Finding) (t : Finding → Bool) → ((x : Shown × List ℕ) → t (shown x) ≡ q x.0) → find t (map shown (map value_pair k.values.items)) ≡ Some f → (x : Shown × List ℕ) × (shown x ≡ f) × IsFirstSo q (map value_pair k.values.items) (suc MOST_VALUES) b.shows x
     values_first f t same e =
         let x = pair_found shown t (map value_pair k.values.items) f e in (
           x.0,
@@ -169,7 +169,7 @@ module _ (r : Tables) (discipline : Discipline) (steps most : ℕ) (k : KnownEnd
 
     -- ---- who waits
 
-    waits_first : (ts : List Topic) (f : Finding) → find (is_about names ts) (map waiting_for_ever (those_waiting k.waits)) ≡ Some f → IsSo b f × (is_about names ts f ≡ true) × (word_of f ≡ [])
+    pub waits_first : (ts : List Topic) (f : Finding) → find (is_about names ts) (map waiting_for_ever (those_waiting k.waits)) ≡ Some f → IsSo b f × (is_about names ts f ≡ true) × (word_of f ≡ [])
     waits_first ts f e = by k.waits h.waits e
       where
         by : (o : Option (Vec Waiting Global)) → KnowsWaits r discipline steps o → find (is_about names ts) (map waiting_for_ever (those_waiting o)) ≡ Some f → IsSo b f × (is_about names ts f ≡ true) × (word_of f ≡ [])
@@ -180,7 +180,7 @@ module _ (r : Tables) (discipline : Discipline) (steps most : ℕ) (k : KnownEnd
             subst (λ g. IsSo b g × (is_about names ts g ≡ true) × (word_of g ≡ [])) w.2
             ((know w.0.process).0 (contains_at (map (λ x. x.process) list.items) found.place w.0.process (at_map (λ x. x.process) list.items found.place w.0 w.1)), subst (λ g. is_about names ts g ≡ true) (sym w.2) found.passes, refl)
 
-    waits_none : (ts : List Topic) → is_some k.waits ≡ true → is_whole k ≡ true → find (is_about names ts) (map waiting_for_ever (those_waiting k.waits)) ≡ None → (q : ℕ) → b.waits q → is_waiting_named ps ts q ≡ true → ⊥
+    pub waits_none : (ts : List Topic) → is_some k.waits ≡ true → is_whole k ≡ true → find (is_about names ts) (map waiting_for_ever (those_waiting k.waits)) ≡ None → (q : ℕ) → b.waits q → is_waiting_named ps ts q ≡ true → ⊥
     waits_none ts known whole e q waits is = by k.waits h.waits known e
       where
         by : (o : Option (Vec Waiting Global)) → KnowsWaits r discipline steps o → is_some o ≡ true → find (is_about names ts) (map waiting_for_ever (those_waiting o)) ≡ None → ⊥
@@ -226,7 +226,7 @@ module _ (r : Tables) (discipline : Discipline) (steps most : ℕ) (k : KnownEnd
           up x first (Ends end word) so is sort = absurd (cc)
           up x first (Waits p) so is sort = absurd (cc)
 
-      values_not : is_whole k ≡ true → nat_le (vec_len k.values) MOST_VALUES ≡ true → find t (map shown (map value_pair k.values.items)) ≡ None → (v : Shown) (word : List ℕ) → b.shows v word → t (Shows v word) ≡ true → ⊥
+      pub values_not : is_whole k ≡ true → nat_le (vec_len k.values) MOST_VALUES ≡ true → find t (map shown (map value_pair k.values.items)) ≡ None → (v : Shown) (word : List ℕ) → b.shows v word → t (Shows v word) ≡ true → ⊥
       values_not whole few e v word so is = values_none q t same whole few e v word so (sym (same (v, word)) ∙ is)
 
     -- ---- topics

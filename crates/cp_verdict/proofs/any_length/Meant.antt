@@ -162,7 +162,7 @@ module _ (t : Tree) (r : Tables) (g : Discipline) (read : IsRead t.program) (ok 
       by (inr (inl x)) = inr (inl (x.0, (means steps).waits.still_back x.0 q x.1))
       by (inr (inr l)) = inr (inr ((means steps).lingers.back q l))
 
-  waits_back : (q : ℕ) → (on_names t g steps).waits q → (on_slots r (discipline_of g) steps).waits q
+  pub waits_back : (q : ℕ) → (on_names t g steps).waits q → (on_slots r (discipline_of g) steps).waits q
   waits_back q (less, how) = (subst (λ n. q < n) count less, by how)
     where
       by : MayWaitForEver a waits_on_names q steps ⊎ (((word : List ℕ) × MayStandStill a waits_on_names q steps word) ⊎ MayLinger a in_call_on_names waits_on_names q steps) →
@@ -199,12 +199,12 @@ module _ (t : Tree) (r : Tables) (g : Discipline) (read : IsRead t.program) (ok 
     spins_back q word spins (Spins p, e, so) = subst (λ z. EndsSo b steps (Spins z) word) (one_mover a steps word p q (spins_named t r g read ok same steps word p (spins_for_ever b steps word p so)).0 spins.0) so
     spins_back q word spins (Alone p, e, so) = absurd (not_both a steps word p q (alone_named t r g read ok same steps word p (alone_for_ever b steps word p so)) spins)
 
-    end_back : (end : End) (word : List ℕ) → is_cut end ≡ false → EndsOnNames t g steps end word → EndsSo b steps end word
+    pub end_back : (end : End) (word : List ℕ) → is_cut end ≡ false → EndsOnNames t g steps end word → EndsSo b steps end word
     end_back (Over kind) word none so = over_kind b steps kind word (limit_cut kind none) ((means steps).ends.after_there word kind so)
     end_back (Alone q) word none so = alone_back q word so.1 (goes_on word so.0)
     end_back (Spins q) word none so = spins_back q word so.1 (goes_on word so.0)
 
-    shown_back : (v : Shown) (word : List ℕ) → ShowsOnNames t g steps v word → ShowsSo (slots r (discipline_of g)) without_output steps v word
+    pub shown_back : (v : Shown) (word : List ℕ) → ShowsOnNames t g steps v word → ShowsSo (slots r (discipline_of g)) without_output steps v word
     shown_back v word (inl x) = inl ((means steps).values.there word v x)
     shown_back v word (inr x) =
         shows_early (slots r (discipline_of g)) without_output same_key steps key_same key_self h.states (map end_pair k.ends.items) (states_all r (discipline_of g) steps most k h whole) (all_ends r (discipline_of g) steps most k h whole)

@@ -19,6 +19,10 @@ use Rattle.cp_ends.proofs.Searching.Lists.{all_at, place_of}
 use Rattle.cp_ends.proofs.Telling.{ends_told, values_told}
 use Rattle.cp_at_once_laws.specs.OnSlots.{LeavesNone}
 use Rattle.cp_at_once_laws.proofs.names.Repeating.{repeats_by_one}
+use Rattle.cp_verdict.specs.waiting.Asking.{name_who}
+use Rattle.cp_verdict.specs.waiting.EndsJudged.{IsJudgedByAny}
+use Rattle.cp_verdict.proofs.any_length.Verdicts.{judged_each}
+use Rattle.cp_verdict.proofs.who.EndsMarks.{unnamed}
 use Rattle.cp_verdict.specs.endless.AtOnce.{IsAgain, IsKnownAtOnce, IsMarkAtOnce, IsMarkInTurn, at_any_limit, can_be_at_once, knows_end, knows_value}
 use Rattle.cp_verdict.specs.endless.Behaviour.{Behaviour, Finding, Ends, Shows, Waits, IsSo}
 use Rattle.cp_verdict.specs.endless.Expectations.{HasSettling, IsTrue, IsTrueIf, asks_some, is_about, is_against_only, is_value_named, is_waiting_named, settles_by}
@@ -256,11 +260,22 @@ book_alone discipline h = by discipline.gates discipline.signals h
     by Any s h = absurd (cc)
 
 pub of_the_book : (discipline : Discipline) (es : List Expectation) → can_be_at_once discipline es ≡ true → discipline ≡ by_the_book
-of_the_book discipline es can = book_alone discipline (not_second (is_of_the_book discipline) (ask_waits es) can).0
+of_the_book discipline es can = book_alone discipline (not_second (is_of_the_book discipline) (ask_waits es) (not_second (is_of_the_book discipline && not (ask_waits es)) (name_who es) can).0).0
 
-pub marked_at_once : {E : Type 0} (r : Tables) (ps : Processes) (discipline : Discipline) (steps : ℕ) (es : List Expectation) (k : KnownEnds) (v : EndsVerdict) → can_be_at_once discipline es ≡ true → IsKnownAtOnce r steps k → AreJudged (IsJudgedBy (with_tables r ps) k) es v →
+-- nor can what names who waits at an end
+pub never_named : (discipline : Discipline) (es : List Expectation) → name_who es ≡ true → can_be_at_once discipline es ≡ false
+never_named discipline es asks = by (is_of_the_book discipline && not (ask_waits es)) (name_who es) asks
+  where
+    by : (x y : Bool) → y ≡ true → (x && not y) ≡ false
+    by true true e = refl
+    by false y e = refl
+    by true false e = absurd (cc)
+
+pub marked_at_once : {E : Type 0} (r : Tables) (ps : Processes) (discipline : Discipline) (steps : ℕ) (es : List Expectation) (k : KnownEnds) (v : EndsVerdict) → can_be_at_once discipline es ≡ true → IsKnownAtOnce r steps k → AreJudged (IsJudgedByAny (with_tables r ps) k) es v →
     (told : Result MarkedEnds E) → IfOk told (λ m. m.mark ≡ mark_of v k.looked) → IfOk told (λ m. IsMarkAtOnce r ps steps es m.mark)
-marked_at_once r ps discipline steps es k v can h j told is =
+marked_at_once r ps discipline steps es k v can h any told is =
+    let alone = not_second (is_of_the_book discipline && not (ask_waits es)) (name_who es) can in
+    let j = judged_each (IsJudgedByAny (with_tables r ps) k) (IsJudgedBy (with_tables r ps) k) es (λ e x c g. g (unnamed es alone.1 e c)) v any in
     IfOk-weaker told (λ m. m.mark ≡ mark_of v k.looked) (λ m. IsMarkAtOnce r ps steps es m.mark)
     (λ m same_mark.
     record {
@@ -269,7 +284,7 @@ marked_at_once r ps discipline steps es k v can h j told is =
       verdict = v;
       is = same_mark;
       judged = j;
-      meaning = λ t read ok same. subst (IsTrueMark (with_tables r ps) (at_any_limit t) es) (sym same_mark) (true_mark ps t r read ok same steps k h es (not_second (is_of_the_book discipline) (ask_waits es) can).1 v j);
+      meaning = λ t read ok same. subst (IsTrueMark (with_tables r ps) (at_any_limit t) es) (sym same_mark) (true_mark ps t r read ok same steps k h es (not_second (is_of_the_book discipline) (ask_waits es) alone.0).1 v j);
     })
     is
 

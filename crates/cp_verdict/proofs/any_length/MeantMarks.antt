@@ -35,7 +35,7 @@ module _ (ps : Processes) (t : Tree) (r : Tables) (g : Discipline) (read : IsRea
   settling_back e s x = back t r g read ok same steps most k h (settled_whole e k s) names e x.0 x.1 x.2
 
   -- what holds is true
-  holds : (e : Expectation) → HoldsOf names (on_slots r (discipline_of g) steps) k e → IsTrue names (on_names t g steps) e
+  pub holds : (e : Expectation) → HoldsOf names (on_slots r (discipline_of g) steps) k e → IsTrue names (on_names t g steps) e
   holds e (is, why) = by_claim (asks_some e) refl is
     where
       by_claim : (asks : Bool) → asks_some e ≡ asks → IsTrueIf asks names (on_slots r (discipline_of g) steps) e → IsTrueIf asks names (on_names t g steps) e
@@ -46,7 +46,7 @@ module _ (ps : Processes) (t : Tree) (r : Tables) (g : Discipline) (read : IsRea
   true_by e asks a is = subst (λ b. IsTrueIf b names (on_names t g steps) e) a is
 
   -- what fails is not
-  fails : (e : Expectation) (against : Option Witness) → IsJudgedToFail (IsJudged names (on_slots r (discipline_of g) steps) k) e against → IsTrue names (on_names t g steps) e → ⊥
+  pub fails : (e : Expectation) (against : Option Witness) → IsJudgedToFail (IsJudged names (on_slots r (discipline_of g) steps) k) e against → IsTrue names (on_names t g steps) e → ⊥
   fails e (Some w) f is = true_by e false f.0 is (settling_there e (finding_of w, f.1.is_so, f.1.settling))
   fails e None f is = f.1 (settling_back e f.2 (true_by e true f.0 is))
 

@@ -29,10 +29,10 @@ module _ (names : Names) (ts : List Topic) (k : KnownEnds) where
   pub only_told : (found : Option (Bor KnownEnd)) (result : Option Witness) → option_map (λ e. e.now) found ≡ find (λ e. is_other names.processes ts e.end) k.ends.items → option_map finding_of result ≡ option_map (λ e. ended (end_pair e.now)) found → option_map finding_of result ≡ find (is_against_only names ts) (map ended (map end_pair k.ends.items))
   only_told found result here is = is ∙ found_told (λ e. ended (end_pair e)) (is_against_only names ts) k.ends.items found here ∙ ap (find (is_against_only names ts)) (sym (map_map end_pair ended k.ends.items))
 
-  waits_found : (found : Option (Bor Waiting)) → option_map (λ w. w.now) found ≡ find (λ w. is_waiting_named names.processes ts w.process) (those_waiting k.waits) → option_map (λ w. waiting_for_ever w.now) found ≡ find (is_about names ts) (map waiting_for_ever (those_waiting k.waits))
+  pub waits_found : (found : Option (Bor Waiting)) → option_map (λ w. w.now) found ≡ find (λ w. is_waiting_named names.processes ts w.process) (those_waiting k.waits) → option_map (λ w. waiting_for_ever w.now) found ≡ find (is_about names ts) (map waiting_for_ever (those_waiting k.waits))
   waits_found found here = found_told waiting_for_ever (is_about names ts) (those_waiting k.waits) found here
 
-  values_found : (found : Option (Bor KnownValue)) → HasTexts names.values k.values.items → option_map (λ v. v.now) found ≡ find (λ v. is_value_named ts (string_bytes v.text)) k.values.items → option_map (λ v. shown (value_pair v.now)) found ≡ find (is_about names ts) (map shown (map value_pair k.values.items))
+  pub values_found : (found : Option (Bor KnownValue)) → HasTexts names.values k.values.items → option_map (λ v. v.now) found ≡ find (λ v. is_value_named ts (string_bytes v.text)) k.values.items → option_map (λ v. shown (value_pair v.now)) found ≡ find (is_about names ts) (map shown (map value_pair k.values.items))
   values_found found texts here =
       found_told (λ v. shown (value_pair v)) (is_about names ts) k.values.items found (here ∙ text_found names.values ts k.values.items texts) ∙ ap (find (is_about names ts)) (sym (map_map value_pair shown k.values.items))
 

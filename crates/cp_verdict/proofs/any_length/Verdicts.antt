@@ -2,6 +2,7 @@
 use Rattle.std.proofs.Common.{◌≡◌, ◌⊎◌, inl, inr, ⊎_elim, ◌∙◌, ◌+◌, ◌<◌, ◌≤◌, ℕ, List, [], ◌∷◌, ◌++◌, length, get_or, take, sym, ap, subst, arith}
 use Rattle.cp_verdict.proofs.any_length.Vocabulary.{Contains, Bor, take_all, take_more, Expectation, EndsJudgement, EndsVerdict}
 use Rattle.std.proofs.lemmas.List.Elements.{Contains-append_left, Contains-push, Contains-push_cases}
+use Rattle.std.specs.Prelude.{None, Some}
 use Rattle.cp_verdict.specs.endless.Marked.{AreJudged, joined}
 use Rattle.cp_verdict.specs.declared.endless.judging.EndsJudgement.TheVariants as judgement
 use Rattle.cp_verdict.specs.declared.endless.verdict.EndsVerdict.TheVariants as verdict
@@ -33,6 +34,13 @@ module _ (J : Expectation → EndsJudgement → Type 0) (es : List Expectation) 
   with_one (verdict.Open f) (judgement.Against w) m h = (last, h)
   with_one (verdict.Open f) judgement.Missing m h = (last, h)
   with_one (verdict.Open f) judgement.Open m h = (each_more (λ x. J x judgement.Holds ⊎ J x judgement.Open) m.0 (inr h), (earlier f.now m.1.0, m.1.1))
+
+-- each judgement says something else too
+pub judged_each : (J K : Expectation → EndsJudgement → Type 0) (es : List Expectation) → ((e : Expectation) (j : EndsJudgement) → Contains es e → J e j → K e j) → (v : EndsVerdict) → AreJudged J es v → AreJudged K es v
+judged_each J K es f verdict.Holds m = λ e c. f e judgement.Holds c (m e c)
+judged_each J K es f (verdict.Fails e (Some w)) m = (m.0, f e.now (judgement.Against w) m.0 m.1)
+judged_each J K es f (verdict.Fails e None) m = (m.0, f e.now judgement.Missing m.0 m.1)
+judged_each J K es f (verdict.Open e) m = (λ x c. ⊎_elim (λ (h : J x judgement.Holds). inl (f x judgement.Holds c h)) (λ (h : J x judgement.Open). inr (f x judgement.Open c h)) (m.0 x c), (m.1.0, f e.now judgement.Open m.1.0 m.1.1))
 
 module _ (J : Expectation → EndsJudgement → Type 0) (list : List Expectation) where
   pub verdict_more : (i : ℕ) (e : Bor Expectation) (v result : EndsVerdict) (j : EndsJudgement) → i < length list → e.now ≡ get_or list i e.now → result ≡ joined v e j → AreJudged J (take i list) v → J e.now j →

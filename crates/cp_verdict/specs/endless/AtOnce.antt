@@ -26,6 +26,7 @@ use Rattle.cp_verdict.specs.endless.Judged.{IsJudgedBy}
 use Rattle.cp_verdict.specs.endless.Knowledge.{HasTexts, end_pair, is_whole, value_pair}
 use Rattle.cp_verdict.specs.endless.Marked.{AreJudged, IsMarkOf, IsMeantMark, IsTrueMark, ask_waits, mark_of, with_tables}
 use Rattle.cp_verdict.specs.endless.Naming.{Processes}
+use Rattle.cp_verdict.specs.waiting.Asking.{name_who}
 use Rattle.cp_expectation.specs.declared.expectation.Expectation.{Expectation}
 use Rattle.cp_verdict.specs.declared.endless.known.KnownEnds.{KnownEnds}
 use Rattle.cp_verdict.specs.declared.endless.verdict.EndsMark.{EndsMark}
@@ -67,9 +68,9 @@ pub record IsKnownAtOnce (r : Tables) (steps : ℕ) (k : KnownEnds) : Type 0 whe
 
 -- ---- marks
 
--- who waits can't be asked then, nor what another discipline than the book's leads to
+-- who waits, for ever or at an end, can't be asked then, nor what another discipline than the book's leads to
 abbrev pub can_be_at_once : Discipline → List Expectation → Bool
-can_be_at_once discipline es = is_of_the_book discipline && not (ask_waits es)
+can_be_at_once discipline es = (is_of_the_book discipline && not (ask_waits es)) && not (name_who es)
 
 -- The mark is that of a verdict by what is known, and it is true of the program's own names, whatever the limit of steps.
 pub record IsMarkAtOnce (r : Tables) (ps : Processes) (steps : ℕ) (es : List Expectation) (m : EndsMark) : Type 0 where

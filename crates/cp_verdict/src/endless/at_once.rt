@@ -4,12 +4,15 @@ ghost use Rattle.std.specs.Prelude.{◌≡◌, ◌≤◌, ◌⊎◌, IfOk, false
 ghost use Rattle.cp_verdict.specs.endless.AtOnce as spec;
 ghost use Rattle.cp_verdict.specs.endless.Marked.{can_be_asked};
 ghost use Rattle.cp_verdict.specs.endless.Naming.{processes_of};
+ghost use Rattle.cp_verdict.specs.waiting.Asking.{name_who};
+ghost use Rattle.cp_verdict.specs.waiting.EndsMarked as who_spec;
 ghost use Rattle.cp_verdict.specs.declared.endless.verdict.EndsMark.TheVariants.{Misread};
 
 use crate::endless::knowing_at_once::knowledge_at_once;
 use crate::endless::marking::{MarkSubject, ask_waits, mark_list, tell};
 use crate::endless::saying::MarkedEnds;
 use crate::endless::verdict::{EndsMark, verdict_on};
+use crate::waiting::asking::name_who;
 use cp_at_once::search_at_once_with;
 use cp_expectation::Expectation;
 use cp_machine::Discipline;
@@ -25,8 +28,10 @@ pub fn mark_in_turn<O: ObserveProgress>(
     list: &[Expectation],
     observer: &mut O,
 ) -> Result<MarkedEnds, AllocError>
-    ensures mark { 1 ≤ subject.entry.most → can_be_asked subject.entry.limits.discipline list.now ≡ true → IfOk result (λ m. spec.IsMarkInTurn subject.entry.program.now (processes_of subject.entry.legend.now) subject.entry.limits.discipline subject.entry.limits.steps subject.entry.most list.now m.mark) }
+    ensures mark { 1 ≤ subject.entry.most → can_be_asked subject.entry.limits.discipline list.now ≡ true → name_who list.now ≡ false → IfOk result (λ m. spec.IsMarkInTurn subject.entry.program.now (processes_of subject.entry.legend.now) subject.entry.limits.discipline subject.entry.limits.steps subject.entry.most list.now m.mark) }
     ensures refused { can_be_asked subject.entry.limits.discipline list.now ≡ false → IfOk result (λ m. m.mark ≡ Misread) }
+    ensures who { 1 ≤ subject.entry.most → can_be_asked subject.entry.limits.discipline list.now ≡ true → name_who list.now ≡ true → IfOk result (λ m. who_spec.IsMarkOf subject.entry.program.now (processes_of subject.entry.legend.now) subject.entry.limits.discipline subject.entry.limits.steps subject.entry.most list.now m.mark) }
+    ensures who_meant { 1 ≤ subject.entry.most → can_be_asked subject.entry.limits.discipline list.now ≡ true → name_who list.now ≡ true → IfOk result (λ m. who_spec.IsMeantMark subject.entry.program.now (processes_of subject.entry.legend.now) subject.entry.limits.discipline subject.entry.limits.steps list.now m.mark) }
 {
     let marked = mark_list(alloc, subject, list, observer)?;
     match marked.mark {
@@ -43,7 +48,8 @@ fn mark_again<O: ObserveProgress>(
     marked: MarkedEnds,
     observer: &mut O,
 ) -> Result<MarkedEnds, AllocError>
-    ensures { IfOk result (λ m. spec.IsAgain subject.entry.program.now (processes_of subject.entry.legend.now) subject.entry.limits.discipline subject.entry.limits.steps list.now marked.mark m.mark) }
+    ensures same { spec.can_be_at_once subject.entry.limits.discipline list.now ≡ false → IfOk result (λ m. m.mark ≡ marked.mark) }
+    ensures again { IfOk result (λ m. spec.IsAgain subject.entry.program.now (processes_of subject.entry.legend.now) subject.entry.limits.discipline subject.entry.limits.steps list.now marked.mark m.mark) }
 {
     if can_be_at_once(subject.limits.discipline, list) {
         let again = mark_at_once(alloc, subject, list, observer)?;
@@ -74,11 +80,11 @@ fn tell_again(
     }
 }
 
-// Whether kernel calls at once can settle it: not who waits, and under the book's discipline alone.
+// Whether kernel calls at once can settle it: not who waits, for ever or at an end, and under the book's discipline alone.
 fn can_be_at_once(discipline: Discipline, list: &[Expectation]) -> bool
     ensures { result ≡ spec.can_be_at_once discipline list.now }
 {
-    discipline.is_of_the_book() && !ask_waits(list)
+    discipline.is_of_the_book() && !ask_waits(list) && !name_who(list)
 }
 
 /// What schedules of any length say of some expectations, where kernel calls are made at once. An observer is told how far the search has come.

@@ -49,8 +49,8 @@ fn first_other<'a>(legend: &Legend, ends: &'a [KnownEnd], topics: &[Topic]) -> O
     ends.iter().find(|end| !is_named(legend, topics, end.end) && !is_cut(end.end))
 }
 
-// The first value that a topic speaks of.
-fn first_shown<'a>(values: &'a [KnownValue], topics: &[Topic]) -> Option<&'a KnownValue>
+/// The first value that a topic speaks of.
+pub fn first_shown<'a>(values: &'a [KnownValue], topics: &[Topic]) -> Option<&'a KnownValue>
     ensures { option_map (λ v. v.now) result ≡ find (λ v. is_value_named topics.now (string_bytes v.text)) values.entry.now }
 {
     values
@@ -58,8 +58,8 @@ fn first_shown<'a>(values: &'a [KnownValue], topics: &[Topic]) -> Option<&'a Kno
         .find(|value| is_value_named(topics, value.text.as_str()))
 }
 
-// The first of those who may wait for ever of whom a topic speaks.
-fn first_waiting<'a>(
+/// The first of those who may wait for ever of whom a topic speaks.
+pub fn first_waiting<'a>(
     legend: &Legend,
     waits: &'a Option<Vec<Waiting>>,
     topics: &[Topic],
@@ -72,7 +72,8 @@ fn first_waiting<'a>(
     list.iter().find(|waiting| is_waiting_named(legend, topics, waiting.process))
 }
 
-fn end_witness<'a>(end: Option<&'a KnownEnd>) -> Option<Witness<'a>>
+/// An end as what a schedule shows.
+pub fn end_witness<'a>(end: Option<&'a KnownEnd>) -> Option<Witness<'a>>
     ensures { option_map known_spec.finding_of result ≡ option_map (λ e. known_spec.ended (known_spec.end_pair e.now)) end.entry }
 {
     Some(Witness::End(end?))
@@ -90,15 +91,15 @@ fn waiting_witness<'a>(waiting: Option<&'a Waiting>) -> Option<Witness<'a>>
     Some(Witness::Waiting(waiting?))
 }
 
-// Whether a word is another, or comes before it: it is shorter, or as long and not after it in the dictionary.
-fn is_up_to(word: &[u8], other: &[u8]) -> bool
+/// Whether a word is another, or comes before it: it is shorter, or as long and not after it in the dictionary.
+pub fn is_up_to(word: &[u8], other: &[u8]) -> bool
     ensures { result ≡ firsts.is_up_to word.now other.now }
 {
     word.len() < other.len() || (word.len() == other.len() && word <= other)
 }
 
-// The one with the first word.
-fn earlier<'a>(end: Option<&'a KnownEnd>, value: Option<&'a KnownValue>) -> Option<Witness<'a>>
+/// The one with the first word.
+pub fn earlier<'a>(end: Option<&'a KnownEnd>, value: Option<&'a KnownValue>) -> Option<Witness<'a>>
     ensures { option_map known_spec.finding_of result ≡ spec.earlier_of (option_map (λ e. known_spec.ended (known_spec.end_pair e.now)) end.entry) (option_map (λ v. known_spec.shown (known_spec.value_pair v.now)) value.entry) }
 {
     match (end, value) {
@@ -170,14 +171,19 @@ fn are_kept(topics: &[Topic], known: &KnownEnds) -> bool
     topics.iter().all(|topic| is_kept(topic, known))
 }
 
-// Whether what is not known of an expectation is not so.
-fn is_settled(expectation: &Expectation, known: &KnownEnds) -> bool
+/// Whether what is not known of an expectation is not so.
+pub fn is_settled(expectation: &Expectation, known: &KnownEnds) -> bool
     ensures { result ≡ known_spec.is_settled expectation.now known.now }
 {
     is_whole(known) && are_kept(&expectation.topics, known)
 }
 
-fn judgement_from<'a>(claim: Claim, found: Option<Witness<'a>>, settled: bool) -> EndsJudgement<'a>
+/// The judgement by what settles an expectation first, and whether all is known.
+pub fn judgement_from<'a>(
+    claim: Claim,
+    found: Option<Witness<'a>>,
+    settled: bool,
+) -> EndsJudgement<'a>
     ensures { result ≡ spec.judgement_of (asks_some_by claim) found.entry settled }
 {
     match (claim, found) {

@@ -26,6 +26,7 @@ pub fn knowledge_of(
 ) -> Result<KnownEnds, AllocError>
     ensures known { IfOk result (λ k. (discipline : Discipline) (steps most : ℕ) → IsAnswer program.now discipline steps most found.now → spec.KnowsWaits program.now discipline steps waits → spec.IsKnown program.now discipline steps most k) }
     ensures waits { IfOk result (λ k. k.waits ≡ waits) }
+    ensures looked { IfOk result (λ k. (r : Tables) (f : SlotFindings) → Holds r found.now f → spec.IsLookedAt f.states found.now.stopped k.looked) }
 {
     let looked = numbers_looked_at(alloc, found)?;
     let ends = known_ends(alloc, found, looked)?;
@@ -34,6 +35,7 @@ pub fn knowledge_of(
         ends,
         values,
         waits,
+        waiting: Vec::new(alloc),
         looked,
     })
 }
@@ -49,6 +51,7 @@ fn numbers_looked_at(alloc: Global, found: &Found) -> Result<Option<usize>, Allo
     Ok(Some(word.len()))
 }
 
+/// Whether a word was looked at.
 fn is_within(looked: Option<usize>, word: &[u8]) -> bool
     ensures { result ≡ spec.is_looked_at looked word.now }
 {

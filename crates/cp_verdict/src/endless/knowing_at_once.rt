@@ -32,6 +32,7 @@ pub fn knowledge_at_once(
         ends,
         values,
         waits: None,
+        waiting: Vec::new(alloc),
         looked: numbers_looked_at(found),
     })
 }

@@ -1,5 +1,7 @@
 //! What is known of the schedules of a program.
 
+ghost use Rattle.std.specs.Prelude.{◌≡◌};
+
 use cp_ends::End;
 use cp_machine::Shown;
 use cp_waits::Waiting;
@@ -19,6 +21,13 @@ pub struct KnownValue {
     pub word: Vec<u8>,
 }
 
+/// An end at which all wait, and who waits there.
+#[derive(Drop)]
+pub struct KnownWaitingEnd {
+    pub who: Vec<u8>,
+    pub end: KnownEnd,
+}
+
 /// The ends and values of the schedules that were looked at, in the order of their words, and who may wait for ever.
 #[derive(Drop)]
 pub struct KnownEnds {
@@ -26,8 +35,20 @@ pub struct KnownEnds {
     pub values: Vec<KnownValue>,
     /// Who may wait for ever, where that was asked and is settled.
     pub waits: Option<Vec<Waiting>>,
+    /// The ends at which all wait by who waits there, where that was asked.
+    pub waiting: Vec<KnownWaitingEnd>,
     /// Schedules of at most so many choices were looked at; with none, those of any length.
     pub looked: Option<usize>,
+}
+
+impl KnownEnds {
+    /// The same, and who waits at the ends.
+    pub fn with_waiting(mut self, waiting: Vec<KnownWaitingEnd>) -> KnownEnds
+        ensures { result ≡ record self { waiting = waiting } }
+    {
+        self.waiting = waiting;
+        self
+    }
 }
 
 /// What a schedule shows.

@@ -9,18 +9,24 @@ ghost use Rattle.cp_waits.specs.Named.{TellAsked};
 ghost use Rattle.cp_verdict.specs.endless.Knowledge.{IsKnown, KnowsWaits};
 ghost use Rattle.cp_verdict.specs.endless.Marked as spec;
 ghost use Rattle.cp_verdict.specs.endless.Naming.{processes_of};
+ghost use Rattle.cp_verdict.specs.waiting.Asking.{name_who};
+ghost use Rattle.cp_verdict.specs.waiting.EndsMarked as who_spec;
+ghost use Rattle.cp_verdict.specs.waiting.Known.{KnowsWho};
 ghost use Rattle.cp_verdict.specs.declared.endless.verdict.EndsMark.TheVariants.{Misread};
 
 use crate::endless::knowing::knowledge_of;
 use crate::endless::known::KnownEnds;
 use crate::endless::saying::{MarkedEnds, note_on, open_words, sayings_of};
 use crate::endless::verdict::{EndsVerdict, mark_of, verdict_on};
+use crate::endless::waiting::waiting_ends;
+use crate::waiting::asking::name_who;
 use cp_expectation::{Expectation, Topic};
 use cp_legend::Legend;
 use cp_machine::{Discipline, Gates};
 use cp_progress::ObserveProgress;
 use cp_run::{Job, Limits};
 use cp_slots::Resolved;
+use cp_waiting_ends::find_again;
 use cp_waits::{FoundWaits, Waiting, Waits, find_waits};
 use std::alloc::{AllocError, Global};
 
@@ -40,15 +46,16 @@ pub fn mark_list<O: ObserveProgress>(
     list: &[Expectation],
     observer: &mut O,
 ) -> Result<MarkedEnds, AllocError>
-    ensures mark { 1 ≤ subject.entry.most → spec.can_be_asked subject.entry.limits.discipline list.now ≡ true → IfOk result (λ m. spec.IsMarkOf subject.entry.program.now (processes_of subject.entry.legend.now) subject.entry.limits.discipline subject.entry.limits.steps subject.entry.most list.now m.mark) }
+    ensures mark { 1 ≤ subject.entry.most → spec.can_be_asked subject.entry.limits.discipline list.now ≡ true → name_who list.now ≡ false → IfOk result (λ m. spec.IsMarkOf subject.entry.program.now (processes_of subject.entry.legend.now) subject.entry.limits.discipline subject.entry.limits.steps subject.entry.most list.now m.mark) }
     ensures refused { spec.can_be_asked subject.entry.limits.discipline list.now ≡ false → IfOk result (λ m. m.mark ≡ Misread) }
-    ensures meaning { 1 ≤ subject.entry.most → spec.can_be_asked subject.entry.limits.discipline list.now ≡ true → IfOk result (λ m. spec.IsMeantMark subject.entry.program.now (processes_of subject.entry.legend.now) subject.entry.limits.discipline subject.entry.limits.steps list.now m.mark) }
+    ensures meaning { 1 ≤ subject.entry.most → spec.can_be_asked subject.entry.limits.discipline list.now ≡ true → name_who list.now ≡ false → IfOk result (λ m. spec.IsMeantMark subject.entry.program.now (processes_of subject.entry.legend.now) subject.entry.limits.discipline subject.entry.limits.steps list.now m.mark) }
+    ensures who { 1 ≤ subject.entry.most → spec.can_be_asked subject.entry.limits.discipline list.now ≡ true → IfOk result (λ m. who_spec.IsMarkOf subject.entry.program.now (processes_of subject.entry.legend.now) subject.entry.limits.discipline subject.entry.limits.steps subject.entry.most list.now m.mark) }
+    ensures who_meant { 1 ≤ subject.entry.most → spec.can_be_asked subject.entry.limits.discipline list.now ≡ true → IfOk result (λ m. who_spec.IsMeantMark subject.entry.program.now (processes_of subject.entry.legend.now) subject.entry.limits.discipline subject.entry.limits.steps list.now m.mark) }
 {
-    let asks = ask_waits(list);
-    if asks && is_any(subject.limits.discipline) {
+    if ask_waits(list) && is_any(subject.limits.discipline) {
         return MarkedEnds::misread(alloc, "waiting can't be asked with --gates any\n");
     }
-    let known = knowledge(alloc, subject, asks, observer)?;
+    let known = knowledge(alloc, subject, list, observer)?;
     let verdict = verdict_on(subject.legend, &known, list);
     tell(alloc, subject, &known, list, verdict, false)
 }
@@ -79,14 +86,15 @@ pub fn ask_waits(list: &[Expectation]) -> bool
     list.iter().any(asks_waits)
 }
 
-// What is known of the schedules of a program, and of who may wait for ever where that is asked.
+// What is known of the schedules of a program: who may wait for ever, and who waits at an end, where that is asked.
 fn knowledge<O: ObserveProgress>(
     alloc: Global,
     subject: MarkSubject<'_>,
-    asks: bool,
+    list: &[Expectation],
     observer: &mut O,
 ) -> Result<KnownEnds, AllocError>
-    ensures { 1 ≤ subject.entry.most → IfOk result (λ k. IsKnown subject.entry.program.now subject.entry.limits.discipline subject.entry.limits.steps subject.entry.most k) }
+    ensures known { 1 ≤ subject.entry.most → IfOk result (λ k. IsKnown subject.entry.program.now subject.entry.limits.discipline subject.entry.limits.steps subject.entry.most k) }
+    ensures who { 1 ≤ subject.entry.most → name_who list.now ≡ true → IfOk result (λ k. KnowsWho subject.entry.program.now subject.entry.limits.discipline subject.entry.limits.steps k) }
 {
     let MarkSubject {
         program,
@@ -94,14 +102,15 @@ fn knowledge<O: ObserveProgress>(
         most,
         ..
     } = subject;
-    let FoundWaits { found, waits } = find_waits(
-        alloc,
-        &Job { program, limits },
-        most,
-        asks,
-        observer,
-    )?;
-    knowledge_of(alloc, program, &found, lines_of(waits))
+    let job = Job { program, limits };
+    let FoundWaits { found, waits } = find_waits(alloc, &job, most, ask_waits(list), observer)?;
+    let known = knowledge_of(alloc, program, &found, lines_of(waits))?;
+    if !name_who(list) {
+        return Ok(known);
+    }
+    let ends = find_again(alloc, &job, &found, observer)?;
+    let waiting = waiting_ends(alloc, &ends)?;
+    Ok(known.with_waiting(waiting))
 }
 
 // Who may wait for ever, where that was asked and is settled.

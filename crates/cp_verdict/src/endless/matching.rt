@@ -42,7 +42,8 @@ fn names_spinning(legend: &Legend, pattern: &EndPattern, process: u8) -> bool
     }
 }
 
-fn names_end(legend: &Legend, topic: &Topic, end: End) -> bool
+/// Whether a topic speaks of an end.
+pub fn names_end(legend: &Legend, topic: &Topic, end: End) -> bool
     ensures { result ≡ spec.names_end (processes_of legend.now) topic.now end }
 {
     match topic {

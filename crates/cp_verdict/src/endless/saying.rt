@@ -3,9 +3,10 @@
 ghost use Rattle.std.specs.Prelude.{◌≡◌, IfOk};
 ghost use Rattle.cp_verdict.specs.declared.endless.verdict.EndsMark.TheVariants.{Misread};
 
-use crate::endless::judging::{EndsJudgement, is_whole, judge};
-use crate::endless::known::KnownEnds;
+use crate::endless::judging::{EndsJudgement, is_whole};
+use crate::endless::known::{KnownEnd, KnownEnds, Witness};
 use crate::endless::verdict::EndsMark;
+use crate::endless::waiting::judge_any;
 use crate::endless::words::{missing_words, push_witness};
 use crate::marking::Standing;
 use cp_expectation::{Expectation, push_expectation};
@@ -20,6 +21,8 @@ pub struct Said {
     pub standing: Standing,
     /// Why it does not hold.
     pub reason: String,
+    /// The end that is against it, if it is one.
+    pub against: Option<KnownEnd>,
 }
 
 /// A mark, and what is said with it.
@@ -53,37 +56,6 @@ impl MarkedEnds {
         self.last.push_str(line)?;
         Ok(self)
     }
-
-    /// The lines: first those that fail, then those that are not settled.
-    pub fn text(&self, alloc: Global) -> Result<String, AllocError> {
-        let mut text = String::new(alloc);
-        if self.mark == EndsMark::Holds {
-            text.push_str("holds\n")?;
-        }
-        text.push_str(self.note.as_str())?;
-        self.push_those(&mut text, Standing::Fails, "fails: ")?;
-        self.push_those(&mut text, Standing::Open, "not settled: ")?;
-        text.push_str(self.last.as_str())?;
-        Ok(text)
-    }
-
-    fn push_those(
-        &self,
-        text: &mut String,
-        standing: Standing,
-        heading: &str,
-    ) -> Result<(), AllocError> {
-        for said in &self.each {
-            if said.standing == standing {
-                text.push_str(heading)?;
-                text.push_str(said.expectation.as_str())?;
-                text.push('\n')?;
-                text.push_str(said.reason.as_str())?;
-                text.push('\n')?;
-            }
-        }
-        Ok(())
-    }
 }
 
 /// What is said of each expectation; before a schedule, and where it is not settled, these words.
@@ -111,11 +83,13 @@ fn saying_of(
     open: &str,
 ) -> Result<Said, AllocError> {
     let mut reason = String::new(alloc);
-    let standing = match judge(legend, known, expectation) {
+    let mut against = None;
+    let standing = match judge_any(legend, known, expectation) {
         EndsJudgement::Holds => Standing::Holds,
         EndsJudgement::Against(witness) => {
             reason.push_str(before)?;
             push_witness(legend, &mut reason, witness)?;
+            against = end_of(alloc, witness)?;
             Standing::Fails
         }
         EndsJudgement::Missing => {
@@ -133,7 +107,21 @@ fn saying_of(
         expectation: text,
         standing,
         reason,
+        against,
     })
+}
+
+// The end that a schedule shows, if it is one.
+fn end_of(alloc: Global, witness: Witness<'_>) -> Result<Option<KnownEnd>, AllocError> {
+    let Witness::End(known) = witness else {
+        return Ok(None);
+    };
+    let mut word = Vec::new(alloc);
+    word.extend_from_slice(&known.word)?;
+    Ok(Some(KnownEnd {
+        end: known.end,
+        word,
+    }))
 }
 
 /// What is said of all expectations: by what they hold, or that there are too many states.

@@ -3,15 +3,15 @@
 ghost use Rattle.std.specs.Prelude.{◌≡◌, ℕ};
 ghost use Rattle.cp_machine.specs.declared.discipline.Discipline.{Discipline};
 ghost use Rattle.cp_slots.specs.Tables.{Tables};
-ghost use Rattle.cp_verdict.specs.endless.Behaviour.{on_slots};
 ghost use Rattle.cp_walk.specs.Text.{Spellings};
-ghost use Rattle.cp_verdict.specs.endless.Judged.{IsJudgedBy};
 ghost use Rattle.cp_verdict.specs.endless.Knowledge.{HasTexts, IsKnown};
 ghost use Rattle.cp_verdict.specs.endless.Marked as spec;
 ghost use Rattle.cp_verdict.specs.endless.Naming.{processes_of};
+ghost use Rattle.cp_verdict.specs.waiting.EndsJudged.{IsJudgedAny, IsJudgedByAny};
 
-use crate::endless::judging::{EndsJudgement, judge};
+use crate::endless::judging::EndsJudgement;
 use crate::endless::known::{KnownEnds, Witness};
+use crate::endless::waiting::judge_any;
 use cp_expectation::Expectation;
 use cp_legend::Legend;
 
@@ -45,7 +45,7 @@ pub enum EndsVerdict<'a> {
 }
 
 /// The verdict on some expectations and one more.
-fn join<'a>(
+pub fn join<'a>(
     verdict: EndsVerdict<'a>,
     expectation: &'a Expectation,
     judgement: EndsJudgement<'a>,
@@ -73,12 +73,12 @@ pub fn verdict_on<'a>(
     known: &'a KnownEnds,
     list: &'a [Expectation],
 ) -> EndsVerdict<'a>
-    ensures slots { (r : Tables) (discipline : Discipline) (steps most : ℕ) → IsKnown r discipline steps most known.entry.now → spec.IsMarked (spec.with_tables r (processes_of legend.now)) (on_slots r discipline steps) known.entry.now list.entry.now result }
-    ensures known { (values : Spellings) → HasTexts values known.entry.now.values.items → spec.AreJudged (IsJudgedBy (record { values = values; processes = processes_of legend.now }) known.entry.now) list.entry.now result }
+    ensures slots { (r : Tables) (discipline : Discipline) (steps most : ℕ) → IsKnown r discipline steps most known.entry.now → spec.AreJudged (IsJudgedAny r (processes_of legend.now) discipline steps known.entry.now) list.entry.now result }
+    ensures known { (values : Spellings) → HasTexts values known.entry.now.values.items → spec.AreJudged (IsJudgedByAny (record { values = values; processes = processes_of legend.now }) known.entry.now) list.entry.now result }
 {
     let mut verdict = EndsVerdict::Holds;
     for expectation in list {
-        verdict = join(verdict, expectation, judge(legend, known, expectation));
+        verdict = join(verdict, expectation, judge_any(legend, known, expectation));
     }
     verdict
 }

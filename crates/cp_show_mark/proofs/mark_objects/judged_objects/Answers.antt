@@ -1,4 +1,5 @@
-use Rattle.std.proofs.Common.{◌≡◌, ◌∙◌, Bor, ap, length, rules, sym}
+use Rattle.std.proofs.Common.{◌≡◌, ◌∙◌, Bor, ap, arith, length, rules, sym}
+use Rattle.std.specs.List.{zip}
 use Rattle.std.specs.Iterator.Adapters.{zip_first, zip_second}
 use Rattle.std.specs.Slice.Iter.{iter_rest}
 use Rattle.std.proofs.lemmas.Slice.Zip.{length-zip, zip_end, zip_turn}
@@ -30,4 +31,4 @@ returns c =
     let first : iter_rest (zip_first c.into_iter-expectation-iterator.result) ≡ es = search rules in
     let second : iter_rest (zip_second c.into_iter-expectation-iterator.result) ≡ js = search rules in
     let done = zip_end es js c.loop-expectation.yielded c.into_iter-expectation-iterator.result c.loop-expectation.expectation-iterator c.next.new.self c.next.result first second c.loop-expectation.yielded_by c.in-None.is c.next.ensures.steps in
-    seen_array c.loop-expectation.items ∙ ap array_of (all_gathered view (judged_data (setting_of c.args.examinee) m.stops) es js (length c.loop-expectation.yielded) c.loop-expectation.items.items (length-zip es js ∙ sym done) c.loop-expectation.invariant)
+    seen_array c.loop-expectation.items ∙ ap array_of (all_gathered view (judged_data (setting_of c.args.examinee) m.stops) (zip es js) (length c.loop-expectation.yielded) c.loop-expectation.items.items (omega (arith, length-zip es js ∙ sym done)) c.loop-expectation.invariant)

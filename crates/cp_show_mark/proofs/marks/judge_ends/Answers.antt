@@ -1,14 +1,27 @@
+use Rattle.std.proofs.Common.{◌∙◌, sym}
 use Rattle.std.proofs.lemmas.Result.{IfOk-weaker}
+use Rattle.cp_run.proofs.Tracing.{ok_both}
 use Rattle.cp_verdict.specs.endless.Naming.{processes_of}
 use Rattle.cp_show_mark.proofs.Telling.{judged_at_once, judged_in_turn}
 use Rattle.cp_show_mark.proofs.marks.judge_ends.Goals as goal
 
-pub returns-in_ok-marked : goal.returns-in_ok-marked
-returns-in_ok-marked g c =
+pub returns-in_ok-marked-clause-mark : goal.returns-in_ok-marked-clause-mark
+returns-in_ok-marked-clause-mark g c =
+    let x = c.args.examinee in
     let marked = c.in_ok-marked in
-    IfOk-weaker c.ends_answer.result _ _ (λ a e. judged_at_once c.args.examinee.options.now c.longest_limits.result c.args.examinee.program.now (processes_of c.args.examinee.legend.now) c.args.list.now marked.marked.mark a.verdict c.longest_limits.ensures c.if-options.true e marked.ensures.mark marked.ensures.refused) c.ends_answer.ensures
+    IfOk-weaker c.ends_answer.result _ _ (λ a e. judged_at_once x.options.now c.longest_limits.result x.program.now (processes_of x.legend.now) c.args.list.now marked.marked.mark a.verdict c.longest_limits.ensures (sym c.is_at_once.ensures ∙ c.if-is_at_once.true) e marked.ensures.mark marked.ensures.refused) c.ends_answer.ensures.verdict
 
-pub returns-in_ok-marked-2 : goal.returns-in_ok-marked-2
-returns-in_ok-marked-2 g c =
+pub returns-in_ok-marked-2-clause-mark : goal.returns-in_ok-marked-2-clause-mark
+returns-in_ok-marked-2-clause-mark g c =
+    let x = c.args.examinee in
     let marked = c.in_ok-marked-2 in
-    IfOk-weaker c.ends_answer-else-options.result _ _ (λ a e. judged_in_turn c.args.examinee.options.now c.longest_limits.result c.args.examinee.program.now (processes_of c.args.examinee.legend.now) c.args.list.now marked.marked.mark a.verdict c.longest_limits.ensures c.if-options.false e (marked.ensures.mark c.args.examinee.options.now.some_state) marked.ensures.refused) c.ends_answer-else-options.ensures
+    let some = x.options.now.some_state in
+    IfOk-weaker c.ends_answer-else-is_at_once.result _ _
+    (λ a e. judged_in_turn x.options.now c.longest_limits.result x.program.now (processes_of x.legend.now) c.args.list.now marked.marked.mark a.verdict c.longest_limits.ensures (sym c.is_at_once.ensures ∙ c.if-is_at_once.false) e (λ can. (marked.ensures.mark some can, λ named. (marked.ensures.who some can named, marked.ensures.who_meant some can named))) marked.ensures.refused)
+    c.ends_answer-else-is_at_once.ensures.verdict
+
+pub returns-in_ok-marked-clause-text : goal.returns-in_ok-marked-clause-text
+returns-in_ok-marked-clause-text g c = ok_both c.ends_answer.result _ _ _ c.ends_answer.ensures.verdict c.ends_answer.ensures.text (λ a v t. (c.in_ok-marked.marked, v, t))
+
+pub returns-in_ok-marked-2-clause-text : goal.returns-in_ok-marked-2-clause-text
+returns-in_ok-marked-2-clause-text g c = ok_both c.ends_answer-else-is_at_once.result _ _ _ c.ends_answer-else-is_at_once.ensures.verdict c.ends_answer-else-is_at_once.ensures.text (λ a v t. (c.in_ok-marked-2.marked, v, t))

@@ -1,4 +1,4 @@
-use Rattle.cp_cover.proofs.Adding.{found_mark}
+use Rattle.cp_cover.proofs.OneMark.{found_mark}
 use Rattle.cp_cover.proofs.marks.Marks.has.Goals as goal
 
 pub returns : goal.returns

@@ -2,7 +2,7 @@ use Rattle.std.proofs.Common.{[], ◌++◌}
 use Rattle.cp_machine.specs.Machine.{machine_of, thread_at}
 use Rattle.cp_run.proofs.Tracing.{ok_as}
 use Rattle.cp_cover.specs.Reached.{item_marks, wait_marks}
-use Rattle.cp_cover.proofs.Adding.{adds_then}
+use Rattle.cp_layers.proofs.Adding.{adds_then}
 use Rattle.cp_cover.proofs.noting.MarksObserve.see_step.Goals as goal
 
 pub returns : goal.returns

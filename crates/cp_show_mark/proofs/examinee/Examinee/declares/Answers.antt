@@ -1,4 +1,4 @@
-use Rattle.std.proofs.Common.{◌≡◌, ◌∙◌, ◌==◌, [], ap, false, length, slice_index_or, sym, true}
+use Rattle.std.proofs.Common.{◌∙◌, ◌==◌, ap, length, sym}
 use Rattle.std.specs.Str.{bytes_eq}
 use Rattle.cp_show_mark.proofs.Constants.{found, none_found}
 use Rattle.cp_show_mark.proofs.examinee.Examinee.declares.Goals as goal

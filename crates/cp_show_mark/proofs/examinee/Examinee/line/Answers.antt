@@ -1,4 +1,4 @@
-use Rattle.std.proofs.Common.{◌∙◌, ◌-◌, [], ap, map, refl, slice_index_or, string_bytes}
+use Rattle.std.proofs.Common.{◌∙◌, [], ap, map, refl, slice_index_or, string_bytes}
 use Rattle.std.proofs.lemmas.Str.Ascii.{trim_ascii_is}
 use Rattle.cp_show_mark.specs.MarkText.{without_blanks_before, without_blanks_behind}
 use Rattle.cp_show_mark.proofs.examinee.Examinee.line.Goals as goal

@@ -1,15 +1,34 @@
-use Rattle.std.proofs.Common.{rules, ◌<◌, ◌^◌}
-use Rattle.cp_ends.proofs.GoingOn.{ok_to}
+use Rattle.std.proofs.Common.{rules, ◌<◌, ◌^◌, refl, subst, sym}
 use Rattle.cp_verdict.specs.endless.Knowledge.{IsKnown}
+use Rattle.cp_verdict.specs.waiting.Known.{KnowsWho}
+use Rattle.cp_verdict.proofs.who.Knowing.{known_with, knows_who, place_of_stop}
 use Rattle.cp_verdict.proofs.endless.marking.knowledge.Goals as goal
 
-pub returns : goal.returns
-returns g c = λ some.
-    let r = c.args.subject.program.now in
-    let discipline = c.args.subject.limits.discipline in
-    let steps = c.args.subject.limits.steps in
-    let most = c.args.subject.most in
-    let few : most < 2 ^ 32 = search rules in
-    let x = c.in_ok-found.field-0 in
+pub returns-then-not-name_who-clause-known : goal.returns-then-not-name_who-clause-known
+returns-then-not-name_who-clause-known g c = λ some.
+    let s = c.args.subject in
+    let few : s.most < 2 ^ 32 = search rules in
     let answer = c.in_ok-found.ensures.answer some in
-    ok_to c.knowledge_of.result _ (λ k. IsKnown r discipline steps most k) c.knowledge_of.ensures.known (λ k known. known discipline steps most answer (c.lines_of.ensures r discipline steps most c.args.asks x.found few answer c.in_ok-found.ensures.waits))
+    c.in_ok-known.ensures.known s.limits.discipline s.limits.steps s.most answer (c.lines_of.ensures s.program.now s.limits.discipline s.limits.steps s.most c.ask_waits.result c.in_ok-found.field-0.found few answer c.in_ok-found.ensures.waits)
+
+pub returns-then-not-name_who-clause-who : goal.returns-then-not-name_who-clause-who
+returns-then-not-name_who-clause-who g c = λ some asks. (let said = c.name_who.ensures in let none = c.if-not-name_who.true in absurd (cc (said, none, asks)))
+
+pub returns-clause-known : goal.returns-clause-known
+returns-clause-known g c = λ some.
+    let s = c.args.subject in
+    let few : s.most < 2 ^ 32 = search rules in
+    let answer = c.in_ok-found.ensures.answer some in
+    let known = c.in_ok-known.ensures.known s.limits.discipline s.limits.steps s.most answer (c.lines_of.ensures s.program.now s.limits.discipline s.limits.steps s.most c.ask_waits.result c.in_ok-found.field-0.found few answer c.in_ok-found.ensures.waits) in
+    subst (IsKnown s.program.now s.limits.discipline s.limits.steps s.most) (sym c.with_waiting.ensures) (known_with s.program.now s.limits.discipline s.limits.steps s.most c.in_ok-known.known c.in_ok-waiting.waiting known)
+
+pub returns-clause-who : goal.returns-clause-who
+returns-clause-who g c = λ some asks.
+    let s = c.args.subject in
+    let r = s.program.now in
+    let answer = c.in_ok-found.ensures.answer some in
+    let f = answer.findings in
+    let found = c.in_ok-found.field-0.found in
+    subst (KnowsWho r s.limits.discipline s.limits.steps) (sym c.with_waiting.ensures)
+    (knows_who r s.limits.discipline s.limits.steps f.states found.stopped c.in_ok-known.known.looked (c.in_ok-known.ensures.looked r f answer.holds) c.in_ok-ends.ends (c.in_ok-ends.ensures s.most f answer.holds answer.answer)
+    (place_of_stop r s.limits.discipline s.limits.steps s.most f found.stopped answer.answer) (record c.in_ok-known.known { waiting = c.in_ok-waiting.waiting }) refl c.in_ok-waiting.ensures)

@@ -1,11 +1,12 @@
-use Rattle.cp_verdict.proofs.any_length.Vocabulary.{ℕ, take, Discipline, Tables, Spellings, on_slots, IsJudgedBy, HasTexts, IsKnown}
+use Rattle.cp_verdict.proofs.any_length.Vocabulary.{ℕ, take, Discipline, Tables, Spellings, HasTexts, IsKnown}
 use Rattle.cp_verdict.specs.endless.Marked as spec
 use Rattle.cp_verdict.specs.endless.Naming.{processes_of}
+use Rattle.cp_verdict.specs.waiting.EndsJudged.{IsJudgedAny, IsJudgedByAny}
 use Rattle.cp_verdict.proofs.endless.verdict.verdict_on.Given as goal
 
 abbrev pub invariant-loop-expectation : goal.invariant-loop-expectation
 invariant-loop-expectation l =
     record {
-      slots : (r : Tables) (discipline : Discipline) (steps most : ℕ) → IsKnown r discipline steps most l.known → spec.IsMarked (spec.with_tables r (processes_of l.legend)) (on_slots r discipline steps) l.known (take l.expectation-index l.list) l.verdict;
-      known : (names : Spellings) → HasTexts names l.known.values.items → spec.AreJudged (IsJudgedBy (record { values = names; processes = processes_of l.legend }) l.known) (take l.expectation-index l.list) l.verdict;
+      slots : (r : Tables) (discipline : Discipline) (steps most : ℕ) → IsKnown r discipline steps most l.known → spec.AreJudged (IsJudgedAny r (processes_of l.legend) discipline steps l.known) (take l.expectation-index l.list) l.verdict;
+      known : (names : Spellings) → HasTexts names l.known.values.items → spec.AreJudged (IsJudgedByAny (record { values = names; processes = processes_of l.legend }) l.known) (take l.expectation-index l.list) l.verdict;
     }

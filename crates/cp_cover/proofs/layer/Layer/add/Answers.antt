@@ -1,8 +1,0 @@
-use Rattle.std.proofs.Common.{sym, subst}
-use Rattle.cp_machine.specs.System.{machine_of}
-use Rattle.cp_cover.specs.Layers.{AddsState}
-use Rattle.cp_cover.proofs.FromState.{adds_state}
-use Rattle.cp_cover.proofs.layer.Layer.add.Goals as goal
-
-pub returns : goal.returns
-returns c = subst (AddsState c.args.self.now.known.keys (machine_of c.args.state.now)) (sym c.in_ok-insert.ensures.keys) (adds_state c.args.self.now.known.keys c.take_from.new.self (machine_of c.args.state.now) c.in_ok-take_from.ensures)

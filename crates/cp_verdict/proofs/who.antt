@@ -1,0 +1,14 @@
+pub mod Alike
+pub mod Ending
+pub mod EndsJudging
+pub mod EndsMarks
+pub mod EndsMeant
+pub mod Judging
+pub mod Knowing
+pub mod Leading
+pub mod Lists
+pub mod Outcomes
+pub mod Rows
+pub mod Telling
+pub mod Tests
+pub mod Verdicts

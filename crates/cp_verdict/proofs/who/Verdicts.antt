@@ -1,0 +1,141 @@
+-- The judgements of some expectations and one more, and the mark of all, where they may name who waits at an end.
+use Rattle.std.proofs.Common.{◌≡◌, ◌⊎◌, inl, inr, ◌∙◌, ◌+◌, ◌<◌, ◌≤◌, ℕ, Bool, true, false, ◌||◌, if◌then◌else◌, List, [], ◌∷◌, ◌++◌, length, get_or, take, Option, None, Some, refl, sym, ap, subst}
+use Rattle.std.proofs.lemmas.List.{take_all, take_more}
+use Rattle.cp_walk.specs.Text.{Spellings}
+use Rattle.cp_run.specs.Table.{Line, IsAmong, Here, There}
+use Rattle.cp_expectation.specs.declared.expectation.Expectation.{Expectation}
+use Rattle.cp_verdict.specs.Judged.{row_line}
+use Rattle.cp_verdict.specs.Marked as by_rows
+use Rattle.cp_verdict.specs.Marked.{Each, has_against, has_unsettled, is_against, is_unsettled, mark_of}
+use Rattle.cp_verdict.specs.endless.Naming.{Processes}
+use Rattle.cp_verdict.specs.waiting.Asking.{name_who, names_who}
+use Rattle.cp_verdict.specs.waiting.Judged.{IsJudged, IsJudgedAny}
+use Rattle.cp_verdict.specs.waiting.Marked.{AreJudged, FailsOf, HoldsOf, IsMarkOf, IsMarked, OpenOf}
+use Rattle.cp_verdict.specs.declared.judging.Judgement.{Judgement}
+use Rattle.cp_verdict.specs.declared.judging.Judgement.TheVariants as judgement
+use Rattle.cp_verdict.specs.declared.marking.Standing.{Standing}
+use Rattle.cp_verdict.specs.declared.marking.Standing.TheVariants as mark
+use Rattle.cp_verdict.specs.declared.program.Marked.{Marked}
+use Rattle.cp_verdict.proofs.who.EndsMarks.{unnamed}
+use Rattle.cp_verdict.proofs.who.Judging.{judged_by_rows, same_true, settling, unsettled}
+use Rattle.cp_verdict.proofs.who.Lists.{contained}
+use Rattle.cp_verdict.proofs.who.Tests.{neither}
+
+-- ---- one more
+
+module _ (J : Expectation → Judgement → Type 0) where
+  pub judged_none : (list : List Expectation) (js : List Judgement) → js ≡ [] → AreJudged J (take 0 list) js
+  judged_none list js is = subst (AreJudged J []) (sym is) tt
+
+  one_more : (es : List Expectation) (js : List Judgement) (e : Expectation) (j : Judgement) → AreJudged J es js → J e j → AreJudged J (es ++ e ∷ []) (js ++ j ∷ [])
+  one_more [] [] e j m h = (h, tt)
+  one_more (f ∷ es) (k ∷ js) e j m h = (m.0, one_more es js e j m.1 h)
+  one_more _ _ e j m h = absurd m
+
+  pub judged_more : (list : List Expectation) (i : ℕ) (e : Expectation) (js all : List Judgement) (j : Judgement) → i < length list → e ≡ get_or list i e → all ≡ js ++ j ∷ [] → AreJudged J (take i list) js → J e j → AreJudged J (take (i + 1) list) all
+  judged_more list i e js all j less item is m h =
+      let longer : take (i + 1) list ≡ take i list ++ e ∷ [] = take_more list i e less ∙ ap (λ x. take i list ++ x ∷ []) (sym item) in
+      subst (λ es. AreJudged J es all) (sym longer) (subst (AreJudged J (take i list ++ e ∷ [])) (sym is) (one_more (take i list) js e j m h))
+
+  pub judged_all : (list : List Expectation) (i : ℕ) (js : List Judgement) → length list ≤ i → AreJudged J (take i list) js → AreJudged J list js
+  judged_all list i js le m = subst (λ es. AreJudged J es js) (take_all i list le) m
+
+-- ---- the mark
+
+module _ (names : Spellings) (ps : Processes) (who : List ℕ → List ℕ) (lines : List Line) where
+  abbrev J : Expectation → Judgement → Type 0
+  J e j = IsJudgedAny names ps who lines e j
+
+  fails_by : (e : Expectation) (j : Judgement) → IsJudged names ps who e lines j → is_against j ≡ true → (against : Option Line) × FailsOf names ps who lines e against
+  fails_by e (judgement.Against r) h a = (Some (row_line r), (h.1, h.0, h.2))
+  fails_by e judgement.Missing h a = (None, (h.1, h.0, h.2))
+  fails_by e x h a = absurd (cc)
+
+  some_fails : (es : List Expectation) (js : List Judgement) → AreJudged J es js → has_against js ≡ true → IsMarkOf names ps who es lines mark.Fails
+  some_fails [] [] m h = absurd (cc)
+  some_fails (e ∷ es) (j ∷ js) m h = split (is_against j) refl h (some_fails es js m.1)
+    where
+      split : (b : Bool) → is_against j ≡ b → (b || has_against js) ≡ true → (has_against js ≡ true → IsMarkOf names ps who es lines mark.Fails) → IsMarkOf names ps who (e ∷ es) lines mark.Fails
+      split true a h on = let f = fails_by e j m.0.0 a in (e, f.0, Here es, f.1)
+      split false a h on = let f = on h in (f.0, f.1, There e es f.2, f.3)
+  some_fails _ _ m h = absurd m
+
+  holds_by : (e : Expectation) (j : Judgement) → IsJudged names ps who e lines j → is_against j ≡ false → is_unsettled j ≡ false → HoldsOf names ps who lines e
+  holds_by e judgement.Holds h a u = (h.0, inl h.1)
+  holds_by e (judgement.Shown r) h a u = (h.1, inr h.0)
+  holds_by e x h a u = absurd (cc)
+
+  open_by : (e : Expectation) (j : Judgement) → IsJudged names ps who e lines j → is_unsettled j ≡ true → OpenOf names ps who lines e
+  open_by e judgement.Unsettled h u = h
+  open_by e x h u = absurd (cc)
+
+  each_holds : (es : List Expectation) (js : List Judgement) → AreJudged J es js → has_against js ≡ false → has_unsettled js ≡ false → IsMarkOf names ps who es lines mark.Holds
+  each_holds [] [] m a u = tt
+  each_holds (e ∷ es) (j ∷ js) m a u =
+      let none = neither (is_against j) (has_against js) a in
+      let settled = neither (is_unsettled j) (has_unsettled js) u in
+      (holds_by e j m.0.0 none.0 settled.0, each_holds es js m.1 none.1 settled.1)
+  each_holds _ _ m a u = absurd m
+
+  each_open : (es : List Expectation) (js : List Judgement) → AreJudged J es js → has_against js ≡ false → Each (λ x. HoldsOf names ps who lines x ⊎ OpenOf names ps who lines x) es
+  each_open [] [] m a = tt
+  each_open (e ∷ es) (j ∷ js) m a = let none = neither (is_against j) (has_against js) a in (split (is_unsettled j) refl none.0, each_open es js m.1 none.1)
+    where
+      split : (b : Bool) → is_unsettled j ≡ b → is_against j ≡ false → HoldsOf names ps who lines e ⊎ OpenOf names ps who lines e
+      split true u n = inr (open_by e j m.0.0 u)
+      split false u n = inl (holds_by e j m.0.0 n u)
+  each_open _ _ m a = absurd m
+
+  some_open : (es : List Expectation) (js : List Judgement) → AreJudged J es js → has_unsettled js ≡ true → (e : Expectation) × IsAmong e es × OpenOf names ps who lines e
+  some_open [] [] m h = absurd (cc)
+  some_open (e ∷ es) (j ∷ js) m h = split (is_unsettled j) refl h (some_open es js m.1)
+    where
+      split : (b : Bool) → is_unsettled j ≡ b → (b || has_unsettled js) ≡ true → (has_unsettled js ≡ true → (x : Expectation) × IsAmong x es × OpenOf names ps who lines x) → (x : Expectation) × IsAmong x (e ∷ es) × OpenOf names ps who lines x
+      split true u h on = (e, Here es, open_by e j m.0.0 u)
+      split false u h on = let f = on h in (f.0, There e es f.1, f.2)
+  some_open _ _ m h = absurd m
+
+  pub marked : (es : List Expectation) (js : List Judgement) → AreJudged J es js → IsMarkOf names ps who es lines (mark_of js)
+  marked es js m = split (has_against js) (has_unsettled js) refl refl
+    where
+      split : (a u : Bool) → has_against js ≡ a → has_unsettled js ≡ u → IsMarkOf names ps who es lines (if a then mark.Fails else (if u then mark.Open else mark.Holds))
+      split true u h k = some_fails es js m h
+      split false true h k = (each_open es js m h, some_open es js m k)
+      split false false h k = each_holds es js m h k
+
+  -- ---- where nobody is named
+
+  each_by_rows : (es : List Expectation) (js : List Judgement) → name_who es ≡ false → by_rows.AreJudged names lines es js → AreJudged J es js
+  each_by_rows [] [] none m = tt
+  each_by_rows (e ∷ es) (j ∷ js) none m = let n = neither (names_who e) (name_who es) none in (judged_by_rows names ps who e lines n.0 j m.0, each_by_rows es js n.1 m.1)
+  each_by_rows _ _ none m = absurd m
+
+  each_weaker : (P Q : Expectation → Type 0) (es : List Expectation) → ((e : Expectation) → IsAmong e es → P e → Q e) → Each P es → Each Q es
+  each_weaker P Q [] f h = tt
+  each_weaker P Q (e ∷ es) f h = (f e (Here es) h.0, each_weaker P Q es (λ x i. f x (There e es i)) h.1)
+
+  fails_so : (e : Expectation) (against : Option Line) → names_who e ≡ false → by_rows.FailsOf names lines e against → FailsOf names ps who lines e against
+  fails_so e (Some l) none h = (same_true names ps who e lines none e.claim ∙ h.0, h.1, settling names ps who e lines none l h.2)
+  fails_so e None none h = (same_true names ps who e lines none e.claim ∙ h.0, h.1, h.2)
+
+  holds_so : (e : Expectation) → names_who e ≡ false → by_rows.HoldsOf names lines e → HoldsOf names ps who lines e
+  holds_so e none h = (same_true names ps who e lines none e.claim ∙ h.0, h.1)
+
+  open_so : (e : Expectation) → names_who e ≡ false → by_rows.OpenOf names lines e → OpenOf names ps who lines e
+  open_so e none h = (unsettled names ps who e lines none h.0, h.1)
+
+  mark_by_rows : (es : List Expectation) (s : Standing) → name_who es ≡ false → by_rows.IsMarkOf names es lines s → IsMarkOf names ps who es lines s
+  mark_by_rows es mark.Holds none h = each_weaker (by_rows.HoldsOf names lines) (HoldsOf names ps who lines) es (λ e i x. holds_so e (unnamed es none e (contained es e i)) x) h
+  mark_by_rows es mark.Fails none h = (h.0, h.1, h.2, fails_so h.0 h.1 (unnamed es none h.0 (contained es h.0 h.2)) h.3)
+  mark_by_rows es mark.Open none h = (
+    each_weaker (λ e. by_rows.HoldsOf names lines e ⊎ by_rows.OpenOf names lines e) (λ e. HoldsOf names ps who lines e ⊎ OpenOf names ps who lines e) es (λ e i x. one e (unnamed es none e (contained es e i)) x) h.0,
+    (h.1.0, h.1.1, open_so h.1.0 (unnamed es none h.1.0 (contained es h.1.0 h.1.1)) h.1.2),
+  )
+    where
+      one : (e : Expectation) → names_who e ≡ false → by_rows.HoldsOf names lines e ⊎ by_rows.OpenOf names lines e → HoldsOf names ps who lines e ⊎ OpenOf names ps who lines e
+      one e n (inl x) = inl (holds_so e n x)
+      one e n (inr x) = inr (open_so e n x)
+
+  -- a mark by first rows is one
+  pub marked_by_rows : (es : List Expectation) (m : Marked) → name_who es ≡ false → by_rows.IsMarked names es lines m → IsMarked names ps who es lines m
+  marked_by_rows es m none h = record { judged = each_by_rows es m.judgements.items none h.judged; together = mark_by_rows es m.mark none h.together; stops = h.stops }

@@ -1,0 +1,11 @@
+pub mod Asking
+pub mod Ends
+pub mod EndsJudged
+pub mod EndsMarked
+pub mod Judged
+pub mod Known
+pub mod Marked
+pub mod Matching
+pub mod Meant
+pub mod Rows
+pub mod Who

@@ -1,0 +1,4 @@
+pub mod Meeting
+pub mod Reaching
+pub mod Seeing
+pub mod Waits

@@ -1,0 +1,4 @@
+pub mod Again
+pub mod Ending
+pub mod Hashing
+pub mod Waiting
