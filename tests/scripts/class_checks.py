@@ -14,6 +14,13 @@ from script_checks import DEADLOCK, DISPLAYS, ORDERED, ROOT, FAULTS, AtTerminal,
 RUNNERS = ROOT / "examples/readers-first-endless.cp"
 IF_OR_WHILE = ROOT / "examples/if-or-while.cp"
 FAIR = ROOT / "examples/readers-writers-turns-endless.cp"
+SECOND = ROOT / "examples/second-waiter.cp"
+FIVE = ROOT / "examples/philosophers-five.cp"
+FIVE_ORDERED = ROOT / "examples/philosophers-five-ordered.cp"
+# Whoever comes first waits for ever; and the same outcomes where it is always the same one.
+WHO = ROOT / "tests/show/mark-who.cp"
+STAYS = b"procedure entry stay; begin delay(inside) end;\nbegin came := true end;\nloner = process(d: door); begin d.stay end;"
+LONER = WHO.read_bytes().replace(b"begin came := false end;", STAYS).replace(b"x: guest", b"x: loner")
 HELP = " (./class --help says more)\n"
 # It takes longer than any check waits.
 SLOW = "type p = process; begin cycle display(1); display(2) end end;\nvar a, b, c, d, e: p;\nbegin init a, b, c, d, e end.\n"
@@ -123,10 +130,10 @@ def check_refusal(room):
 
 
 def check_like_ends():
-    """With --ends what is compared is ends, values and who may wait; the column says so."""
+    """With --ends what is compared is ends, who waits there, values and who may wait for ever; the column says so."""
     text = run("./class", "--csv", "--ends", "--like", FAIR, FAIR, RUNNERS)[1]
     rows = list(csv.reader(io.StringIO(text)))
-    want("its head", rows[0][1], f"like {FAIR}: ends, values and who may wait")
+    want("its head", rows[0][1], f"like {FAIR}: ends, who waits there, values and who may wait for ever")
     want("like with --ends", [it[1] for it in rows[1:]], ["holds", "fails"])
     want_in("what is not of the model", rows[2][3], ": w1 waits for ever")
     head = run("./class", "--csv", "--ends", "--at-once", "--like", FAIR, FAIR)[1].splitlines()[0]
@@ -135,6 +142,36 @@ def check_like_ends():
     want_in("with too many states", text, f"{DEADLOCK},too many,0,")
     text = run("./class", "--csv", "--ends", "--like", ORDERED, DEADLOCK)[1]
     want_in("an end that is not of the model", text, "not of the model: 0.0.1.0.0 all-waiting")
+
+
+def check_like_who_waits():
+    """Outcomes can be the same and others wait: each who waits at an end is compared, where all of them are known."""
+    for form in ([], ["--ends"], ["--ends", "--gates", "any"]):
+        rows = list(csv.reader(io.StringIO(run("./class", "--csv", *form, "--like", WHO, WHO, "-", source=LONER)[1])))
+        want(f"like by who waits {form}", [it[1] for it in rows[1:]], ["holds", "fails"])
+        want_in(f"who waits in the model alone {form}", rows[2][3], "only of the model: all-waiting: others[1]")
+        text = run("./class", "--csv", *form, "--like", "-", WHO, source=LONER)[1]
+        want_in(f"who waits in the solution alone {form}", text, f"{WHO},fails,0,not of the model: 0.0.2.1 all-waiting: others[1]")
+    text = run("./class", "--csv", "--ends", "--at-once", "--like", WHO, "-", source=LONER)[1]
+    want("who waits where calls are made at once", text.splitlines()[1], "-,holds,1,")
+    rows = list(csv.reader(io.StringIO(run("./class", "--csv", "--ends", "--states", "5000", "--like", FIVE, FIVE, FIVE_ORDERED)[1])))
+    want_in("who waits where calls had to be made at once", rows[1][1:4], "who waits at an end was not looked at: there are too many states")
+    want("the verdicts", [it[1] for it in rows[1:]], ["not settled", "fails"])
+
+
+def check_what_class_tells():
+    """What is told of an expectation that fails is who waits where, the line of an error, or the round; so also of schedules of any length."""
+    waits = "all-waiting; 0 program waits in forks[1].hungry; 1 p waits in forks[2].hungry"
+    error = "run-error queue-in-use process 2 line 14; 2 b at line 14: begin if not happened then delay(place) end;"
+    for asked, source, told in (
+        (["-e", "never all-waiting"], DEADLOCK, waits.replace(";", " output -;", 1)),
+        (["--ends", "-e", "never all-waiting"], DEADLOCK, waits),
+        (["--ends", "--at-once", "-e", "never all-waiting"], DEADLOCK, waits),
+        (["-e", "never run-error"], SECOND, error.replace(";", " output -;", 1)),
+        (["--ends", "-e", "never run-error"], SECOND, error),
+        (["--ends", "-e", "never waiting"], RUNNERS, "against it: 0.0.0.1.1.3.3 again 2.1.1.1.2.2: 3 w1 waits for ever"),
+    ):
+        want_in(f"what is told of {asked}", run("./class", "--csv", *asked, source)[1].splitlines()[1], told)
 
 
 def check_signals_of_class(room):
@@ -148,7 +185,7 @@ def check_signals_of_class(room):
         ("wait", ", under --signals wait", [["holds", "holds"], ["holds", "holds"]]),
     ):
         rows = list(csv.reader(io.StringIO(run("./class", "--csv", "--signals", rule, *asked, IF_OR_WHILE, twice)[1])))
-        want(f"heads under {rule}", rows[0][1:3], [f"never shown 0{under}", f"like {IF_OR_WHILE}: outcomes{under}"])
+        want(f"heads under {rule}", rows[0][1:3], [f"never shown 0{under}", f"like {IF_OR_WHILE}: outcomes and who waits{under}"])
         want(f"marks under {rule}", [it[1:3] for it in rows[1:]], verdicts)
     text = run("./class", "--signals", "continue", "--mutants", twice, "-e", "never shown 0")[1]
     want_in("the head of an expectation that notices mistakes", text, "\n1  never shown 0, under --signals continue: notices ")
@@ -225,7 +262,7 @@ def check_html(room):
     ids, used = re.findall(r'\bid="(.*?)"', text), re.findall(r"url\(#(.*?)\)", text)
     want("names of parts", (len(set(ids)), [it for it in used if it not in ids]), (len(ids), []))
     drawn = run("./class", "--html", "--pages", folder / "play", "--like", folder / "ben.cp", "-e", "never all-waiting", folder / "anna.cp")[1]
-    want_in("a model's short name", drawn, "<th>like ben: outcomes</th>")
+    want_in("a model's short name", drawn, "<th>like ben: outcomes and who waits</th>")
     want("names of one", re.findall(r'<tr><td title=".*?">(.*?)</td>', drawn), ["anna"])
     want("no folder", run("./class", "--html", "--pages", marks, "-e", "never all-waiting", DEADLOCK), (4, "", f"./class: {marks}: File exists\n"))
 
@@ -238,6 +275,8 @@ def check_class(room):
     check_quiet(room)
     check_refusal(room)
     check_like_ends()
+    check_like_who_waits()
+    check_what_class_tells()
     check_signals_of_class(room)
     check_no_display(room)
     check_parts_of_class(room)

@@ -71,7 +71,7 @@ def check_mistakes(room):
     model = room / "every-mistake.cp"
     model.write_text(MODEL)
     status, text, said = run("./class", "--mutants", model, "--csv", "-e", "never run-error overflow")
-    want("mistakes as a table", (said, text.splitlines()[0]), ("", "line,mistake,is,becomes,never run-error overflow,outcomes,why"))
+    want("mistakes as a table", (said, text.splitlines()[0]), ("", "line,mistake,is,becomes,never run-error overflow,outcomes and who waits,why"))
     rows = list(csv.reader(io.StringIO(text)))[1:]
     found = [(int(it[0]), *it[1:4]) for it in rows]
     want("mistakes that are not made", [it for it in MISTAKES if it not in found], [])
@@ -87,18 +87,18 @@ def check_unnoticed(room):
     buffer = ROOT / "examples/bounded-buffer.cp"
     status, text, said = run("./class", "--mutants", buffer, "-e", "never all-waiting")
     want("a question is missing", (status, said), (6, ""))
-    other, same = text.split("\nnot noticed, and other outcomes:\n")[1].split("\nnot noticed, and the same outcomes:\n")
+    other, same = text.split("\nnot noticed, and other outcomes and who waits:\n")[1].split("\nnot noticed, and the same outcomes and who waits:\n")
     want_in("other outcomes", other, "  line 18  a delay is left out: delay(sender)\n           not of the model: 1.1.1.1.1.0.0.0.0.0.0.0.0 finished output 323\n")
     want_in("other outcomes by a wrong init", other, "  line 39  an init order is turned: b, p(b)  ->  p(b), b\n           not of the model: 1 run-error not-init output -\n")
     want_in("the same outcomes", same, "  line 31  an initial value is left out: count := 0\n")
     status, text, _ = run("./class", "--mutants", buffer, "-e", "never all-waiting", "-e", "only finished output 123")
     want("no question is missing", (status, "other outcomes" in text), (0, False))
-    want_in("the same is told", text, "\nnot noticed, and the same outcomes:\n  line 18  the test is by one: count = size  ->  count = size - 1\n")
+    want_in("the same is told", text, "\nnot noticed, and the same outcomes and who waits:\n  line 18  the test is by one: count = size  ->  count = size - 1\n")
     want_in("what each notices", text, "\n2  only finished output 123: notices ")
     text = run("./class", "--mutants", buffer, "--states", "20", "-e", "only finished output 123")[1]
     want_in("what takes too much", text, "\nnot settled whether noticed:\n  line ")
     fair = ROOT / "examples/bounded-buffer-endless.cp"
-    want_in("by ends", run("./class", "--mutants", fair, "--ends", "-e", "never all-waiting")[1], "\nnot noticed, and the same ends, values and who may wait:\n")
+    want_in("by ends", run("./class", "--mutants", fair, "--ends", "-e", "never all-waiting")[1], "\nnot noticed, and the same ends, who waits there, values and who may wait for ever:\n")
 
 
 def check_frame_of_model(room):
