@@ -267,9 +267,15 @@ fn refusal_or_memory(alloc: Global) -> CallAnswer {
 
 fn help_or_memory(alloc: Global) -> CallAnswer {
     match read_options(alloc, ["cpx", "--help"].as_slice()) {
-        Err(OptionFault::Help(text)) if text.as_str().contains("5 too many rows") =>
-            CallAnswer::Ample,
-        Err(OptionFault::Memory) => CallAnswer::Memory,
+        Ok(_options) => CallAnswer::Other,
+        Err(fault) => help_answer(fault),
+    }
+}
+
+fn help_answer(fault: OptionFault) -> CallAnswer {
+    match fault {
+        OptionFault::Help(text) => ample_answer(text.as_str().contains("5 too many rows")),
+        OptionFault::Memory => CallAnswer::Memory,
         _ => CallAnswer::Other,
     }
 }
@@ -349,7 +355,10 @@ fn options_have_the_values_of_their_words(rt: HostRuntime) {
 }
 
 fn is_refused(alloc: Global, words: &[&str]) -> bool {
-    matches!(read_options(alloc, words), Err(OptionFault::Refused(_)))
+    match read_options(alloc, words) {
+        Err(OptionFault::Refused(_why)) => true,
+        _ => false,
+    }
 }
 
 #[test]
