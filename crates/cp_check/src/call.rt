@@ -7,11 +7,13 @@ ghost use Rattle.cp_check.specs.Calls as spec;
 
 use crate::operand::{Context, DesignatedName, Named, Operand, OperandUse, value};
 use crate::operation::{is_function, standard_value};
-use cp_scope::{CheckFault, Parameter, Rule, ScopeTable, Use, ValueType, broken_rule, values_of};
+use cp_scope::{
+    CheckFault, Detail, Parameter, Role, Rule, ScopeTable, Use, ValueType, broken_rule, values_of,
+};
 use cp_tree::SystemKind;
 
 /// Whether an argument fits a parameter.
-pub fn fits(parameter: Parameter, operand: Operand) -> bool
+fn fits(parameter: Parameter, operand: Operand) -> bool
     ensures { result ≡ spec.fits parameter operand }
 {
     if !parameter.is_var {
@@ -23,23 +25,31 @@ pub fn fits(parameter: Parameter, operand: Operand) -> bool
     }
 }
 
-/// Whether arguments fit parameters, of which there are as many.
+/// Whether arguments fit parameters, of which there are as many; notes the first that does not.
 #[tactic(auto, using(crate::proofs::Left::left))]
-fn all_fit(parameters: &[Parameter], operands: &[Operand]) -> bool
+fn all_fit(
+    table: &ScopeTable,
+    heading: usize,
+    parameters: &[Parameter],
+    operands: &[Operand],
+) -> bool
     requires { length parameters.now ≡ length operands.now }
     ensures { result ≡ spec.all_fit parameters.now operands.now }
 {
     for i in 0..parameters.len() {
         if !fits(parameters[i], operands[i]) {
+            table.note(Detail::Argument(heading, i, operands[i].as_found()));
             return false;
         }
     }
     true
 }
 
-/// The number and the types of arguments.
+/// The number and the types of arguments of what has its heading at a token.
 pub fn check_arguments(
+    table: &ScopeTable,
     at: usize,
+    heading: usize,
     parameters: &[Parameter],
     operands: &[Operand],
 ) -> Result<(), CheckFault>
@@ -47,8 +57,8 @@ pub fn check_arguments(
     ensures as_many { IfOk result (λ u. length parameters.now ≡ length operands.now) }
 {
     if parameters.len() != operands.len() {
-        broken_rule(at, Rule::C7)
-    } else if all_fit(parameters, operands) {
+        table.broken_rule(at, Rule::C7, Detail::Number(Some(heading), operands.len()))
+    } else if all_fit(table, heading, parameters, operands) {
         Ok(())
     } else {
         broken_rule(at, Rule::C5)
@@ -56,11 +66,15 @@ pub fn check_arguments(
 }
 
 /// Whether an argument is a variable where one is wanted.
-fn check_variable(parameter: Parameter, operand: Operand) -> Result<(), CheckFault>
+fn check_variable(
+    table: &ScopeTable,
+    parameter: Parameter,
+    operand: Operand,
+) -> Result<(), CheckFault>
     ensures { Finds (spec.variable_faults parameter operand) result }
 {
     if parameter.is_var && !operand.place.is_assignable() {
-        broken_rule(operand.at, Rule::C6)
+        table.broken_rule(operand.at, Rule::C6, Detail::Fixed(operand.own_type()))
     } else {
         Ok(())
     }
@@ -68,12 +82,16 @@ fn check_variable(parameter: Parameter, operand: Operand) -> Result<(), CheckFau
 
 /// Arguments are variables where such are wanted.
 #[tactic(auto, using(crate::proofs::Left::left))]
-fn check_variables(parameters: &[Parameter], operands: &[Operand]) -> Result<(), CheckFault>
+fn check_variables(
+    table: &ScopeTable,
+    parameters: &[Parameter],
+    operands: &[Operand],
+) -> Result<(), CheckFault>
     requires { length parameters.now ≡ length operands.now }
     ensures { Finds (spec.all_variable_faults parameters.now operands.now) result }
 {
     for i in 0..parameters.len() {
-        check_variable(parameters[i], operands[i])?;
+        check_variable(table, parameters[i], operands[i])?;
     }
     Ok(())
 }
@@ -166,13 +184,13 @@ pub fn check_routine_call(
     let shapes = table.shapes();
     let parameters = shapes.parameters(routine);
     let body = shapes.body(routine);
-    check_arguments(at, parameters, operands)?;
+    check_arguments(table, at, routine, parameters, operands)?;
     check_quiet(at, context, !is_local)?;
     check_entry(name_at, is_local, shapes.is_entry(routine))?;
     check_recursion(name_at, context, routine)?;
     check_delay(name_at, context, is_local, body)?;
     check_quiet(at, context, is_local)?;
-    check_variables(parameters, operands)?;
+    check_variables(table, parameters, operands)?;
     Ok(total_use(uses, operands).and(Use {
         calls: 0,
         need: body.need,
@@ -195,7 +213,7 @@ fn function_value(
     ensures { Judges (λ o. o) (spec.function_value (scopes_of table.now) context at name_at is_local routine operands.now uses) result }
 {
     match table.shapes().result(routine) {
-        None => broken_rule(at, Rule::C5),
+        None => table.broken_rule(at, Rule::C5, Detail::Value(Role::Procedure)),
         Some(result) => {
             let uses = check_routine_call(
                 table, context, at, name_at, is_local, routine, operands, uses,
@@ -244,12 +262,20 @@ pub fn place_of(table: &ScopeTable, value_type: ValueType) -> OperandUse
 }
 
 /// What stands alone has no arguments.
-fn check_alone(operand: Operand, operands: &[Operand]) -> Result<Operand, CheckFault>
+fn check_alone(
+    table: &ScopeTable,
+    operand: Operand,
+    operands: &[Operand],
+) -> Result<Operand, CheckFault>
     ensures { Judges (λ o. o) (spec.alone operand operands.now) result }
 {
     match operands {
         [] => Ok(operand),
-        [_, ..] => broken_rule(operand.at, Rule::C5),
+        [_, ..] => table.broken_rule(
+            operand.at,
+            Rule::C5,
+            Detail::Value(Role::Value(operand.value_type)),
+        ),
     }
 }
 
@@ -266,8 +292,9 @@ pub fn value_of(
 {
     let uses = name.uses;
     match name.named {
-        Named::Constant(base) => check_alone(value(at, values_of(base), uses), operands),
+        Named::Constant(base) => check_alone(table, value(at, values_of(base), uses), operands),
         Named::Variable(value_type) => check_alone(
+            table,
             Operand {
                 at,
                 value_type,
@@ -277,6 +304,7 @@ pub fn value_of(
             operands,
         ),
         Named::Parameter(value_type) => check_alone(
+            table,
             Operand {
                 at,
                 value_type,
@@ -286,6 +314,7 @@ pub fn value_of(
             operands,
         ),
         Named::Predeclared(routine) => standard_value(
+            table,
             at,
             routine,
             operands,
@@ -311,7 +340,9 @@ pub fn value_of(
             operands,
             uses,
         ),
-        Named::Kind | Named::Nothing => broken_rule(at, Rule::C5),
+        Named::Kind | Named::Nothing => {
+            table.broken_rule(at, Rule::C5, Detail::Value(Role::Kind))
+        }
     }
 }
 

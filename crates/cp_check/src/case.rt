@@ -7,7 +7,7 @@ ghost use Rattle.cp_check.specs.Cases as spec;
 
 use crate::constant::{ConstantNumber, constant};
 use crate::operand::Operand;
-use cp_scope::{Base, CheckFault, Rule, ScopeTable, Use, ValueType, broken_rule};
+use cp_scope::{Base, CheckFault, Detail, Rule, ScopeTable, Use, ValueType, broken_rule};
 use cp_tree::Constant;
 use indexmap::IndexSet;
 use std::alloc::Global;
@@ -61,19 +61,24 @@ fn are_labels(base: Base, labels: &[Label]) -> bool
 
 /// The selector is ordinal, and the labels agree with it.
 #[tactic(auto, using(crate::proofs::Numbers::one_base))]
-fn check_labels(at: usize, selector: ValueType, labels: &[Label]) -> Result<(), CheckFault>
-    ensures faults { Finds (spec.label_faults at selector labels.now) result }
+fn check_labels(
+    table: &ScopeTable,
+    at: usize,
+    selector: Operand,
+    labels: &[Label],
+) -> Result<(), CheckFault>
+    ensures faults { Finds (spec.label_faults at selector.value_type labels.now) result }
     ensures agree { IfOk result (λ u. spec.AreOfOneBase labels.now) }
 {
-    match selector {
+    match selector.value_type {
         ValueType::Ordinal(range) => {
             if are_labels(range.base, labels) {
                 Ok(())
             } else {
-                broken_rule(at, Rule::C5)
+                table.broken_rule(at, Rule::C5, Detail::Operand(selector.as_found()))
             }
         }
-        _ => broken_rule(at, Rule::C5),
+        _ => table.broken_rule(at, Rule::C5, Detail::Operand(selector.as_found())),
     }
 }
 
@@ -96,6 +101,7 @@ fn check_once(alloc: Global, labels: &[Label]) -> Result<(), CheckFault>
 #[tactic(auto, using(crate::proofs::Judging::first_append))]
 pub fn check_case(
     alloc: Global,
+    table: &ScopeTable,
     at: usize,
     selector: Operand,
     labels: &[Label],
@@ -103,7 +109,7 @@ pub fn check_case(
 ) -> Result<Use, CheckFault>
     ensures { Judges (λ u. u) (spec.check_case at (selector, (labels.now, uses))) result }
 {
-    check_labels(at, selector.value_type, labels)?;
+    check_labels(table, at, selector, labels)?;
     check_once(alloc, labels)?;
     Ok(selector.uses.and(uses))
 }

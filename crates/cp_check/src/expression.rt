@@ -13,7 +13,9 @@ use crate::operand::{Context, DesignatedName, Operand, base_value, value};
 use crate::operation::{
     check_agreement, negation_of, product_of, relation_value, sum_of, with_sign,
 };
-use cp_scope::{Base, CheckFault, Parameter, Rule, ScopeTable, Use, ValueType, broken_rule};
+use cp_scope::{
+    Base, CheckFault, Detail, Parameter, Rule, ScopeTable, Use, ValueType, broken_rule,
+};
 use cp_tree::{
     Addition, Designator, Expression, Factor, FactorKind, Identifier, Multiplication, Selector,
     Sign, Sum, Term,
@@ -77,13 +79,14 @@ fn value_in_parentheses(at: usize, operand: Operand) -> Operand
     value(at, operand.value_type, operand.uses)
 }
 
-/// Whether elements agree with a base.
+/// Whether elements agree with the base of the first; notes the first that does not.
 #[tactic(auto, using(crate::proofs::Left::left))]
-fn are_elements(base: Base, operands: &[Operand]) -> bool
+fn are_elements(table: &ScopeTable, first: Operand, base: Base, operands: &[Operand]) -> bool
     ensures { result ≡ spec.are_elements base operands.now }
 {
     for operand in operands {
         if !operand.value_type.is_of(base) {
+            table.note(Detail::Elements(first.as_found(), operand.as_found()));
             return false;
         }
     }
@@ -91,21 +94,24 @@ fn are_elements(base: Base, operands: &[Operand]) -> bool
 }
 
 /// A set constructor.
-fn set_value(at: usize, operands: &[Operand]) -> Result<Operand, CheckFault>
+fn set_value(table: &ScopeTable, at: usize, operands: &[Operand]) -> Result<Operand, CheckFault>
     ensures { Judges (λ o. o) (spec.set_value at operands.now) result }
 {
     match operands {
         [] => Ok(value(at, ValueType::Set(None), Use::nothing())),
         [first, ..] => match first.value_type {
             ValueType::Ordinal(range) => {
-                if are_elements(range.base, operands) {
+                if are_elements(table, *first, range.base, operands) {
                     let uses = total_use(Use::nothing(), operands);
                     Ok(value(at, ValueType::Set(Some(range.base.whole())), uses))
                 } else {
                     broken_rule(at, Rule::C5)
                 }
             }
-            _ => broken_rule(at, Rule::C5),
+            _ => {
+                let detail = Detail::Elements(first.as_found(), first.as_found());
+                table.broken_rule(at, Rule::C5, detail)
+            }
         },
     }
 }
@@ -193,7 +199,7 @@ pub fn designator(
 /// A factor; in the place of a `var` argument a function's name alone is no call.
 #[cycle(expression)]
 #[tactic(auto, unfolding(crate::specs::Expressions::factor))]
-pub fn factor(
+fn factor(
     alloc: Global,
     table: &ScopeTable,
     context: Context,
@@ -218,10 +224,12 @@ pub fn factor(
         FactorKind::Group(inner) => {
             Ok(value_in_parentheses(at, expression(alloc, table, context, false, inner)?))
         }
-        FactorKind::Not(inner) => negation_of(at, factor(alloc, table, context, false, inner)?),
+        FactorKind::Not(inner) => {
+            negation_of(table, at, factor(alloc, table, context, false, inner)?)
+        },
         FactorKind::Set(nodes) => {
             let operands = arguments(alloc, table, context, &[], nodes)?;
-            set_value(at, &operands)
+            set_value(table, at, &operands)
         }
     }
 }
@@ -241,7 +249,7 @@ fn more_factors(
     let mut total = Some(first);
     for (operation, node) in nodes {
         let next = factor(alloc, table, context, false, node)?;
-        total = product_of(at, *operation, total, next);
+        total = product_of(table, at, *operation, total, next);
     }
     Ok(total)
 }
@@ -249,7 +257,7 @@ fn more_factors(
 /// A term, likewise.
 #[cycle(expression)]
 #[tactic(auto, using(crate::proofs::Expressions::term_first, crate::proofs::Expressions::term_more, crate::proofs::Expressions::term_passed))]
-pub fn term(
+fn term(
     alloc: Global,
     table: &ScopeTable,
     context: Context,
@@ -281,7 +289,7 @@ fn more_terms(
     let mut total = first;
     for (operation, node) in nodes {
         let next = term(alloc, table, context, false, node)?;
-        total = sum_of(at, *operation, total, next);
+        total = sum_of(table, at, *operation, total, next);
     }
     Ok(total)
 }
@@ -289,7 +297,7 @@ fn more_terms(
 /// A sum, likewise.
 #[cycle(expression)]
 #[tactic(auto, using(crate::proofs::Expressions::sum_first, crate::proofs::Expressions::sum_more, crate::proofs::Expressions::sum_passed))]
-pub fn sum(
+fn sum(
     alloc: Global,
     table: &ScopeTable,
     context: Context,
@@ -300,7 +308,7 @@ pub fn sum(
 {
     let is_alone = is_term_alone(is_var, node.sign, &node.more);
     let first = term(alloc, table, context, is_alone, &node.first)?;
-    let first = with_sign(node.at, node.sign, first);
+    let first = with_sign(table, node.at, node.sign, first);
     check_agreement(
         node.at,
         more_terms(alloc, table, context, node.at, first, &node.more)?,
@@ -324,7 +332,7 @@ pub fn expression(
         Some((relation, right)) => {
             let left = sum(alloc, table, context, false, &node.left)?;
             let right = sum(alloc, table, context, false, right)?;
-            relation_value(node.at, *relation, left, right)
+            relation_value(table, node.at, *relation, left, right)
         }
     }
 }

@@ -4,11 +4,15 @@ ghost use Rattle.std.specs.Prelude.{◌≡◌};
 ghost use Rattle.cp_scope.specs.Judged.{Judges};
 ghost use Rattle.cp_scope.specs.View.{scopes_of};
 ghost use Rattle.cp_check.specs.Names as spec;
+ghost use Rattle.cp_check.specs.declared.operand.Named.TheVariants as named;
 
 use crate::operand::{DesignatedName, Named, Operand};
-use cp_scope::{CheckFault, Meaning, Rule, ScopeTable, Use, ValueType, broken_rule};
+use crate::operation::is_function;
+use cp_scope::{
+    CheckFault, Detail, Meaning, Role, Rule, ScopeTable, Use, ValueType, broken_rule, values_of,
+};
 use cp_text::Name;
-use cp_tree::Identifier;
+use cp_tree::{Identifier, SystemKind};
 
 /// What a name stands for.
 #[tactic(auto, unfolding(crate::specs::Names::visible))]
@@ -49,6 +53,26 @@ pub fn name_meaning(table: &ScopeTable, name: &Identifier) -> Result<DesignatedN
     })
 }
 
+/// Whether the routine at a token is a function.
+fn routine_role(table: &ScopeTable, routine: usize) -> Role {
+    match table.shapes().result(routine) {
+        Some(_) => Role::Function,
+        None => Role::Procedure,
+    }
+}
+
+/// What a name stands for, in words.
+pub fn role_of(table: &ScopeTable, named: Named) -> Role {
+    match named {
+        Named::Constant(base) => Role::Value(values_of(base)),
+        Named::Variable(value_type) | Named::Parameter(value_type) => Role::Value(value_type),
+        Named::Routine(routine) | Named::Entry(routine) => routine_role(table, routine),
+        Named::Predeclared(routine) if is_function(routine) => Role::Function,
+        Named::Predeclared(_) => Role::Procedure,
+        Named::Kind | Named::Nothing => Role::Kind,
+    }
+}
+
 impl Named {
     /// The type of a variable or a parameter.
     fn value_type(self) -> Option<ValueType>
@@ -82,13 +106,14 @@ fn field(
 ) -> Result<DesignatedName, CheckFault>
     ensures { Judges (λ d. d) (spec.field (scopes_of table.now) name.now whole written) result }
 {
+    let detail = Detail::Member(ValueType::Record(written));
     match table.shapes().field(written, &name.name) {
         Some(Meaning::Variable(value_type)) => Ok(DesignatedName {
             named: whole.named.part(value_type),
             name_at: name.at,
             uses: whole.uses,
         }),
-        _ => broken_rule(name.at, Rule::C1),
+        _ => table.broken_rule(name.at, Rule::C1, detail),
     }
 }
 
@@ -97,17 +122,19 @@ fn entry(
     table: &ScopeTable,
     name: &Identifier,
     whole: DesignatedName,
+    kind: SystemKind,
     system: usize,
 ) -> Result<DesignatedName, CheckFault>
     ensures { Judges (λ d. d) (spec.entry (scopes_of table.now) name.now whole system) result }
 {
+    let detail = Detail::Member(ValueType::Component(kind, system));
     match table.shapes().member(system, &name.name) {
         Some(Meaning::Routine(at)) => Ok(DesignatedName {
             named: Named::Entry(at),
             name_at: name.at,
             uses: whole.uses,
         }),
-        _ => broken_rule(name.at, Rule::C8),
+        _ => table.broken_rule(name.at, Rule::C8, detail),
     }
 }
 
@@ -121,6 +148,14 @@ fn nothing(at: usize, uses: Use) -> DesignatedName
     }
 }
 
+/// Notes the first selector that does not fit.
+fn note_unfit(table: &ScopeTable, whole: DesignatedName, detail: Detail) {
+    match whole.named {
+        Named::Nothing => {}
+        _ => table.note(detail),
+    }
+}
+
 /// What follows a period.
 pub fn member_of(
     table: &ScopeTable,
@@ -131,9 +166,28 @@ pub fn member_of(
 {
     match whole.named.value_type() {
         Some(ValueType::Record(written)) => field(table, name, whole, written),
-        Some(ValueType::Component(_, system)) => entry(table, name, whole, system),
-        _ => Ok(nothing(name.at, whole.uses)),
+        Some(ValueType::Component(kind, system)) => entry(table, name, whole, kind, system),
+        _ => {
+            note_unfit(
+                table,
+                whole,
+                Detail::Period(role_of(table, whole.named), name.at),
+            );
+            Ok(nothing(name.at, whole.uses))
+        }
     }
+}
+
+/// No element, since the index or what stands before it does not fit.
+fn no_element(table: &ScopeTable, whole: DesignatedName, index: Operand) -> Named
+    ensures { result ≡ named.Nothing }
+{
+    note_unfit(
+        table,
+        whole,
+        Detail::Index(role_of(table, whole.named), index.as_found()),
+    );
+    Named::Nothing
 }
 
 /// An element of an array.
@@ -145,10 +199,10 @@ fn element(table: &ScopeTable, whole: DesignatedName, index: Operand, array: usi
             if ValueType::Ordinal(shape.index).agrees(index.value_type) {
                 whole.named.part(shape.element)
             } else {
-                Named::Nothing
+                no_element(table, whole, index)
             }
         }
-        None => Named::Nothing,
+        None => no_element(table, whole, index),
     }
 }
 
@@ -158,7 +212,7 @@ pub fn element_of(table: &ScopeTable, whole: DesignatedName, index: Operand) -> 
 {
     let named = match whole.named.value_type() {
         Some(ValueType::Array(array)) => element(table, whole, index, array),
-        _ => Named::Nothing,
+        _ => no_element(table, whole, index),
     };
     DesignatedName {
         named,

@@ -3,7 +3,7 @@
 ghost use Rattle.std.specs.Prelude.{◌≡◌};
 ghost use Rattle.cp_check.specs.Operands as spec;
 
-use cp_scope::{Base, Predeclared, Use, ValueType, values_of};
+use cp_scope::{Base, FoundValue, Predeclared, Use, ValueType, values_of};
 use cp_tree::SystemKind;
 
 /// Where a node stands: in the program, or in a system type of this kind; and in the routine whose name stands at a token.
@@ -115,6 +115,22 @@ impl OperandUse {
 }
 
 impl Operand {
+    /// Its place and its type.
+    pub fn as_found(self) -> FoundValue {
+        FoundValue {
+            at: self.at,
+            value_type: self.value_type,
+        }
+    }
+
+    /// The type of its value, which a function's name has not.
+    pub fn own_type(self) -> Option<ValueType> {
+        match self.place {
+            OperandUse::Function => None,
+            _ => Some(self.value_type),
+        }
+    }
+
     /// Whether it names a queue.
     pub fn is_queue(self) -> bool
         ensures { result ≡ spec.is_queue self }

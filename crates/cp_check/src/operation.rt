@@ -1,11 +1,16 @@
 //! The rules of operations.
 
-ghost use Rattle.std.specs.Prelude.{◌≡◌};
+ghost use Rattle.std.specs.Prelude.{◌≡◌, Some, Err};
 ghost use Rattle.cp_scope.specs.Judged.{Judges};
+ghost use Rattle.cp_scope.specs.declared.fault.CheckFault.TheVariants as check_fault;
+ghost use Rattle.cp_scope.specs.declared.fault.Rule.TheVariants.{C5};
 ghost use Rattle.cp_check.specs.Operations as spec;
 
 use crate::operand::{Operand, base_value, value};
-use cp_scope::{Base, CheckFault, Predeclared, Range, Rule, Use, ValueType, broken_rule};
+use cp_scope::{
+    Base, CheckFault, Detail, Predeclared, Range, Role, Rule, ScopeTable, Use, ValueType,
+    broken_rule,
+};
 use cp_tree::{Addition, Multiplication, Relation, Sign};
 
 /// A number where both are numbers.
@@ -56,8 +61,35 @@ fn truth_or_set(at: usize, left: Operand, right: Operand) -> Option<Operand>
     }
 }
 
+/// What an operation answers; notes its operands where they do not agree.
+fn answer_noting(
+    table: &ScopeTable,
+    left: Operand,
+    right: Operand,
+    answer: Option<Operand>,
+) -> Option<Operand>
+    ensures { result ≡ answer }
+{
+    if answer.is_none() {
+        table.note(Detail::Operands(left.as_found(), right.as_found()));
+    }
+    answer
+}
+
+/// The sum of two terms; nothing where they do not agree.
+fn sum_of_two(at: usize, operation: Addition, left: Operand, right: Operand) -> Option<Operand>
+    ensures { result ≡ spec.sum_of at operation (Some left) right }
+{
+    match operation {
+        Addition::Plus => number(at, left, right),
+        Addition::Minus => number(at, left, right).or(set(at, left, right)),
+        Addition::Or => truth_or_set(at, left, right),
+    }
+}
+
 /// A term more in a sum; nothing where the operands do not agree.
 pub fn sum_of(
+    table: &ScopeTable,
     at: usize,
     operation: Addition,
     left: Option<Operand>,
@@ -66,15 +98,27 @@ pub fn sum_of(
     ensures { result ≡ spec.sum_of at operation left right }
 {
     let left = left?;
+    answer_noting(table, left, right, sum_of_two(at, operation, left, right))
+}
+
+/// The product of two factors; nothing where they do not agree.
+fn product_of_two(
+    at: usize,
+    operation: Multiplication,
+    left: Operand,
+    right: Operand,
+) -> Option<Operand>
+    ensures { result ≡ spec.product_of at operation (Some left) right }
+{
     match operation {
-        Addition::Plus => number(at, left, right),
-        Addition::Minus => number(at, left, right).or(set(at, left, right)),
-        Addition::Or => truth_or_set(at, left, right),
+        Multiplication::And => truth_or_set(at, left, right),
+        _ => number(at, left, right),
     }
 }
 
 /// A factor more in a term; nothing where the operands do not agree.
 pub fn product_of(
+    table: &ScopeTable,
     at: usize,
     operation: Multiplication,
     left: Option<Operand>,
@@ -83,14 +127,21 @@ pub fn product_of(
     ensures { result ≡ spec.product_of at operation left right }
 {
     let left = left?;
-    match operation {
-        Multiplication::And => truth_or_set(at, left, right),
-        _ => number(at, left, right),
-    }
+    answer_noting(
+        table,
+        left,
+        right,
+        product_of_two(at, operation, left, right),
+    )
 }
 
-/// The first term of a sum with its sign.
-pub fn with_sign(at: usize, sign: Option<Sign>, operand: Operand) -> Option<Operand>
+/// The first term of a sum with its sign; nothing where it takes none.
+pub fn with_sign(
+    table: &ScopeTable,
+    at: usize,
+    sign: Option<Sign>,
+    operand: Operand,
+) -> Option<Operand>
     ensures { result ≡ spec.with_sign at sign operand }
 {
     match sign {
@@ -99,6 +150,7 @@ pub fn with_sign(at: usize, sign: Option<Sign>, operand: Operand) -> Option<Oper
             if operand.value_type.is_of(Base::Integer) {
                 Some(base_value(at, Base::Integer, operand.uses))
             } else {
+                table.note(Detail::Operand(operand.as_found()));
                 None
             }
         }
@@ -139,6 +191,7 @@ fn relates(relation: Relation, left: ValueType, right: ValueType) -> bool
 
 /// The truth of a relation.
 pub fn relation_value(
+    table: &ScopeTable,
     at: usize,
     relation: Relation,
     left: Operand,
@@ -149,23 +202,32 @@ pub fn relation_value(
     if relates(relation, left.value_type, right.value_type) {
         Ok(base_value(at, Base::Boolean, left.uses.and(right.uses)))
     } else {
-        broken_rule(at, Rule::C5)
+        let detail = Detail::Operands(left.as_found(), right.as_found());
+        table.broken_rule(at, Rule::C5, detail)
     }
 }
 
 /// The contrary of a truth value.
-pub fn negation_of(at: usize, operand: Operand) -> Result<Operand, CheckFault>
+pub fn negation_of(table: &ScopeTable, at: usize, operand: Operand) -> Result<Operand, CheckFault>
     ensures { Judges (λ o. o) (spec.negation_of at operand) result }
 {
     if operand.value_type.is_of(Base::Boolean) {
         Ok(base_value(at, Base::Boolean, operand.uses))
     } else {
-        broken_rule(at, Rule::C5)
+        table.broken_rule(at, Rule::C5, Detail::Operand(operand.as_found()))
     }
+}
+
+/// A predeclared function does not take a value.
+fn refuse_argument(table: &ScopeTable, at: usize, operand: Operand) -> Result<Operand, CheckFault>
+    ensures { result ≡ Err (check_fault.Rule at C5) }
+{
+    table.broken_rule(at, Rule::C5, Detail::Operand(operand.as_found()))
 }
 
 /// A call of a predeclared function with its one argument.
 fn standard_value_of(
+    table: &ScopeTable,
     at: usize,
     function: Predeclared,
     operand: Operand,
@@ -176,34 +238,34 @@ fn standard_value_of(
     match function {
         Predeclared::Succ | Predeclared::Pred => match operand.value_type {
             ValueType::Ordinal(range) => Ok(base_value(at, range.base, uses)),
-            _ => broken_rule(at, Rule::C5),
+            _ => refuse_argument(table, at, operand),
         },
         Predeclared::Ord => match operand.value_type {
             ValueType::Ordinal(_) => Ok(base_value(at, Base::Integer, uses)),
-            _ => broken_rule(at, Rule::C5),
+            _ => refuse_argument(table, at, operand),
         },
         Predeclared::Chr => {
             if operand.value_type.is_of(Base::Integer) {
                 Ok(base_value(at, Base::Char, uses))
             } else {
-                broken_rule(at, Rule::C5)
+                refuse_argument(table, at, operand)
             }
         }
         Predeclared::Abs => {
             if operand.value_type.is_of(Base::Integer) {
                 Ok(base_value(at, Base::Integer, uses))
             } else {
-                broken_rule(at, Rule::C5)
+                refuse_argument(table, at, operand)
             }
         }
         Predeclared::Empty => {
             if operand.is_queue() {
                 Ok(base_value(at, Base::Boolean, uses))
             } else {
-                broken_rule(at, Rule::C5)
+                refuse_argument(table, at, operand)
             }
         }
-        _ => broken_rule(at, Rule::C5),
+        _ => refuse_argument(table, at, operand),
     }
 }
 
@@ -219,6 +281,7 @@ pub fn is_function(routine: Predeclared) -> bool
 
 /// A call of a predeclared routine as a value.
 pub fn standard_value(
+    table: &ScopeTable,
     at: usize,
     function: Predeclared,
     operands: &[Operand],
@@ -227,10 +290,10 @@ pub fn standard_value(
     ensures { Judges (λ o. o) (spec.standard_value at function operands.now uses) result }
 {
     if !is_function(function) {
-        return broken_rule(at, Rule::C5);
+        return table.broken_rule(at, Rule::C5, Detail::Value(Role::Procedure));
     }
     match operands {
-        [operand] => standard_value_of(at, function, *operand, uses),
-        _ => broken_rule(at, Rule::C7),
+        [operand] => standard_value_of(table, at, function, *operand, uses),
+        _ => table.broken_rule(at, Rule::C7, Detail::Number(None, operands.len())),
     }
 }

@@ -1,21 +1,23 @@
 //! Statements.
 
-ghost use Rattle.std.specs.Prelude.{◌≡◌, [], map, Ok};
+ghost use Rattle.std.specs.Prelude.{◌≡◌, [], map, Ok, Err};
 ghost use Rattle.cp_scope.specs.Judged.{Judges, Finds};
 ghost use Rattle.cp_scope.specs.View.{scopes_of};
 ghost use Rattle.cp_tree.specs.View.{statement_view, statements_view, statements_of, arm_view, arms_view, arms_of, start_view, designator_view, expression_view, expressions_of, expressions_view};
 ghost use Rattle.cp_scope.specs.Counts.{no_use};
+ghost use Rattle.cp_scope.specs.declared.fault.CheckFault.TheVariants as check_fault;
+ghost use Rattle.cp_scope.specs.declared.fault.Rule.TheVariants.{C5};
 ghost use Rattle.cp_check.specs.Statements as spec;
 
 use crate::call::{check_arguments, check_routine_call, is_own, place_of, total_use};
 use crate::case::{Label, check_case, labels};
 use crate::expression::{arguments, designator, expression};
-use crate::name::name_meaning;
+use crate::name::{name_meaning, role_of};
 use crate::operand::{Context, DesignatedName, Named, Operand};
 use crate::operation::is_function;
 use cp_scope::{
-    Base, CheckFault, Parameter, Predeclared, Rule, ScopeTable, Use, ValueType, broken_rule,
-    values_of,
+    Base, CheckFault, Detail, Parameter, Predeclared, Role, Rule, ScopeTable, Use, ValueType,
+    broken_rule, values_of,
 };
 use cp_tree::{
     Arm, Designator, Expression, Identifier, Start, Statement, StatementKind, SystemKind,
@@ -50,7 +52,7 @@ fn function_target(table: &ScopeTable, context: Context, routine: usize, is_loca
 }
 
 /// What a name on the left stands for.
-pub fn target_of(table: &ScopeTable, context: Context, named: Named) -> Target
+fn target_of(table: &ScopeTable, context: Context, named: Named) -> Target
     ensures { result ≡ spec.target_of (scopes_of table.now) context named }
 {
     match named {
@@ -77,17 +79,28 @@ pub fn target_of(table: &ScopeTable, context: Context, named: Named) -> Target
 }
 
 /// No procedure and no type stands on the left.
-fn check_target(at: usize, target: Target) -> Result<Target, CheckFault>
+fn check_target(
+    table: &ScopeTable,
+    named: Named,
+    at: usize,
+    target: Target,
+) -> Result<Target, CheckFault>
     ensures { Judges (λ t. t) (spec.check_target at target) result }
 {
     match target {
-        Target::Kind => broken_rule(at, Rule::C5),
+        Target::Kind => table.broken_rule(at, Rule::C5, Detail::Target(role_of(table, named))),
         _ => Ok(target),
     }
 }
 
 /// The rules of an assignment itself.
-fn check_assignment(at: usize, target: Target, value: Operand, uses: Use) -> Result<Use, CheckFault>
+fn check_assignment(
+    table: &ScopeTable,
+    at: usize,
+    target: Target,
+    value: Operand,
+    uses: Use,
+) -> Result<Use, CheckFault>
     ensures { Judges (λ u. u) (spec.check_assignment at target value uses) result }
 {
     match target {
@@ -95,17 +108,22 @@ fn check_assignment(at: usize, target: Target, value: Operand, uses: Use) -> Res
             if value_type.agrees(value.value_type) {
                 Ok(uses)
             } else {
-                broken_rule(at, Rule::C5)
+                table.broken_rule(
+                    at,
+                    Rule::C5,
+                    Detail::Assignment(value_type, value.as_found()),
+                )
             }
         }
         Target::Fixed(Some(value_type)) => {
+            let detail = Detail::Fixed(Some(value_type));
             if value_type.agrees(value.value_type) {
-                broken_rule(at, Rule::C6)
+                table.broken_rule(at, Rule::C6, detail)
             } else {
-                broken_rule(at, Rule::C5)
+                table.broken_rule(at, Rule::C5, detail)
             }
         }
-        Target::Fixed(None) => broken_rule(at, Rule::C6),
+        Target::Fixed(None) => table.broken_rule(at, Rule::C6, Detail::Fixed(None)),
         Target::Kind => broken_rule(at, Rule::C5),
     }
 }
@@ -122,9 +140,10 @@ fn assignment(
     ensures { Judges (λ u. u) (spec.assignment (scopes_of table.now) context at (designator_view left.now) (expression_view right.now)) result }
 {
     let name = designator(alloc, table, context, left)?;
-    let target = check_target(left.name.at, target_of(table, context, name.named))?;
+    let target = target_of(table, context, name.named);
+    let target = check_target(table, name.named, left.name.at, target)?;
     let value = expression(alloc, table, context, false, right)?;
-    check_assignment(at, target, value, name.uses.and(value.uses))
+    check_assignment(table, at, target, value, name.uses.and(value.uses))
 }
 
 /// Whether `delay` or `continue` may stand here.
@@ -141,7 +160,7 @@ fn may_wait(table: &ScopeTable, context: Context, routine: Predeclared) -> bool
 }
 
 /// The queue on which a process waits.
-fn check_queue(at: usize, operands: &[Operand]) -> Result<(), CheckFault>
+fn check_queue(table: &ScopeTable, at: usize, operands: &[Operand]) -> Result<(), CheckFault>
     ensures { Finds (spec.queue_faults at operands.now) result }
 {
     match operands {
@@ -149,10 +168,10 @@ fn check_queue(at: usize, operands: &[Operand]) -> Result<(), CheckFault>
             if operand.is_queue() {
                 Ok(())
             } else {
-                broken_rule(at, Rule::C5)
+                table.broken_rule(at, Rule::C5, Detail::Operand(operand.as_found()))
             }
         }
-        _ => broken_rule(at, Rule::C7),
+        _ => table.broken_rule(at, Rule::C7, Detail::Number(None, operands.len())),
     }
 }
 
@@ -173,7 +192,7 @@ fn check_wait_place(
 }
 
 /// The rules of `display`.
-fn check_display(at: usize, operands: &[Operand]) -> Result<(), CheckFault>
+fn check_display(table: &ScopeTable, at: usize, operands: &[Operand]) -> Result<(), CheckFault>
     ensures { Finds (spec.display_faults at operands.now) result }
 {
     match operands {
@@ -181,10 +200,10 @@ fn check_display(at: usize, operands: &[Operand]) -> Result<(), CheckFault>
             if operand.value_type.is_ordinal() {
                 Ok(())
             } else {
-                broken_rule(operand.at, Rule::C21)
+                table.broken_rule(operand.at, Rule::C21, Detail::Operand(operand.as_found()))
             }
         }
-        _ => broken_rule(at, Rule::C7),
+        _ => table.broken_rule(at, Rule::C7, Detail::Number(None, operands.len())),
     }
 }
 
@@ -199,7 +218,7 @@ fn check_wait(
 ) -> Result<(), CheckFault>
     ensures { Finds (spec.waiting_faults (scopes_of table.now) context at routine operands.now) result }
 {
-    check_queue(at, operands)?;
+    check_queue(table, at, operands)?;
     check_wait_place(table, context, at, routine)
 }
 
@@ -216,7 +235,7 @@ fn check_standard_call(
 {
     match routine {
         Predeclared::Display => {
-            check_display(at, operands)?;
+            check_display(table, at, operands)?;
             Ok(uses)
         }
         Predeclared::Delay => {
@@ -231,7 +250,7 @@ fn check_standard_call(
             check_wait(table, context, at, routine, operands)?;
             Ok(uses)
         }
-        _ => broken_rule(at, Rule::C5),
+        _ => table.broken_rule(at, Rule::C5, Detail::Call(Role::Function)),
     }
 }
 
@@ -250,7 +269,7 @@ fn check_procedure_call(
     ensures { Judges (λ u. u) (spec.check_procedure_call (scopes_of table.now) context at name_at is_local routine operands.now uses) result }
 {
     match table.shapes().result(routine) {
-        Some(_) => broken_rule(at, Rule::C5),
+        Some(_) => table.broken_rule(at, Rule::C5, Detail::Call(Role::Function)),
         None => check_routine_call(
             table, context, at, name_at, is_local, routine, operands, uses,
         ),
@@ -294,7 +313,7 @@ fn check_call(
             operands,
             uses,
         ),
-        _ => broken_rule(at, Rule::C5),
+        _ => table.broken_rule(at, Rule::C5, Detail::Call(role_of(table, name.named))),
     }
 }
 
@@ -344,13 +363,13 @@ fn call(
 }
 
 /// A test is a truth value; what its statement takes.
-fn check_test(at: usize, test: Operand, uses: Use) -> Result<Use, CheckFault>
+fn check_test(table: &ScopeTable, at: usize, test: Operand, uses: Use) -> Result<Use, CheckFault>
     ensures { Judges (λ u. u) (spec.check_test at test uses) result }
 {
     if test.value_type.is_of(Base::Boolean) {
         Ok(uses)
     } else {
-        broken_rule(at, Rule::C5)
+        table.broken_rule(at, Rule::C5, Detail::Operand(test.as_found()))
     }
 }
 
@@ -365,7 +384,7 @@ fn assertion(
     ensures { Judges (λ u. u) (spec.assertion (scopes_of table.now) context (expression_view node.now)) result }
 {
     let test = expression(alloc, table, context.quiet(), false, node)?;
-    check_test(node.at, test, test.uses)
+    check_test(table, node.at, test, test.uses)
 }
 
 /// What is said before a statement, in its order.
@@ -392,10 +411,29 @@ fn counts(first: ValueType, from: Operand, to: Operand) -> bool
     first.is_ordinal() && first.agrees(from.value_type) && first.agrees(to.value_type)
 }
 
+/// The variable and the bounds of a `for` do not agree.
+fn refuse_bounds(
+    table: &ScopeTable,
+    at: usize,
+    first: ValueType,
+    from: Operand,
+    to: Operand,
+) -> Result<Use, CheckFault>
+    ensures { result ≡ Err (check_fault.Rule at C5) }
+{
+    table.broken_rule(
+        at,
+        Rule::C5,
+        Detail::Bounds(first, from.as_found(), to.as_found()),
+    )
+}
+
 /// The rules of a `for` itself.
 fn check_for(
+    table: &ScopeTable,
     at: usize,
     name_at: usize,
+    named: Named,
     target: Target,
     from: Operand,
     to: Operand,
@@ -404,26 +442,26 @@ fn check_for(
     ensures { Judges (λ u. u) (spec.check_for at name_at target from to uses) result }
 {
     match target {
-        Target::Kind => broken_rule(at, Rule::C5),
+        Target::Kind => table.broken_rule(at, Rule::C5, Detail::Counter(role_of(table, named))),
         Target::Assignable(value_type) => {
             if counts(value_type, from, to) {
                 Ok(uses)
             } else {
-                broken_rule(at, Rule::C5)
+                refuse_bounds(table, at, value_type, from, to)
             }
         }
         Target::Fixed(Some(value_type)) => {
             if counts(value_type, from, to) {
-                broken_rule(name_at, Rule::C6)
+                table.broken_rule(name_at, Rule::C6, Detail::Fixed(Some(value_type)))
             } else {
-                broken_rule(at, Rule::C5)
+                refuse_bounds(table, at, value_type, from, to)
             }
         }
         Target::Fixed(None) => {
             if counts(from.value_type, from, to) {
-                broken_rule(name_at, Rule::C6)
+                table.broken_rule(name_at, Rule::C6, Detail::Fixed(None))
             } else {
-                broken_rule(at, Rule::C5)
+                table.broken_rule(at, Rule::C5, Detail::Fixed(None))
             }
         }
     }
@@ -442,7 +480,7 @@ fn check_start(
     match name.named {
         Named::Variable(ValueType::Component(kind, system)) => {
             let shapes = table.shapes();
-            check_arguments(at, shapes.parameters(system), operands)?;
+            check_arguments(table, at, system, shapes.parameters(system), operands)?;
             let need = match kind {
                 SystemKind::Process => 0,
                 _ => shapes.initial_need(system),
@@ -453,7 +491,7 @@ fn check_start(
                 delays: false,
             }))
         }
-        _ => broken_rule(at, Rule::C17),
+        _ => table.broken_rule(at, Rule::C17, Detail::Start(role_of(table, name.named))),
     }
 }
 
@@ -518,24 +556,24 @@ fn statement(
             None => {
                 let test = expression(alloc, table, context, false, test)?;
                 let uses = statement(alloc, table, context, first)?;
-                check_test(at, test, test.uses.and(uses))
+                check_test(table, at, test, test.uses.and(uses))
             }
             Some(second) => {
                 let test = expression(alloc, table, context, false, test)?;
                 let uses = statement(alloc, table, context, first)?;
                 let uses = uses.and(statement(alloc, table, context, second)?);
-                check_test(at, test, test.uses.and(uses))
+                check_test(table, at, test, test.uses.and(uses))
             }
         },
         StatementKind::While(test, inner) => {
             let test = expression(alloc, table, context, false, test)?;
             let uses = statement(alloc, table, context, inner)?;
-            check_test(at, test, test.uses.and(uses))
+            check_test(table, at, test, test.uses.and(uses))
         }
         StatementKind::Repeat(inner, test) => {
             let uses = statements(alloc, table, context, inner)?;
             let test = expression(alloc, table, context, false, test)?;
-            check_test(at, test, uses.and(test.uses))
+            check_test(table, at, test, uses.and(test.uses))
         }
         StatementKind::For(name, from, _, to, inner) => {
             let variable = name_meaning(table, name)?;
@@ -544,7 +582,7 @@ fn statement(
             let uses = statement(alloc, table, context, inner)?;
             let target = target_of(table, context, variable.named);
             let uses = from.uses.and(to.uses).and(uses);
-            check_for(at, name.at, target, from, to, uses)
+            check_for(table, at, name.at, variable.named, target, from, to, uses)
         }
         StatementKind::Init(nodes) => {
             check_init(at, context, starts(alloc, table, context, nodes)?)
@@ -552,7 +590,7 @@ fn statement(
         StatementKind::Case(selector, nodes, _) => {
             let selector = expression(alloc, table, context, false, selector)?;
             let (labels, uses) = arms(alloc, table, context, nodes)?;
-            check_case(alloc, at, selector, &labels, uses)
+            check_case(alloc, table, at, selector, &labels, uses)
         }
         StatementKind::Asserted(_, tests, inner) => {
             let uses = assertions(alloc, table, context, tests)?;

@@ -1,9 +1,8 @@
 //! The declarations of a program, and what a name stands for at a place of it.
 
-use crate::extent::{Extent, between, body_extent, definition_end};
+use crate::extent::{Extent, between, body_end, definition_end};
 use crate::rules::{mark_before, name_at};
 use cp_check::names_at_fault;
-use cp_check::operand::Context;
 use cp_scope::{Meaning, ScopeTable, ValueType};
 use cp_text::{Mark, Name, Tokens};
 use cp_tree::{
@@ -110,22 +109,15 @@ struct Block<'a> {
     owner: &'a str,
     routine: &'a str,
     end: usize,
-    context: Context,
+    is_routine: bool,
 }
 
-/// A body, and where it stands.
+/// A body, and whether it is that of a routine.
 #[derive(Clone, Copy, Drop)]
 pub struct OwnedBody<'a> {
     pub body: &'a Body,
-    pub context: Context,
+    pub is_of_routine: bool,
 }
-
-/// Where the initial statement of the program stands.
-pub const IN_PROGRAM: Context = Context {
-    owner: None,
-    routine: None,
-    is_quiet: false,
-};
 
 /// The declarations of a program, in the order of its text, but for fields of records.
 #[derive(Drop)]
@@ -161,7 +153,7 @@ impl<'a> Declarations<'a> {
             owner: "",
             routine: "",
             end: self.tokens.count(),
-            context: IN_PROGRAM,
+            is_routine: false,
         };
         for part in &program.parts {
             match &part.kind {
@@ -177,7 +169,7 @@ impl<'a> Declarations<'a> {
     fn add_body(&mut self, body: &'a Body, block: Block<'a>) -> Result<(), AllocError> {
         self.bodies.push(OwnedBody {
             body,
-            context: block.context,
+            is_of_routine: block.is_routine,
         })?;
         Ok(())
     }
@@ -213,14 +205,10 @@ impl<'a> Declarations<'a> {
         system: &'a System,
         block: Block<'a>,
     ) -> Result<(), AllocError> {
-        let end = body_extent(self.tokens, &system.body).to;
+        let end = body_end(self.tokens, &system.body);
         let inner = Block {
             owner: name.name.as_str(),
             end,
-            context: Context {
-                owner: Some(system.kind),
-                ..block.context
-            },
             ..block
         };
         self.add(name, Declared::System(system), end, block)?;
@@ -244,11 +232,8 @@ impl<'a> Declarations<'a> {
     fn add_routine(&mut self, routine: &'a Routine, block: Block<'a>) -> Result<(), AllocError> {
         let inner = Block {
             routine: routine.name.name.as_str(),
-            end: body_extent(self.tokens, &routine.body).to,
-            context: Context {
-                routine: Some(routine.name.at),
-                ..block.context
-            },
+            end: body_end(self.tokens, &routine.body),
+            is_routine: true,
             ..block
         };
         if matches!(routine.kind, RoutineKind::Invariants) {
@@ -529,16 +514,6 @@ impl<'a> Declarations<'a> {
             }
         }
         ""
-    }
-
-    /// The last body that begins before a token or at it.
-    pub fn body_before(&self, at: usize) -> Option<OwnedBody<'a>> {
-        for one in self.bodies.iter().rev() {
-            if one.body.at <= at {
-                return Some(*one);
-            }
-        }
-        None
     }
 
     /// Whether the name at a token is that of the language's own routine.

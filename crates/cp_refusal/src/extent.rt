@@ -11,6 +11,13 @@ pub struct Extent {
     pub to: usize,
 }
 
+impl Extent {
+    /// Whether it has more than one token.
+    pub fn is_long(self) -> bool {
+        self.from.saturating_add(1) < self.to
+    }
+}
+
 /// The tokens from one number to before another.
 pub fn between(from: usize, to: usize) -> Extent {
     Extent { from, to }
@@ -63,6 +70,61 @@ pub fn is_relation(mark: Option<Mark>) -> bool {
     )
 }
 
+/// A part of an expression, by what may stand in it outside of brackets.
+#[derive(Clone, Copy, PartialEq, Eq)]
+pub enum Part {
+    /// A name with its selectors.
+    Name,
+    Factor,
+    Term,
+    Sum,
+    Expression,
+}
+
+impl Part {
+    /// Whether a word or a sign may stand in it outside of brackets.
+    fn holds(self, mark: Mark) -> bool {
+        let (is_term, is_sum) = match self {
+            Part::Name => return mark == Mark::Period,
+            Part::Factor => (false, false),
+            Part::Term => (true, false),
+            Part::Sum | Part::Expression => (true, true),
+        };
+        matches!(mark, Mark::Period | Mark::Not)
+            || is_term && is_multiplying(Some(mark))
+            || is_sum && is_adding(Some(mark))
+            || self == Part::Expression && is_relation(Some(mark))
+    }
+
+    /// Whether what stands in the brackets that open here belongs to it.
+    fn goes_on_by(self, mark: Mark) -> bool {
+        match mark {
+            Mark::OpenBracket => true,
+            Mark::OpenParenthesis => self != Part::Name,
+            _ => false,
+        }
+    }
+}
+
+/// The tokens of the part of an expression that begins at a number.
+pub fn part_extent(tokens: &Tokens, from: usize, part: Part) -> Extent {
+    let mut depth: usize = 0;
+    for place in from..tokens.count() {
+        match mark_at(tokens, place) {
+            Some(Mark::CloseParenthesis | Mark::CloseBracket) if depth > 0 => {
+                depth = depth.saturating_sub(1);
+            }
+            Some(Mark::OpenParenthesis | Mark::OpenBracket) if depth > 0 => {
+                depth = depth.saturating_add(1);
+            }
+            Some(mark) if depth == 0 && part.goes_on_by(mark) => depth = 1,
+            Some(mark) if depth == 0 && !part.holds(mark) => return between(from, place),
+            _ => {}
+        }
+    }
+    between(from, tokens.count())
+}
+
 /// The number of the semicolon that ends the definition at this number; that of all tokens where none does.
 pub fn definition_end(tokens: &Tokens, at: usize) -> usize {
     let mut depth: usize = 0;
@@ -77,8 +139,8 @@ pub fn definition_end(tokens: &Tokens, at: usize) -> usize {
     tokens.count()
 }
 
-/// The tokens of a body to its `end`.
-pub fn body_extent(tokens: &Tokens, body: &Body) -> Extent {
+/// The number of the `end` of a body.
+pub fn body_end(tokens: &Tokens, body: &Body) -> usize {
     let opening = [Mark::Begin, Mark::Case, Mark::Cycle];
-    between(body.at, closing(tokens, body.at, &opening, &[Mark::End]))
+    closing(tokens, body.at, &opening, &[Mark::End])
 }

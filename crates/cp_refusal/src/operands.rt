@@ -1,66 +1,14 @@
-//! Values, names and what operations take, in words.
+//! Values, and what operations take, in words.
 
-use crate::ends::end_of_selected;
-use crate::extent::{Extent, between};
-use cp_check::operand::{Named, Operand, value};
-use cp_scope::{Base, Predeclared, Use, ValueType, values_of};
-use cp_tree::{Addition, Designator, Multiplication, Relation, Selector};
+use crate::extent::Extent;
+use cp_scope::{Base, ValueType, values_of};
+use cp_text::Mark;
 
 /// A value where it is written.
 #[derive(Clone, Copy)]
 pub struct Value {
-    pub operand: Operand,
-    /// The number of the token behind it.
-    pub to: usize,
-}
-
-impl Value {
-    pub fn value_type(self) -> ValueType {
-        self.operand.value_type
-    }
-
-    pub fn extent(self) -> Extent {
-        between(self.operand.at, self.to)
-    }
-}
-
-/// A name with selectors.
-#[derive(Clone, Copy)]
-pub struct Designated<'a> {
     pub extent: Extent,
-    pub named: Named,
-    pub last: Option<&'a Selector>,
-}
-
-impl<'a> Designated<'a> {
-    /// A name with so many of its selectors, which stand for this.
-    pub fn of(node: &'a Designator, count: usize, named: Named) -> Designated<'a> {
-        Designated {
-            extent: between(node.name.at, end_of_selected(node, count)),
-            named,
-            last: match count.checked_sub(1) {
-                Some(last) => node.selectors.get(last),
-                None => None,
-            },
-        }
-    }
-
-    /// The value, where this is its type.
-    pub fn with_type(self, value_type: ValueType) -> Value {
-        Value {
-            operand: value(self.extent.from, value_type, Use::nothing()),
-            to: self.extent.to,
-        }
-    }
-
-    /// The type of a constant, a variable or a parameter.
-    pub fn value_type(self) -> Option<ValueType> {
-        match self.named {
-            Named::Constant(base) => Some(values_of(base)),
-            Named::Variable(value_type) | Named::Parameter(value_type) => Some(value_type),
-            _ => None,
-        }
-    }
+    pub value_type: ValueType,
 }
 
 /// A type with its article.
@@ -89,6 +37,9 @@ pub fn is_set(value_type: ValueType) -> bool {
     matches!(value_type, ValueType::Set(_))
 }
 
+/// What is wanted where each ordinal value will do.
+pub const ANY_ORDINAL: &str = "an integer, a character, a boolean or a value of an enumeration";
+
 /// What kinds of operands an operation takes.
 #[derive(Clone, Copy, PartialEq, Eq)]
 pub enum Operands {
@@ -98,6 +49,15 @@ pub enum Operands {
 }
 
 impl Operands {
+    /// What an operator between terms or factors takes.
+    pub fn of(operator: Option<Mark>) -> Operands {
+        match operator {
+            Some(Mark::Minus) => Operands::IntegersOrSets,
+            Some(Mark::And | Mark::Or) => Operands::BooleansOrSets,
+            _ => Operands::Integers,
+        }
+    }
+
     pub fn phrase(self) -> &'static str {
         match self {
             Operands::Integers => "two integers",
@@ -108,29 +68,12 @@ impl Operands {
 
     /// Whether a value can be one of the operands.
     pub fn admits(self, value: Value) -> bool {
-        let found = value.value_type();
+        let found = value.value_type;
         match self {
             Operands::Integers => found.is_of(Base::Integer),
             Operands::IntegersOrSets => found.is_of(Base::Integer) || is_set(found),
             Operands::BooleansOrSets => found.is_of(Base::Boolean) || is_set(found),
         }
-    }
-}
-
-/// What an operator between terms takes.
-pub fn added(operation: Addition) -> Operands {
-    match operation {
-        Addition::Plus => Operands::Integers,
-        Addition::Minus => Operands::IntegersOrSets,
-        Addition::Or => Operands::BooleansOrSets,
-    }
-}
-
-/// What an operator between factors takes.
-pub fn multiplied(operation: Multiplication) -> Operands {
-    match operation {
-        Multiplication::And => Operands::BooleansOrSets,
-        _ => Operands::Integers,
     }
 }
 
@@ -156,20 +99,41 @@ pub fn about_unnamed(found: ValueType) -> &'static str {
 }
 
 /// What a procedure of the language does with a queue; empty for all else.
-pub fn about_waiting(called: Named) -> &'static str {
-    match called {
-        Named::Predeclared(Predeclared::Delay) => ": delay(q) waits in the queue q",
-        Named::Predeclared(Predeclared::Continue) => {
-            ": continue(q) lets the process go on that waits in the queue q"
-        }
+pub fn about_waiting(routine: &str) -> &'static str {
+    match routine {
+        "delay" => ": delay(q) waits in the queue q",
+        "continue" => ": continue(q) lets the process go on that waits in the queue q",
         _ => "",
     }
 }
 
+/// What a word or a sign is called that takes one value, and what value it takes.
+pub fn taker(mark: Option<Mark>) -> (&'static str, &'static str) {
+    match mark {
+        Some(Mark::If) => ("if", "a boolean"),
+        Some(Mark::While) => ("while", "a boolean"),
+        Some(Mark::Until) => ("until", "a boolean"),
+        Some(Mark::Assert) => ("assert", "a boolean"),
+        Some(Mark::Invariant) => ("invariant", "a boolean"),
+        Some(Mark::Not) => ("not", "a boolean"),
+        Some(Mark::Case) => ("case", ANY_ORDINAL),
+        _ => ("a sign", "an integer"),
+    }
+}
+
+/// What value a routine of the language takes that takes no queue.
+pub fn argument_of(routine: &str) -> &'static str {
+    match routine {
+        "abs" | "chr" => "an integer",
+        "display" => "a value",
+        _ => ANY_ORDINAL,
+    }
+}
+
 /// Why two values are not compared.
-pub fn why_not_compared(relation: Relation, left: ValueType, right: ValueType) -> &'static str {
-    let is_equality = matches!(relation, Relation::Equal | Relation::NotEqual);
-    if relation == Relation::In {
+pub fn why_not_compared(relation: Option<Mark>, left: ValueType, right: ValueType) -> &'static str {
+    let is_equality = matches!(relation, Some(Mark::Equal | Mark::NotEqual));
+    if relation == Some(Mark::In) {
         " asks whether a value is in a set of such values, but "
     } else if !are_alike(left, right) {
         " compares two values of one type, but "
@@ -177,16 +141,5 @@ pub fn why_not_compared(relation: Relation, left: ValueType, right: ValueType) -
         " compares two values of one type, and these are of two: "
     } else {
         " can't compare these: "
-    }
-}
-
-/// Why a value of this type has no such selector.
-pub fn why_not_selected(value_type: ValueType, selector: &Selector) -> &'static str {
-    match (value_type, selector) {
-        (_, Selector::Index(_)) => ", and no array: it takes no index",
-        (ValueType::Queue, _) => {
-            ": a process waits by delay(q), is let go on by continue(q), and empty(q) asks whether none waits"
-        }
-        _ => ", and no record: it has no fields",
     }
 }

@@ -3,11 +3,11 @@
 ghost use Rattle.std.specs.Prelude.{◌≡◌};
 ghost use Rattle.cp_refusal.specs.Explaining.{rule_code};
 
-use crate::declared::{Declarations, IN_PROGRAM};
+use crate::declared::Declarations;
 use crate::extent::{Extent, between, single};
 use crate::foreign::{instead_of, is_start};
 use crate::further_up::open_parenthesis;
-use crate::judging::Judging;
+use crate::saying::Saying;
 use crate::spelling::{Known, similar_declaration, similar_standard_name};
 use crate::teller::Teller;
 use cp_scope::Rule;
@@ -172,27 +172,26 @@ pub fn sentence<'a>(
     tokens: &'a Tokens,
     broken: Broken<'a>,
 ) -> Result<String, AllocError> {
-    let mut judging = Judging {
+    let mut saying = Saying {
         teller: Teller::new(alloc, source, tokens, broken.at),
         declarations: Declarations::of(alloc, tokens, broken.tree)?,
-        rule: broken.rule,
-        context: IN_PROGRAM,
     };
-    if !put_particular(&mut judging, broken.rule) {
-        put_complaint(&mut judging, complained_of(tokens, broken));
+    if !put_particular(&mut saying, broken.rule) {
+        put_complaint(&mut saying, broken);
     }
-    let mut teller = judging.teller;
+    let mut teller = saying.teller;
     teller
         .text
         .put_display(format_args!(" (rule {})", code(broken.rule)));
     teller.text.finish()
 }
 
-/// Says the rule of some tokens.
-fn put_complaint(judging: &mut Judging, extent: Extent) {
-    let words = complaint(&judging.declarations, judging.teller.at, judging.rule);
-    judging.teller.put_tokens(extent);
-    judging.teller.put(words);
+/// Says the rule of the tokens that break it.
+fn put_complaint(saying: &mut Saying, broken: Broken) {
+    let words = complaint(&saying.declarations, broken.at, broken.rule);
+    let extent = complained_of(saying.teller.tokens, broken);
+    saying.teller.put_tokens(extent);
+    saying.teller.put(words);
 }
 
 /// The tokens of which something is said: a label of a `case` with its sign, else one.
@@ -204,22 +203,27 @@ fn complained_of(tokens: &Tokens, broken: Broken) -> Extent {
 }
 
 /// Says what is there and what is wanted, where that can be told.
-fn put_particular(judging: &mut Judging, rule: Rule) -> bool {
+fn put_particular(saying: &mut Saying, rule: Rule) -> bool {
     match rule {
-        Rule::C1 if !is_behind_period(&judging.teller) => put_undeclared(
-            &mut judging.teller,
-            &judging.declarations,
+        Rule::C1 if !is_behind_period(&saying.teller) => put_undeclared(
+            &mut saying.teller,
+            &saying.declarations,
         ),
-        Rule::C8 if is_start(judging.teller.name()) => {
-            judging.teller.put_about(
+        Rule::C8 if is_start(saying.teller.name()) => {
+            saying.teller.put_about(
                 "# is no routine of this component: processes are started by init",
             );
             true
         }
-        Rule::C9 | Rule::C10 | Rule::C22 => put_own_name(&mut judging.teller),
+        Rule::C9 | Rule::C10 | Rule::C22 => put_own_name(&mut saying.teller),
         Rule::C1 | Rule::C5 | Rule::C6 | Rule::C7 | Rule::C8 | Rule::C17 | Rule::C21 => {
-            let _ = judging.tell();
-            judging.teller.text.len() > 0
+            match saying.declarations.scopes.detail() {
+                Some(detail) => {
+                    saying.put_detail(detail);
+                    true
+                }
+                None => false,
+            }
         }
         _ => false,
     }

@@ -1,30 +1,104 @@
-//! What is there and what is wanted, where a construct breaks a rule.
+//! What is there and what is wanted, where something does not agree.
 
-use crate::extent::{between, closing, is_relation, single};
-use crate::judging::Judging;
-use crate::operands::{
-    Designated, Operands, Value, about_sets, about_unnamed, about_waiting, are_alike, phrase,
-    why_not_compared, why_not_selected,
+use crate::declared::Declarations;
+use crate::extent::{
+    Extent, Part, between, closing, is_adding, is_multiplying, is_relation, part_extent, single,
 };
-use crate::rules::{mark_before, put_declared};
+use crate::operands::{
+    ANY_ORDINAL, Operands, Value, about_sets, about_unnamed, about_waiting, are_alike, argument_of,
+    phrase, taker, why_not_compared,
+};
+use crate::rules::{mark_at, mark_before, name_at, put_declared};
 use crate::spelling::{Known, similar_declaration};
-use cp_check::operand::Named;
-use cp_check::statement::Target;
-use cp_scope::{Base, ValueType, values_of};
+use crate::teller::Teller;
+use cp_scope::{Base, Detail, FoundValue, Meaning, Parameter, Role, ValueType, values_of};
 use cp_text::Mark;
-use cp_tree::{Relation, Selector};
 
-/// What is wanted where each ordinal value will do.
-const ANY_ORDINAL: &str = "an integer, a character, a boolean or a value of an enumeration";
+/// A source that is refused where a rule is broken, and what has been told of it.
+#[derive(Drop)]
+pub struct Saying<'a> {
+    pub teller: Teller<'a>,
+    pub declarations: Declarations<'a>,
+}
 
-impl<'a> Judging<'a> {
+impl<'a> Saying<'a> {
+    /// Says what does not agree.
+    pub fn put_detail(&mut self, detail: Detail) {
+        match detail {
+            Detail::Operand(one) => self.put_operand(one),
+            Detail::Operands(left, right) => self.put_operands(left, right),
+            Detail::Elements(first, other) => self.put_elements(first, other),
+            Detail::Index(before, index) => self.put_no_element(before, index),
+            Detail::Period(before, name) => self.put_no_fields(before, name),
+            Detail::Member(whole) => self.put_no_member(whole),
+            Detail::Value(role) => self.put_no_value(role),
+            Detail::Call(role) => self.put_no_call(role),
+            Detail::Target(role) => self.put_role_of_name(role, ", and can't be assigned"),
+            Detail::Start(role) => self.put_no_component(role),
+            Detail::Counter(role) => {
+                self.teller.put("for takes a variable, but ");
+                self.put_role_of_name(role, "");
+            }
+            Detail::Number(None, given) => self.put_standard_count(given),
+            Detail::Number(Some(heading), given) => {
+                let taken = self.parameters(heading).len();
+                self.put_count(taken, given);
+                self.put_parameters(heading);
+            }
+            Detail::Argument(heading, number, value) => self.put_argument(heading, number, value),
+            Detail::Fixed(found) => self.put_unchangeable(found),
+            Detail::Assignment(wanted, value) => self.put_assignment(wanted, value),
+            Detail::Bounds(wanted, low, high) => self.put_counting(wanted, low, high),
+        }
+    }
+
+    // -- what stands where
+
+    /// The name with its selectors that begins at the fault, or behind it where that is a `for`.
+    fn name(&self) -> Extent {
+        let from = match self.teller.mark() {
+            Some(Mark::For) => self.teller.at.saturating_add(1),
+            _ => self.teller.at,
+        };
+        part_extent(self.teller.tokens, from, Part::Name)
+    }
+
+    fn value(&self, found: FoundValue, part: Part) -> Value {
+        Value {
+            extent: part_extent(self.teller.tokens, found.at, part),
+            value_type: found.value_type,
+        }
+    }
+
+    /// A value that is an expression of its own.
+    fn expression(&self, found: FoundValue) -> Value {
+        self.value(found, Part::Expression)
+    }
+
+    /// What stands before the selector that begins at a token.
+    fn name_before(&self, selector: usize) -> Extent {
+        between(self.teller.at, selector)
+    }
+
+    /// What the name at a token stands for.
+    fn meaning(&self, at: usize) -> Option<Meaning> {
+        self.declarations
+            .scopes
+            .look(self.teller.whole_name_at(at)?)
+    }
+
+    /// The parameters of the routine or the system type that is written at a token.
+    fn parameters(&self, heading: usize) -> &[Parameter] {
+        self.declarations.scopes.shapes().parameters(heading)
+    }
+
     // -- pieces
 
     /// Says `x is a set`.
     fn put_is(&mut self, one: Value) {
-        self.teller.put_tokens(one.extent());
+        self.teller.put_tokens(one.extent);
         self.teller.put(" is ");
-        self.teller.put(phrase(one.value_type()));
+        self.teller.put(phrase(one.value_type));
     }
 
     /// Says `x is a set and y is an integer`, or with other words between.
@@ -42,89 +116,176 @@ impl<'a> Judging<'a> {
     }
 
     /// Says what is wanted of a value, and what it is.
-    pub fn put_wanted(&mut self, taker: &str, wanted: &str, one: Value) {
+    fn put_wanted(&mut self, taker: &str, wanted: &str, one: Value) {
         self.teller.put(taker);
         self.put_taken(wanted);
         self.put_is(one);
     }
 
-    /// Says what a routine of the language itself wants of its argument, and what that is.
-    pub fn put_argument_wanted(&mut self, called: Designated, wanted: &str, one: Value) {
-        let name = self.teller.name_at(called.extent.from);
-        self.put_wanted(name, wanted, one);
-    }
-
-    /// Says the same where each ordinal value will do.
-    pub fn put_ordinal_wanted(&mut self, called: Designated, one: Value) {
-        self.put_argument_wanted(called, ANY_ORDINAL, one);
-    }
-
-    /// Says words after a name with its selectors.
-    fn put_after(&mut self, whole: Designated, words: &str) {
-        self.teller.put_tokens(whole.extent);
+    /// Says words after some tokens.
+    fn put_after(&mut self, whole: Extent, words: &str) {
+        self.teller.put_tokens(whole);
         self.teller.put(words);
     }
 
     /// Says what a name with its selectors is, and words after that.
-    pub fn put_role(&mut self, whole: Designated, words: &str) {
-        let role = self.role(whole);
+    fn put_role(&mut self, whole: Extent, role: Role, words: &str) {
+        let said = self.role(whole, role);
         self.put_after(whole, " is ");
-        self.teller.put(role);
+        self.teller.put(said);
         self.teller.put(words);
     }
 
+    /// Says words after the name at the fault.
+    fn put_name(&mut self, words: &str) {
+        let whole = self.name();
+        self.put_after(whole, words);
+    }
+
+    /// Says what the name at the fault is, and words after that.
+    fn put_role_of_name(&mut self, role: Role, words: &str) {
+        let whole = self.name();
+        self.put_role(whole, role, words);
+    }
+
     /// What a name with its selectors stands for.
-    fn role(&self, whole: Designated) -> &'static str {
-        match (whole.named, whole.last) {
-            (Named::Variable(_) | Named::Parameter(_), Some(Selector::Index(_))) => "an element",
-            (Named::Variable(_) | Named::Parameter(_), Some(Selector::Field(_))) => "a field",
-            (Named::Variable(_), None) => "a variable",
-            (Named::Parameter(_), None) => "a parameter",
-            (Named::Constant(_), _) => "a constant",
-            (Named::Kind, _) => "a type",
-            (named, _) if self.is_function(named) => "a function",
-            _ => "a procedure",
+    fn role(&self, whole: Extent, role: Role) -> &'static str {
+        let tokens = self.teller.tokens;
+        match role {
+            Role::Kind => "a type",
+            Role::Function => "a function",
+            Role::Procedure => "a procedure",
+            Role::Value(_) if mark_before(tokens, whole.to) == Some(Mark::CloseBracket) => {
+                "an element"
+            }
+            Role::Value(_) if whole.is_long() => "a field",
+            Role::Value(_) => match self.meaning(whole.from) {
+                Some(Meaning::Constant(..)) => "a constant",
+                Some(Meaning::Parameter(_)) => "a parameter",
+                _ => "a variable",
+            },
         }
     }
 
-    // -- calls
+    // -- values
 
-    /// Says how many arguments are taken, and how many are given.
-    pub fn put_count(&mut self, called: Designated, taken: usize, given: usize) {
-        self.put_after(called, " takes ");
-        self.teller.text.put_display(taken);
-        self.teller.put(if taken == 1 {
-            " argument"
-        } else {
-            " arguments"
-        });
-        self.teller.put(", but is called with ");
-        self.teller.text.put_display(given);
-        self.teller.put(about_waiting(called.named));
-    }
-
-    /// Says what the parameters of a routine or a system type are, where it has some.
-    pub fn put_parameters(&mut self, heading: usize) {
-        let last = self.parameters(heading).len().saturating_sub(1);
-        if let Some(first) = self.declarations.parameter(heading, 0)
-            && let Some(last) = self.declarations.parameter(heading, last)
-            && let Some(type_name) = last.what.type_name()
-        {
-            let tokens = self.teller.tokens;
-            let from = if mark_before(tokens, first.at) == Some(Mark::Var) {
-                first.at.saturating_sub(1)
-            } else {
-                first.at
-            };
-            self.teller.put(": its heading has ");
+    /// Says what the word, the sign or the routine before a value takes.
+    fn put_operand(&mut self, one: FoundValue) {
+        let before = mark_before(self.teller.tokens, one.at);
+        let value = self.value(
+            one,
+            match before {
+                Some(Mark::Not) => Part::Factor,
+                Some(Mark::Plus | Mark::Minus) => Part::Term,
+                _ => Part::Expression,
+            },
+        );
+        if before == Some(Mark::OpenParenthesis) {
+            self.put_standard_argument(one.at.saturating_sub(2), value);
+            return;
+        }
+        if before == Some(Mark::Case) && value.value_type.is_ordinal() {
+            self.put_is(value);
             self.teller
-                .put_tokens(between(from, type_name.at.saturating_add(1)));
+                .put(", but a label of this case is of another type");
+            return;
+        }
+        let (taker, wanted) = taker(before);
+        self.put_wanted(taker, wanted, value);
+        if before == Some(Mark::Not) && is_relation(mark_at(self.teller.tokens, value.extent.to)) {
+            self.teller.put(": a comparison behind not stands in parentheses, as in not (a = b)");
         }
     }
+
+    /// Says what the routine of the language takes whose name is at a token.
+    fn put_standard_argument(&mut self, routine: usize, argument: Value) {
+        let name = name_at(self.teller.tokens, routine);
+        let is_waiting = matches!(name, "delay" | "continue" | "empty");
+        if !is_waiting {
+            self.put_wanted(name, argument_of(name), argument);
+        } else if let ValueType::Queue = argument.value_type {
+            self.put_after(
+                single(routine),
+                " takes a queue variable, and not one in parentheses",
+            );
+        } else {
+            self.put_wanted(name, "a queue variable", argument);
+        }
+    }
+
+    /// Says what the operator before the second of two values takes.
+    fn put_operands(&mut self, left: FoundValue, right: FoundValue) {
+        let operator = right.at.saturating_sub(1);
+        let mark = mark_at(self.teller.tokens, operator);
+        let left = Value {
+            extent: between(left.at, operator),
+            value_type: left.value_type,
+        };
+        self.teller.put_tokens(single(operator));
+        let part = if is_multiplying(mark) {
+            Part::Factor
+        } else if is_adding(mark) {
+            Part::Term
+        } else {
+            Part::Sum
+        };
+        let right = self.value(right, part);
+        if part == Part::Sum {
+            self.put_relation(mark, left, right);
+        } else {
+            self.put_operation(Operands::of(mark), left, right);
+        }
+    }
+
+    /// Says which operand of an operator is none such, or that the two do not agree.
+    fn put_operation(&mut self, operands: Operands, left: Value, right: Value) {
+        self.put_taken(operands.phrase());
+        match (operands.admits(left), operands.admits(right)) {
+            (true, false) => self.put_is(right),
+            (false, true) => self.put_is(left),
+            _ => self.put_both(left, " and ", right),
+        }
+        self.teller
+            .put(about_sets(operands, left.value_type, right.value_type));
+        if operands == Operands::BooleansOrSets && self.is_compared(left, right) {
+            self.teller.put(
+                ": comparisons that and or or joins stand in parentheses, as (a = b) and (c = d)",
+            );
+        }
+    }
+
+    /// Whether a sign that compares stands before or behind two operands.
+    fn is_compared(&self, left: Value, right: Value) -> bool {
+        let tokens = self.teller.tokens;
+        is_relation(mark_before(tokens, left.extent.from))
+            || is_relation(mark_at(tokens, right.extent.to))
+    }
+
+    /// Says why no such relation stands between two values.
+    fn put_relation(&mut self, relation: Option<Mark>, left: Value, right: Value) {
+        self.teller.put(why_not_compared(relation, left.value_type, right.value_type));
+        self.put_both(left, " and ", right);
+        if left.value_type.is_ordinal() && are_alike(left.value_type, right.value_type) {
+            self.put_own_type(right);
+        }
+    }
+
+    /// Says that two elements of a set are of two types, or that the first is not ordinal.
+    fn put_elements(&mut self, first: FoundValue, other: FoundValue) {
+        let (first, other) = (self.expression(first), self.expression(other));
+        self.teller.put("the elements of a set have to be ordinal and of one type, but ");
+        if first.value_type.is_ordinal() {
+            self.put_both(first, ", ", other);
+        } else {
+            self.put_is(first);
+        }
+    }
+
+    // -- types
 
     /// Says which of the types with one phrase a value has, by its name or its bounds.
     fn put_own_type(&mut self, value: Value) {
-        let found = value.value_type();
+        let found = value.value_type;
         let name = self.type_name(found);
         if !name.is_empty() {
             self.put_of_type(value, name);
@@ -156,8 +317,7 @@ impl<'a> Judging<'a> {
     /// Says the name of a value's type.
     fn put_of_type(&mut self, value: Value, name: &str) {
         self.teller.put(": ");
-        self.teller.put_tokens(value.extent());
-        self.teller.put(" is of type ");
+        self.put_after(value.extent, " is of type ");
         self.teller.put(name);
     }
 
@@ -185,25 +345,60 @@ impl<'a> Judging<'a> {
         }
     }
 
+    // -- calls
+
+    /// Says how many arguments are taken, and how many are given.
+    fn put_count(&mut self, taken: usize, given: usize) {
+        self.put_name(" takes ");
+        self.teller.text.put_display(taken);
+        self.teller.put(if taken == 1 {
+            " argument"
+        } else {
+            " arguments"
+        });
+        self.teller.put(", but is called with ");
+        self.teller.text.put_display(given);
+    }
+
+    /// Says the same of a routine of the language, which takes one.
+    fn put_standard_count(&mut self, given: usize) {
+        self.put_count(1, given);
+        let more = about_waiting(self.teller.name());
+        self.teller.put(more);
+    }
+
+    /// Says what the parameters of a routine or a system type are, where it has some.
+    fn put_parameters(&mut self, heading: usize) {
+        let last = self.parameters(heading).len().saturating_sub(1);
+        if let Some(first) = self.declarations.parameter(heading, 0)
+            && let Some(last) = self.declarations.parameter(heading, last)
+            && let Some(type_name) = last.what.type_name()
+        {
+            let tokens = self.teller.tokens;
+            let from = if mark_before(tokens, first.at) == Some(Mark::Var) {
+                first.at.saturating_sub(1)
+            } else {
+                first.at
+            };
+            self.teller.put(": its heading has ");
+            self.teller
+                .put_tokens(between(from, type_name.at.saturating_add(1)));
+        }
+    }
+
     /// Says which argument is of another type than its parameter.
-    pub fn put_argument(
-        &mut self,
-        called: Designated<'a>,
-        heading: usize,
-        number: usize,
-        value: Value,
-    ) {
+    fn put_argument(&mut self, heading: usize, number: usize, value: FoundValue) {
         let Some(parameter) = self.parameters(heading).get(number).copied() else {
             return;
         };
+        let value = self.expression(value);
         self.teller.put("argument ");
         self.teller.text.put_display(number.saturating_add(1));
         self.teller.put(" of ");
-        self.put_after(called, ", ");
-        self.teller.put_tokens(value.extent());
-        self.teller.put(", is ");
-        self.teller.put(phrase(value.value_type()));
-        let is_alike = are_alike(parameter.value_type, value.value_type());
+        self.put_name(", ");
+        self.put_after(value.extent, ", is ");
+        self.teller.put(phrase(value.value_type));
+        let is_alike = are_alike(parameter.value_type, value.value_type);
         self.teller.put(if is_alike {
             ", but of another type than the parameter "
         } else {
@@ -222,99 +417,110 @@ impl<'a> Judging<'a> {
         }
     }
 
-    /// Says that an argument is no queue variable.
-    pub fn put_no_queue(&mut self, called: Designated, argument: Value) {
-        match argument.value_type() {
-            ValueType::Queue => self.put_after(
-                called,
-                " takes a queue variable, and not one in parentheses",
-            ),
-            _ => self.put_argument_wanted(called, "a queue variable", argument),
-        }
-    }
-
-    /// Says that a name has no value, or can't be called with so many arguments.
-    pub fn put_no_value(&mut self, whole: Designated, given: usize) {
-        let is_called = match whole.named {
-            Named::Kind => given > 0,
-            _ => whole.value_type().is_some(),
+    /// Says that a name has no value, or can't be called with arguments.
+    fn put_no_value(&mut self, role: Role) {
+        let whole = self.name();
+        let is_called = match role {
+            Role::Kind => { mark_at(self.teller.tokens, whole.to) == Some(Mark::OpenParenthesis) }
+            Role::Value(_) => true,
+            Role::Function | Role::Procedure => false,
         };
-        self.put_role(
-            whole,
-            if is_called {
-                ", and can't be called"
-            } else {
-                ", and has no value"
-            },
-        );
+        let words = if is_called {
+            ", and can't be called"
+        } else {
+            ", and has no value"
+        };
+        self.put_role(whole, role, words);
     }
 
     /// Says that a statement calls no procedure.
-    pub fn put_no_call(&mut self, whole: Designated) {
-        self.put_role(
-            whole,
-            match whole.named {
-                Named::Variable(ValueType::Component(..)) =>
-                    ", and can't be called: init starts it",
-                named if self.is_function(named) => {
-                    ": a statement calls a procedure, and a function's value has to be used"
-                }
-                _ => ", and can't be called",
-            },
-        );
+    fn put_no_call(&mut self, role: Role) {
+        let whole = self.name();
+        let is_parameter = matches!(self.meaning(whole.from), Some(Meaning::Parameter(_)));
+        let words = match role {
+            Role::Value(ValueType::Component(..)) if !is_parameter =>
+                ", and can't be called: init starts it",
+            Role::Function =>
+                ": a statement calls a procedure, and a function's value has to be used",
+            _ => ", and can't be called",
+        };
+        self.put_role(whole, role, words);
     }
 
     /// Says that `init` starts no component.
-    pub fn put_no_component(&mut self, whole: Designated) {
-        self.put_after(
-            whole,
-            match whole.named {
-                Named::Kind => " is a type, and init starts a variable of it",
-                Named::Variable(array @ ValueType::Array(_)) if self.is_fixed(array) => {
-                    " is an array, and init takes its elements one by one"
-                }
-                _ => " is no component variable of this block, so that init can't start it",
-            },
-        );
+    fn put_no_component(&mut self, role: Role) {
+        let words = match role {
+            Role::Kind => " is a type, and init starts a variable of it",
+            Role::Value(ValueType::Array(at)) if self.has_fixed_elements(at) => {
+                " is an array, and init takes its elements one by one"
+            }
+            _ => " is no component variable of this block, so that init can't start it",
+        };
+        self.put_name(words);
+    }
+
+    /// Whether the elements of the array that is written at a token are queues or components.
+    fn has_fixed_elements(&self, at: usize) -> bool {
+        match self.declarations.scopes.shapes().array(at) {
+            Some(array) => matches!(array.element, ValueType::Queue | ValueType::Component(..)),
+            None => false,
+        }
     }
 
     // -- names
 
-    /// Says why what stands before a selector has none such.
-    pub fn put_wrong_selector(
-        &mut self,
-        before: Designated<'a>,
-        selector: &Selector,
-        index: Option<Value>,
-    ) {
-        match (before.value_type(), selector, index) {
-            (Some(ValueType::Array(_)), Selector::Index(_), Some(index)) => {
-                self.put_after(before, " has indices of another type: ");
+    /// Says why what stands before an index has no such element.
+    fn put_no_element(&mut self, before: Role, index: FoundValue) {
+        let whole = self.name_before(index.at.saturating_sub(1));
+        match before {
+            Role::Value(ValueType::Array(_)) => {
+                self.put_after(whole, " has indices of another type: ");
+                let index = self.expression(index);
                 self.put_is(index);
             }
-            (Some(value_type), _, _) => {
-                self.put_is(before.with_type(value_type));
-                self.teller.put(why_not_selected(value_type, selector));
+            Role::Value(value_type) => {
+                self.put_is(Value {
+                    extent: whole,
+                    value_type,
+                });
+                self.teller.put(", and no array: it takes no index");
             }
-            (None, Selector::Index(_), _) => self.put_role(before, ", and has no elements"),
-            (None, Selector::Field(_), _) => self.put_role(
+            _ => self.put_role(whole, before, ", and has no elements"),
+        }
+    }
+
+    /// Says why what stands before a period has no fields and no routines.
+    fn put_no_fields(&mut self, before: Role, name: usize) {
+        let whole = self.name_before(name.saturating_sub(1));
+        match before {
+            Role::Value(value_type) => {
+                self.put_is(Value {
+                    extent: whole,
+                    value_type,
+                });
+                self.teller.put(match value_type {
+                    ValueType::Queue =>
+                        ": a process waits by delay(q), is let go on by continue(q), and empty(q) asks whether none waits",
+                    _ => ", and no record: it has no fields",
+                });
+            }
+            Role::Kind => self.put_role(
+                whole,
                 before,
-                match before.named {
-                    Named::Kind => ": what stands before a period is a variable of such a type",
-                    _ => ", and has no fields",
-                },
+                ": what stands before a period is a variable of such a type",
             ),
+            _ => self.put_role(whole, before, ", and has no fields"),
         }
     }
 
     /// Says that the token is no field of a record and no routine of a component, and which one may have been meant.
-    pub fn put_no_member(&mut self, before: Designated<'a>) {
-        let known = match before.value_type() {
-            Some(ValueType::Record(at)) => {
+    fn put_no_member(&mut self, whole: ValueType) {
+        let known = match whole {
+            ValueType::Record(at) => {
                 self.teller.put_about("# is no field of this record");
                 Known::FieldOf(at)
             }
-            Some(ValueType::Component(_, at)) => {
+            ValueType::Component(_, at) => {
                 self.teller.put_about(
                     "# is no routine of this component, whose variables can't be reached from outside",
                 );
@@ -327,113 +533,68 @@ impl<'a> Judging<'a> {
         }
     }
 
-    /// Says why a name with its selectors can't be assigned.
-    pub fn put_unchangeable(&mut self, whole: Designated) {
-        let name = self.teller.name_at(whole.extent.from);
-        let is_of_routine = match self.declarations.find(name, whole.extent.from) {
-            Some(one) => !one.routine.is_empty(),
-            None => false,
-        };
-        self.put_after(
-            whole,
-            match whole.named {
-                Named::Constant(_) => " is a constant, and keeps its value",
-                Named::Variable(ValueType::Queue) => {
-                    " is a queue, and no variable that is assigned: delay and continue change it"
-                }
-                Named::Variable(ValueType::Component(..)) => {
-                    " is a component, and no variable that is assigned: its routines change it"
-                }
-                Named::Variable(_) => " is an array of queues or components, and can't be assigned",
-                Named::Parameter(_) if whole.last.is_some() => {
-                    " is a part of a parameter without var, and keeps its value"
-                }
-                Named::Parameter(_) if is_of_routine => {
-                    " is a parameter without var, and the routine can't change it"
-                }
-                Named::Parameter(_) => " is a parameter of its system type, and keeps its value",
-                Named::Routine(_) | Named::Entry(_) => {
-                    " is a function, and only its own body gives it a value"
-                }
-                _ => " is a function of the language itself, and can't be assigned",
-            },
-        );
-    }
-
-    /// Says that an argument is no variable.
-    pub fn put_no_variable(&mut self, one: Value) {
-        self.teller.put_tokens(one.extent());
-        self.teller
-            .put(" is an expression, and a var parameter takes a variable");
-    }
-
-    // -- operations
-
-    /// Says which operand of an operator is none such, or that the two do not agree.
-    pub fn put_operation(&mut self, operands: Operands, left: Value, right: Value) {
-        self.put_operator(right);
-        self.put_taken(operands.phrase());
-        match (operands.admits(left), operands.admits(right)) {
-            (true, false) => self.put_is(right),
-            (false, true) => self.put_is(left),
-            _ => self.put_both(left, " and ", right),
-        }
-        self.teller.put(about_sets(operands, left.value_type(), right.value_type()));
-        if operands == Operands::BooleansOrSets && self.is_compared(left, right) {
-            self.teller.put(
-                ": comparisons that and or or joins stand in parentheses, as (a = b) and (c = d)",
+    /// Says why a name with its selectors can't be assigned, or that an argument is no name.
+    fn put_unchangeable(&mut self, found: Option<ValueType>) {
+        let whole = self.name();
+        let tokens = self.teller.tokens;
+        let argument = part_extent(tokens, whole.from, Part::Expression);
+        if name_at(tokens, whole.from).is_empty() || whole.to < argument.to {
+            self.put_after(
+                argument,
+                " is an expression, and a var parameter takes a variable",
             );
+            return;
+        }
+        let words = self.why_unchangeable(whole, found);
+        self.put_after(whole, words);
+    }
+
+    fn why_unchangeable(&self, whole: Extent, found: Option<ValueType>) -> &'static str {
+        match (self.meaning(whole.from), found) {
+            (Some(Meaning::Constant(..)), _) => " is a constant, and keeps its value",
+            (Some(Meaning::Predeclared(_)), _) => {
+                " is a function of the language itself, and can't be assigned"
+            }
+            (_, None) => " is a function, and only its own body gives it a value",
+            (Some(Meaning::Parameter(_)), _) => self.why_parameter_stays(whole),
+            (_, Some(ValueType::Queue)) => {
+                " is a queue, and no variable that is assigned: delay and continue change it"
+            }
+            (_, Some(ValueType::Component(..))) => {
+                " is a component, and no variable that is assigned: its routines change it"
+            }
+            _ => " is an array of queues or components, and can't be assigned",
         }
     }
 
-    /// Says that `not` takes a boolean, and how a comparison stands behind it.
-    pub fn put_negated(&mut self, inner: Value) {
-        self.put_wanted("not", "a boolean", inner);
-        if is_relation(self.teller.mark_at(inner.to)) {
-            self.teller.put(": a comparison behind not stands in parentheses, as in not (a = b)");
+    fn why_parameter_stays(&self, whole: Extent) -> &'static str {
+        let name = name_at(self.teller.tokens, whole.from);
+        if whole.is_long() {
+            return " is a part of a parameter without var, and keeps its value";
         }
-    }
-
-    /// Whether a sign that compares stands before or behind two operands.
-    fn is_compared(&self, left: Value, right: Value) -> bool {
-        is_relation(mark_before(self.teller.tokens, left.operand.at))
-            || is_relation(self.teller.mark_at(right.to))
-    }
-
-    /// Says the operator before an operand.
-    fn put_operator(&mut self, right: Value) {
-        self.teller
-            .put_tokens(single(right.operand.at.saturating_sub(1)));
-    }
-
-    /// Says that two elements of a set are of two types, or that the first is not ordinal.
-    pub fn put_elements(&mut self, first: Value, other: Value) {
-        self.teller.put("the elements of a set have to be ordinal and of one type, but ");
-        if first.value_type().is_ordinal() {
-            self.put_both(first, ", ", other);
-        } else {
-            self.put_is(first);
-        }
-    }
-
-    /// Says why no such relation stands between two values.
-    pub fn put_relation(&mut self, relation: Relation, left: Value, right: Value) {
-        self.put_operator(right);
-        self.teller.put(why_not_compared(relation, left.value_type(), right.value_type()));
-        self.put_both(left, " and ", right);
-        if left.value_type().is_ordinal() && are_alike(left.value_type(), right.value_type()) {
-            self.put_own_type(right);
+        match self.declarations.find(name, whole.from) {
+            Some(one) if !one.routine.is_empty() => {
+                " is a parameter without var, and the routine can't change it"
+            }
+            _ => " is a parameter of its system type, and keeps its value",
         }
     }
 
     // -- statements
 
     /// Says why a value can't be assigned to what stands on the left, which has this type.
-    pub fn put_assignment(&mut self, left: Designated, wanted: ValueType, right: Value) {
-        if matches!(left.named, Named::Constant(_) | Named::Parameter(_)) || self.is_fixed(wanted) {
-            self.put_unchangeable(left);
-        } else if are_alike(wanted, right.value_type()) {
-            self.put_both(left.with_type(wanted), " and ", right);
+    fn put_assignment(&mut self, wanted: ValueType, value: FoundValue) {
+        let left = self.name();
+        let right = self.expression(value);
+        if are_alike(wanted, right.value_type) {
+            self.put_both(
+                Value {
+                    extent: left,
+                    value_type: wanted,
+                },
+                " and ",
+                right,
+            );
             self.teller.put(", but of another type");
             self.put_own_type(right);
         } else {
@@ -443,36 +604,20 @@ impl<'a> Judging<'a> {
         }
     }
 
-    /// Says why the variable of a `for` and its bounds do not agree.
-    pub fn put_counting(&mut self, variable: Designated, target: Target, low: Value, high: Value) {
-        match target {
-            Target::Kind => {
-                self.teller.put("for takes a variable, but ");
-                self.put_role(variable, "");
-            }
-            Target::Fixed(None) => self.put_unchangeable(variable),
-            Target::Assignable(wanted) | Target::Fixed(Some(wanted)) => {
-                let counted = variable.with_type(wanted);
-                if !wanted.is_ordinal() {
-                    self.put_wanted("for", ANY_ORDINAL, counted);
-                    return;
-                }
-                self.teller.put("the variable and the bounds of for have to be of one type, but ");
-                self.put_both(counted, ", ", low);
-                self.teller.put(" and ");
-                self.put_is(high);
-            }
+    /// Says why the variable of a `for`, which has this type, and its bounds do not agree.
+    fn put_counting(&mut self, wanted: ValueType, low: FoundValue, high: FoundValue) {
+        let counted = Value {
+            extent: self.name(),
+            value_type: wanted,
+        };
+        if !wanted.is_ordinal() {
+            self.put_wanted("for", ANY_ORDINAL, counted);
+            return;
         }
-    }
-
-    /// Says what the selector of a `case` is, or that a label is of another type.
-    pub fn put_selector(&mut self, one: Value) {
-        if one.value_type().is_ordinal() {
-            self.put_is(one);
-            self.teller
-                .put(", but a label of this case is of another type");
-        } else {
-            self.put_wanted("case", ANY_ORDINAL, one);
-        }
+        let (low, high) = (self.expression(low), self.expression(high));
+        self.teller.put("the variable and the bounds of for have to be of one type, but ");
+        self.put_both(counted, ", ", low);
+        self.teller.put(" and ");
+        self.put_is(high);
     }
 }

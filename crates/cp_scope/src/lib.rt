@@ -2,6 +2,7 @@
 #![tactic(auto)]
 
 pub mod count;
+pub mod detail;
 pub mod fault;
 pub mod scope;
 pub mod shape;
@@ -10,6 +11,7 @@ pub mod table;
 pub mod types;
 
 pub use count::{TOO_MANY, Use, plus, times};
+pub use detail::{Detail, FoundValue, Role};
 pub use fault::{CheckFault, Rule, broken_rule};
 pub use scope::Scope;
 pub use shape::{ArrayShape, Census, Heading, TokenShape, plain};

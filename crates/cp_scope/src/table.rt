@@ -1,17 +1,19 @@
 //! What is known while a program is checked.
 
-ghost use Rattle.std.specs.Prelude.{◌≡◌, option_map, map, Some, IfErr, IfOk, OnOk, false};
+ghost use Rattle.std.specs.Prelude.{◌≡◌, option_map, map, Some, Err, IfErr, IfOk, OnOk, false};
 ghost use Rattle.cp_scope.specs.Scopes as spec;
 ghost use Rattle.cp_scope.specs.View.{scopes_of, scope_of, shapes_of, shape_view};
 ghost use Rattle.cp_scope.specs.declared.fault.CheckFault.TheVariants as check_fault;
 
-use crate::fault::CheckFault;
+use crate::detail::Detail;
+use crate::fault::{CheckFault, Rule, broken_rule};
 use crate::scope::Scope;
 use crate::shape::{Census, TokenShape};
 use crate::shapes::Shapes;
 use crate::types::{Base, Meaning, Parameter, Predeclared, ValueType, values_of};
 use cp_text::Name;
 use std::alloc::Global;
+use std::cell::Cell;
 use std::mem;
 
 /// The innermost scope, those around it, outermost first, and what is written at tokens.
@@ -20,6 +22,8 @@ pub struct ScopeTable {
     outer: Vec<Scope>,
     inner: Scope,
     shapes: Shapes,
+    /// What does not agree where the check ends.
+    detail: Cell<Option<Detail>>,
 }
 
 impl ScopeTable {
@@ -32,7 +36,26 @@ impl ScopeTable {
             outer: Vec::new(alloc),
             inner: Scope::new(alloc),
             shapes: Shapes::new(alloc),
+            detail: Cell::new(None),
         }
+    }
+
+    /// Notes what does not agree, in place of what was noted before.
+    pub fn note(&self, detail: Detail) {
+        self.detail.set(Some(detail));
+    }
+
+    /// What was noted last.
+    pub fn detail(&self) -> Option<Detail> {
+        self.detail.get()
+    }
+
+    /// A rule is broken at a token, since something does not agree.
+    pub fn broken_rule<T>(&self, at: usize, rule: Rule, detail: Detail) -> Result<T, CheckFault>
+        ensures { result ≡ Err (check_fault.Rule at rule) }
+    {
+        self.note(detail);
+        broken_rule(at, rule)
     }
 
     /// What is written at tokens.

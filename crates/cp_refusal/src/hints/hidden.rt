@@ -54,7 +54,7 @@ impl<'a, 'b> Gathering<'a, 'b> {
     fn routine_uses(&self) -> Result<Vec<RoutineUse>, AllocError> {
         let mut uses = Vec::new(self.alloc);
         for one in &self.declarations.bodies {
-            if one.context.routine.is_none() {
+            if !one.is_of_routine {
                 continue;
             }
             let written = Written::in_statements(self.alloc, &one.body.statements)?;

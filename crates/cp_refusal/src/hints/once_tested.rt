@@ -1,8 +1,7 @@
 //! Where a process that waits does not look again whether it may go on, or waits whatever is true.
 
 use crate::declared::Declared;
-use crate::ends::end_of_expression;
-use crate::extent::between;
+use crate::extent::{Part, part_extent};
 use crate::hints::Gathering;
 use crate::hints::written::Written;
 use cp_tree::{Statement, StatementKind};
@@ -19,7 +18,11 @@ impl<'a, 'b> Gathering<'a, 'b> {
                 && self.declarations.is_standard(called.name.at, "delay")
                 && !self.is_counted()
             {
-                let queue = self.text_of(between(queue.at, end_of_expression(queue)))?;
+                let queue = self.text_of(part_extent(
+                    self.declarations.tokens,
+                    queue.at,
+                    Part::Expression,
+                ))?;
                 let queue = queue.as_str();
                 self.add(
                     one.statement.at,
