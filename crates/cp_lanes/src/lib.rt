@@ -19,5 +19,5 @@ mod title;
 mod wrapping;
 mod written;
 
-pub use pictures::{PictureSubject, PictureView, picture, picture_in};
+pub use pictures::{PictureView, Scene, picture};
 pub use sheet::{SheetExtent, row_count};

@@ -17,21 +17,7 @@ use cp_legend::Legend;
 use cp_story::{Story, StoryEvent};
 use std::alloc::{AllocError, Global};
 
-/// The schedule that is drawn.
-#[derive(Clone, Copy)]
-pub struct PictureSubject<'a> {
-    pub legend: &'a Legend,
-    pub story: &'a Story,
-    /// The schedule as a word.
-    pub schedule: &'a str,
-    /// The last line of the plain trace.
-    pub end: &'a str,
-    pub source: &'a [String],
-    /// The event with which a round begins that can be gone again and again.
-    pub again: Option<usize>,
-}
-
-/// What of it is drawn, and how.
+/// What of a schedule is drawn, and how.
 #[derive(Clone, Copy)]
 pub struct PictureView {
     pub extent: SheetExtent,
@@ -45,9 +31,12 @@ pub struct Scene<'a> {
     pub alloc: Global,
     pub legend: &'a Legend,
     pub story: &'a Story,
+    /// The schedule as a word.
     pub schedule: &'a str,
+    /// The last line of the plain trace.
     pub end: &'a str,
     pub source: &'a [String],
+    /// The event with which a round begins that can be gone again and again.
     pub again: Option<usize>,
     pub extent: SheetExtent,
     pub is_plain: bool,
@@ -64,32 +53,8 @@ pub struct Layout<'a> {
 /// How much larger a plain picture is.
 const LARGER: f64 = 1.4;
 
-/// The lanes of a whole story as SVG.
-pub fn picture(alloc: Global, subject: PictureSubject<'_>) -> Result<String, AllocError> {
-    let whole = PictureView {
-        extent: SheetExtent::All,
-        is_plain: false,
-    };
-    picture_in(alloc, subject, whole)
-}
-
 /// The lanes of a story, or of a part of it, as SVG.
-pub fn picture_in(
-    alloc: Global,
-    subject: PictureSubject<'_>,
-    view: PictureView,
-) -> Result<String, AllocError> {
-    let scene = Scene {
-        alloc,
-        legend: subject.legend,
-        story: subject.story,
-        schedule: subject.schedule,
-        end: subject.end,
-        source: subject.source,
-        again: subject.again,
-        extent: view.extent,
-        is_plain: view.is_plain,
-    };
+pub fn picture(scene: Scene<'_>) -> Result<String, AllocError> {
     let mut sheet = sheet_of(scene)?;
     sheet.label(scene)?;
     draw_sheet(scene, &mut sheet)

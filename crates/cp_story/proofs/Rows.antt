@@ -1,7 +1,8 @@
 -- Texts of the elements of a list, and rows of a table: the first of those that are left, and none.
-use Rattle.std.proofs.Common.{◌≡◌, ℕ, suc, ◌+◌, ◌<◌, ◌≤◌, List, [], ◌∷◌, ◌++◌, length, get_or, map, drop, refl, sym, add-one, append_assoc, arith}
+use Rattle.std.proofs.Common.{◌≡◌, ◌∙◌, ℕ, suc, ◌+◌, ◌<◌, ◌≤◌, List, [], ◌∷◌, ◌++◌, length, get_or, map, take, drop, refl, sym, ap, codes, add-one, append_assoc, arith, Option, Some, Result, OnOk}
 use Rattle.std.proofs.Math.Seq.{drop-cons}
-use Rattle.std.proofs.lemmas.List.{drop_all, append-nil, get_or_default, map-append}
+use Rattle.std.proofs.lemmas.Result.{on_ok_weaker}
+use Rattle.std.proofs.lemmas.List.{drop_all, append-nil, drop-map, get_or_default, map-append, take-map}
 use Rattle.std.specs.Prelude.{true, ◌&&◌, decimal, nat_lt, max, slice_get, slice_index_or}
 use Rattle.std.specs.String.{string_bytes}
 use Rattle.std.proofs.Math.Nat.{max-zero}
@@ -9,7 +10,7 @@ use Rattle.std.specs.declared.alloc.Global.{Global}
 use Rattle.std.specs.declared.string.String.{String}
 use Rattle.cp_legend.specs.Names.{at_each}
 use Rattle.cp_run.specs.Table.{each}
-use Rattle.cp_story.specs.Columns.{row_seen, width_of, width, gap, cell_text, left_before, cells_text}
+use Rattle.cp_story.specs.Columns.{row_seen, width_of, width, widths, gap, cell_text, left_before, cells_text, row_text, rows_text}
 use Rattle.cp_story.specs.Joined.{joined}
 use Rattle.cp_story.specs.Sentences.{alternatives_from, sign_before}
 use Rattle.cp_story.specs.Text.{are_digits}
@@ -98,6 +99,22 @@ module _ {A B : Type 0} (f : A → B) (xs : List A) (i : ℕ) (now : List B) whe
 
 pub row_more : (rows : List TableRow) (r : TableRow) → map row_seen (rows ++ r ∷ []) ≡ map row_seen rows ++ row_seen r ∷ []
 row_more rows r = map-append row_seen rows (r ∷ [])
+
+pub none_left : {A : Type 0} (xs : List A) (n : ℕ) → length xs ≤ n → drop n xs ≡ []
+none_left xs n none = drop_all n xs none
+
+-- the rows before a heading and those below it
+pub rows_again : {E : Type 0} (r : Result (Unit {0}) E) (rows front rest : List TableRow) (ws vs : List ℕ) (again : Option ℕ) (first : ℕ) (old one two new : List ℕ) → again ≡ Some first → ws ≡ widths (map row_seen rows) → vs ≡ widths (map row_seen rows) → front ≡ take first rows → rest ≡ drop first rows → one ≡ old ++ each (row_text ws) (map row_seen front) → two ≡ one ++ codes "again and again:\n" → OnOk r (new ≡ two ++ each (row_text vs) (map row_seen rest)) → OnOk r (new ≡ old ++ rows_text again (map row_seen rows))
+rows_again r rows front rest ws vs again first old one two new is wide still before from begun headed told =
+    let w = widths (map row_seen rows) in
+    let above = each (row_text w) (take first (map row_seen rows)) in
+    let heading = codes "again and again:\n" in
+    let below = each (row_text w) (drop first (map row_seen rows)) in
+    let first_rows : each (row_text ws) (map row_seen front) ≡ above = ap (λ (n : List ℕ). each (row_text n) (map row_seen front)) wide ∙ ap (λ (xs : List TableRow). each (row_text w) (map row_seen xs)) before ∙ ap (each (row_text w)) (sym (take-map row_seen first rows)) in
+    let last_rows : each (row_text vs) (map row_seen rest) ≡ below = ap (λ (n : List ℕ). each (row_text n) (map row_seen rest)) still ∙ ap (λ (xs : List TableRow). each (row_text w) (map row_seen xs)) from ∙ ap (each (row_text w)) (sym (drop-map row_seen first rows)) in
+    let top : two ≡ old ++ above ++ heading = headed ∙ ap (λ (t : List ℕ). t ++ heading) (begun ∙ ap (λ (t : List ℕ). old ++ t) first_rows) in
+    let joined : (old ++ above ++ heading) ++ below ≡ old ++ (above ++ heading ++ below) = simp append_assoc in
+    on_ok_weaker r (λ e. e ∙ ap (λ (t : List ℕ). two ++ t) last_rows ∙ ap (λ (t : List ℕ). t ++ below) top ∙ joined ∙ ap (λ (a : Option ℕ). old ++ rows_text a (map row_seen rows)) (sym is)) told
 
 -- ---- cells
 

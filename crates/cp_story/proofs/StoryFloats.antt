@@ -258,15 +258,18 @@ why_free : (l : Legend) (rs : List Reason) (b : Bool) → list_any is_float_memb
 why_free l rs true = refl
 why_free l rs false = both (no_float-array (reason_data l) rs (reason_free l)) refl
 
-pub story_free : (l : Legend) (s : Story) (word : List ℕ) (source : List (List ℕ)) → has_float (spec.story_data l s word source) ≡ false
-story_free l s word source =
+members_free : (l : Legend) (s : Story) (word : List ℕ) (source : List (List ℕ)) → list_any is_float_member (spec.story_members l s word source) ≡ false
+members_free l s word source =
     let outcome = spec.outcome_members l (answer_of s.end) word in
     let last = (codes "final", spec.waits_data l (map wait_of s.waits.items)) ∷ (codes "source", spec.lines_data source) ∷ spec.signals_members s.signals in
     let why = why_members l (map reason_seen s.reasons.items) in
-    no_float-object (spec.first_members l s ++ outcome ++ last ++ why)
-    (none_of (spec.first_members l s ++ outcome ++ last) why
+    none_of (spec.first_members l s ++ outcome ++ last) why
     (none_of (spec.first_members l s ++ outcome) last
     (none_of (spec.first_members l s) outcome (first_free l s) (outcome_free l (answer_of s.end) word))
     (both (no_float-array (spec.wait_data l) (map wait_of s.waits.items) (wait_free l))
     (both (no_float-array text_data source line_free) (signals_free s.signals))))
-    (why_free l (map reason_seen s.reasons.items) (length (map reason_seen s.reasons.items) == 0)))
+    (why_free l (map reason_seen s.reasons.items) (length (map reason_seen s.reasons.items) == 0))
+
+pub story_free : (l : Legend) (s : Story) (again : Option ℕ) (word : List ℕ) (source : List (List ℕ)) → has_float (spec.story_data l s again word source) ≡ false
+story_free l s again word source =
+    no_float-object (spec.again_members again ++ spec.story_members l s word source) (none_of (spec.again_members again) (spec.story_members l s word source) (no_float-optional (codes "again") number_data again (λ n. refl)) (members_free l s word source))

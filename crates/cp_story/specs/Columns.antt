@@ -1,5 +1,5 @@
 -- Rows of a table, in columns.
-use Rattle.std.specs.Prelude.{ℕ, ◌+◌, ◌-◌, ◌==◌, max, if◌then◌else◌, List, [], ◌∷◌, ◌++◌, map, length, replicate, Option, Some, None, slice_get, slice_index_or, codes}
+use Rattle.std.specs.Prelude.{ℕ, ◌+◌, ◌-◌, ◌==◌, max, if◌then◌else◌, List, [], ◌∷◌, ◌++◌, map, length, replicate, take, drop, Option, Some, None, slice_get, slice_index_or, codes}
 use Rattle.std.specs.String.{string_bytes}
 use Rattle.cp_legend.specs.Names.{at_each}
 use Rattle.cp_run.specs.Table.{each}
@@ -51,6 +51,7 @@ cells_text ws n before (c ∷ cs) = cell_text before c ++ cells_text ws (n + 1) 
 abbrev pub row_text : (widths : List ℕ) → Row → List ℕ
 row_text ws r = cells_text ws 0 [] r ++ codes "\n"
 
--- all rows, a line for each
-abbrev pub rows_text : List Row → List ℕ
-rows_text rows = each (row_text (widths rows)) rows
+-- all rows, a line for each; before the row with which a round begins stands a heading
+abbrev pub rows_text : (again : Option ℕ) → List Row → List ℕ
+rows_text None rows = each (row_text (widths rows)) rows
+rows_text (Some first) rows = each (row_text (widths rows)) (take first rows) ++ codes "again and again:\n" ++ each (row_text (widths rows)) (drop first rows)

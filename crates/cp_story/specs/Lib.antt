@@ -15,6 +15,7 @@ pub mod Objects
 pub mod Passed
 pub mod ReasonText
 pub mod Reasons
+pub mod Round
 pub mod Sentences
 pub mod Story
 pub mod StoryData

@@ -221,6 +221,10 @@ processes_data l = array_of (at_each (process_data l) (process_count l.component
 abbrev pub monitors_data : Legend → Data
 monitors_data l = array_of (at_each (monitor_data l) (monitor_count l.components))
 
+-- the event with which a round begins
+abbrev pub again_members : Option ℕ → List Member
+again_members again = optional (codes "again") number_data again
+
 -- the processes and the monitors at their numbers, the events, and the end
 abbrev pub first_members : Legend → Story → List Member
 first_members l s =
@@ -237,5 +241,8 @@ signals_members Continue = (codes "signals", text_data (codes "continue")) ∷ [
 signals_members Wait = (codes "signals", text_data (codes "wait")) ∷ []
 
 -- and what a run that ended used and displayed; the processes that wait; the lines of the source; the discipline; and why nobody goes on
-abbrev pub story_data : Legend → Story → (word : List ℕ) → (source : List (List ℕ)) → Data
-story_data l s word source = object_with (first_members l s ++ outcome_members l (answer_of s.end) word ++ (codes "final", waits_data l (map wait_of s.waits.items)) ∷ (codes "source", lines_data source) ∷ signals_members s.signals ++ why_members l (map reason_seen s.reasons.items))
+abbrev pub story_members : Legend → Story → (word : List ℕ) → (source : List (List ℕ)) → List Member
+story_members l s word source = first_members l s ++ outcome_members l (answer_of s.end) word ++ (codes "final", waits_data l (map wait_of s.waits.items)) ∷ (codes "source", lines_data source) ∷ signals_members s.signals ++ why_members l (map reason_seen s.reasons.items)
+
+abbrev pub story_data : Legend → Story → (again : Option ℕ) → (word : List ℕ) → (source : List (List ℕ)) → Data
+story_data l s again word source = object_with (again_members again ++ story_members l s word source)

@@ -100,6 +100,6 @@ abbrev pub unused_line : Option (List ℕ) → List ℕ
 unused_line None = []
 unused_line (Some words) = words ++ codes "\n"
 
--- The rows of all events; who waits; why a number can't be taken; that numbers are left; and the last line.
-abbrev pub story_text : Legend → Story → (end : List ℕ) → List ℕ
-story_text l s end = rows_text (story_rows l s) ++ waits_text l (map wait_of s.waits.items) ++ reasons_text l (map reason_seen s.reasons.items) ++ refused_line (refusal s.end (option_map decision_of s.last_choice)) ++ unused_line (unused_text s.left) ++ end
+-- The rows of all events, with a heading before the event with which a round begins; who waits; why a number can't be taken; that numbers are left; and the last line.
+abbrev pub story_text : Legend → Story → (again : Option ℕ) → (end : List ℕ) → List ℕ
+story_text l s again end = rows_text again (story_rows l s) ++ waits_text l (map wait_of s.waits.items) ++ reasons_text l (map reason_seen s.reasons.items) ++ refused_line (refusal s.end (option_map decision_of s.last_choice)) ++ unused_line (unused_text s.left) ++ end

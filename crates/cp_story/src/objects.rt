@@ -86,41 +86,68 @@ impl Object {
     }
 }
 
-/// The story as one JSON object: processes, monitors, events, the end, and the source.
+/// The story as one JSON object: the event with which a round begins, processes, monitors, events, the end, and the source.
 pub fn json(
     alloc: Global,
     legend: &Legend,
     story: &Story,
+    again: Option<usize>,
     word: &[u8],
     source: &[String],
 ) -> Result<String, AllocError>
-    ensures { IfOk result (λ t. string_bytes t ≡ line_of (spec.story_data (legend_seen legend.now) story.now word.now (map string_bytes source.now))) }
+    ensures { IfOk result (λ t. string_bytes t ≡ line_of (spec.story_data (legend_seen legend.now) story.now again word.now (map string_bytes source.now))) }
 {
-    let whole = story_object(alloc, legend, story, word, source)?;
+    let whole = story_object(alloc, legend, story, again, word, source)?;
     whole.into_line()
 }
 
-#[tactic(auto, using(crate::proofs::Floats::with_both))]
 fn story_object(
     alloc: Global,
     legend: &Legend,
     story: &Story,
+    again: Option<usize>,
     word: &[u8],
     source: &[String],
 ) -> Result<Object, AllocError>
-    ensures { IfOk result (λ o. object (members_in o) ≡ spec.story_data (legend_seen legend.now) story.now word.now (map string_bytes source.now)) }
+    ensures { IfOk result (λ o. object (members_in o) ≡ spec.story_data (legend_seen legend.now) story.now again word.now (map string_bytes source.now)) }
 {
     let mut whole = Object::new(alloc);
+    put_again(&mut whole, again)?;
+    put_story(alloc, legend, &mut whole, story, word, source)?;
+    Ok(whole)
+}
+
+// What a story has of its own.
+#[tactic(auto, using(crate::proofs::Floats::with_both))]
+fn put_story(
+    alloc: Global,
+    legend: &Legend,
+    whole: &mut Object,
+    story: &Story,
+    word: &[u8],
+    source: &[String],
+) -> Result<(), AllocError>
+    ensures { OnOk result (members_in whole.new ≡ with_members (members_in whole.old) (spec.story_members (legend_seen legend.now) story.now word.now (map string_bytes source.now))) }
+{
     whole.put("processes", processes(alloc, legend)?)?;
     whole.put("monitors", monitors(alloc, legend)?)?;
     whole.put("events", events(alloc, legend, &story.events)?)?;
     whole.put("end", end(alloc, legend, story)?)?;
-    put_outcome(alloc, legend, &mut whole, story, word)?;
+    put_outcome(alloc, legend, whole, story, word)?;
     whole.put("final", waits(alloc, legend, &story.waits)?)?;
     whole.put("source", lines(alloc, source)?)?;
-    put_signals(&mut whole, story.signals)?;
-    put_reasons(alloc, legend, &mut whole, &story.reasons)?;
-    Ok(whole)
+    put_signals(whole, story.signals)?;
+    put_reasons(alloc, legend, whole, &story.reasons)
+}
+
+// The event with which a round begins, if there is one.
+fn put_again(object: &mut Object, again: Option<usize>) -> Result<(), AllocError>
+    ensures { OnOk result (members_in object.new ≡ with_members (members_in object.old) (spec.again_members again)) }
+{
+    match again {
+        Some(first) => object.number("again", first as u64),
+        None => Ok(()),
+    }
 }
 
 /// Adds the discipline, where it is another one than `return`.

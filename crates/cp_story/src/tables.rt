@@ -1,6 +1,6 @@
 //! Columns of text.
 
-ghost use Rattle.std.specs.Prelude.{◌≡◌, ◌++◌, [], map, IfOk, OnOk, slice_get};
+ghost use Rattle.std.specs.Prelude.{◌≡◌, ◌++◌, [], map, take, drop, IfOk, OnOk, slice_get};
 ghost use Rattle.std.specs.String.{string_bytes};
 ghost use Rattle.cp_run.specs.Table.{each};
 ghost use Rattle.cp_story.specs.Columns as spec;
@@ -26,14 +26,55 @@ impl TableRow {
     }
 }
 
-/// Appends the rows, each column as wide as its widest cell, two spaces apart. No line ends with a space.
-#[tactic(auto, using(crate::proofs::Rows::each_step, crate::proofs::Rows::each_none))]
-pub fn push_rows(alloc: Global, text: &mut String, rows: &[TableRow]) -> Result<(), AllocError>
-    ensures { OnOk result (string_bytes text.new ≡ string_bytes text.old ++ spec.rows_text (map row_seen rows.now)) }
+/// Appends the rows, each column as wide as its widest cell, two spaces apart. No line ends with a space. The row with which a round begins
+/// stands below a heading.
+pub fn push_rows(
+    alloc: Global,
+    text: &mut String,
+    rows: &[TableRow],
+    again: Option<usize>,
+) -> Result<(), AllocError>
+    ensures { OnOk result (string_bytes text.new ≡ string_bytes text.old ++ spec.rows_text again (map row_seen rows.now)) }
 {
     let widths = widths(alloc, rows)?;
+    match again {
+        Some(first) => {
+            push_lines(alloc, text, &widths, rows_before(rows, first))?;
+            text.push_str("again and again:\n")?;
+            push_lines(alloc, text, &widths, rows_from(rows, first))
+        }
+        None => push_lines(alloc, text, &widths, rows),
+    }
+}
+
+fn rows_before(rows: &[TableRow], first: usize) -> &[TableRow]
+    ensures { result.now ≡ take first rows.now }
+{
+    rows.get(..first).unwrap_or(rows)
+}
+
+#[tactic(auto, using(crate::proofs::Rows::none_left))]
+fn rows_from(rows: &[TableRow], first: usize) -> &[TableRow]
+    ensures { result.now ≡ drop first rows.now }
+{
+    match rows.get(first..) {
+        Some(rest) => rest,
+        None => &[],
+    }
+}
+
+// Appends rows whose columns are so wide.
+#[tactic(auto, using(crate::proofs::Rows::each_step, crate::proofs::Rows::each_none))]
+fn push_lines(
+    alloc: Global,
+    text: &mut String,
+    widths: &[usize],
+    rows: &[TableRow],
+) -> Result<(), AllocError>
+    ensures { OnOk result (string_bytes text.new ≡ string_bytes text.old ++ each (spec.row_text widths.now) (map row_seen rows.now)) }
+{
     for row in rows {
-        push_cells(alloc, text, &widths, &row.cells)?;
+        push_cells(alloc, text, widths, &row.cells)?;
         text.push_str("\n")?;
     }
     Ok(())

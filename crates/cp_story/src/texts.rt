@@ -27,13 +27,19 @@ use cp_legend::Legend;
 use cp_run::RunEnd;
 use std::alloc::{AllocError, Global};
 
-/// The lines of a story: one for each event, one for each process that waits, one that says why a number can't be taken or that numbers are left, and
-/// `end`, the last line of the plain trace.
-pub fn text(alloc: Global, legend: &Legend, story: &Story, end: &str) -> Result<String, AllocError>
-    ensures { IfOk result (λ t. string_bytes t ≡ spec.story_text (legend_seen legend.now) story.now end.now) }
+/// The lines of a story: one for each event, a heading before the one with which a round begins, one for each process that waits, one that says why a
+/// number can't be taken or that numbers are left, and `end`, the last line of the plain trace.
+pub fn text(
+    alloc: Global,
+    legend: &Legend,
+    story: &Story,
+    again: Option<usize>,
+    end: &str,
+) -> Result<String, AllocError>
+    ensures { IfOk result (λ t. string_bytes t ≡ spec.story_text (legend_seen legend.now) story.now again end.now) }
 {
     let mut text = String::new(alloc);
-    push_table(alloc, legend, &mut text, story)?;
+    push_table(alloc, legend, &mut text, story, again)?;
     push_waits(alloc, legend, &mut text, &story.waits)?;
     push_reasons(alloc, legend, &mut text, &story.reasons)?;
     push_refused(alloc, &mut text, &story.end, &story.last_choice)?;
@@ -48,8 +54,9 @@ fn push_table(
     legend: &Legend,
     text: &mut String,
     story: &Story,
+    again: Option<usize>,
 ) -> Result<(), AllocError>
-    ensures { OnOk result (string_bytes text.new ≡ string_bytes text.old ++ rows_text (spec.story_rows (legend_seen legend.now) story.now)) }
+    ensures { OnOk result (string_bytes text.new ≡ string_bytes text.old ++ rows_text again (spec.story_rows (legend_seen legend.now) story.now)) }
 {
     let mut rows = event_rows(alloc, legend, &story.events)?;
     if let Some(stop) = &story.stop {
@@ -62,7 +69,7 @@ fn push_table(
             &story.violation,
         )?)?;
     }
-    push_rows(alloc, text, &rows)
+    push_rows(alloc, text, &rows, again)
 }
 
 #[tactic(auto, using(crate::proofs::Rows::map_step, crate::proofs::Rows::map_none, crate::proofs::Rows::row_more))]

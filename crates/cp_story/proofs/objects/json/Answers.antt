@@ -10,5 +10,5 @@ use Rattle.cp_story.proofs.objects.json.Goals as goal
 pub returns : goal.returns
 returns c =
     let is = c.in_ok-whole.ensures in
-    let free = ap has_float is ∙ story_free (legend_seen c.args.legend.now) c.args.story.now c.args.word.now (map string_bytes c.args.source.now) in
+    let free = ap has_float is ∙ story_free (legend_seen c.args.legend.now) c.args.story.now c.args.again c.args.word.now (map string_bytes c.args.source.now) in
     ok_as c.into_line.result _ _ c.into_line.ensures (λ t said. said free ∙ ap line_of is)
