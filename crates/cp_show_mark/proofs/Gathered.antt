@@ -1,14 +1,24 @@
 -- Values of JSON that are gathered from the pairs of two lists, and members of an object that are put part by part.
-use Rattle.std.proofs.Common.{◌≡◌, ◌∙◌, ◌+◌, ◌<◌, ◌≤◌, ◌++◌, ◌∷◌, [], ℕ, List, Bor, length, map, take, get_or, sym, ap, rules}
+use Rattle.std.proofs.Common.{◌≡◌, ◌∙◌, ◌+◌, ◌<◌, ◌≤◌, ◌++◌, ◌∷◌, ◌==◌, [], ℕ, true, false, List, Bor, codes, length, map, take, get_or, refl, subst, sym, ap, rules}
 use Rattle.std.specs.List.{zip}
-use Rattle.std.proofs.lemmas.List.{length_push, map-append, take_all, take_more}
+use Rattle.std.proofs.lemmas.Bool.{eqb-true}
+use Rattle.std.proofs.lemmas.List.{length_push, map-append, nil_from_length, take_all, take_more}
 use Rattle.std.specs.declared.alloc.Global.{Global}
 use Rattle.std.specs.declared.vec.Vec.{Vec}
 use Rattle.serde_json.specs.Data.{Data, Members, no_members}
 use Rattle.serde_json.specs.View.{view}
 use Rattle.serde_json.specs.declared.value.Value as json
+use Rattle.cp_legend.specs.Names.{Legend}
+use Rattle.cp_machine.specs.declared.discipline.Signals.{Signals}
 use Rattle.cp_story.proofs.Floats.{with_both}
-use Rattle.cp_story.specs.Objects.{Member, array_of, with_member, with_members}
+use Rattle.cp_story.specs.Objects.{Member, array_of, with_members}
+use Rattle.cp_story.specs.StoryData.{waits_data}
+use Rattle.cp_story.specs.Views.{wait_of}
+use Rattle.cp_story.specs.Waiting.{Waiting}
+use Rattle.cp_story.specs.declared.story.Wait.{Wait}
+use Rattle.cp_verdict.specs.declared.marking.Standing.{Standing}
+use Rattle.cp_verdict.specs.declared.program.Stops.{Stops}
+use Rattle.cp_show_mark.specs.MarkData.{expectation_members, final_members, mark_members}
 use Rattle.cp_show_mark.proofs.Pairs.{IsNext, pair_at, within}
 
 -- one value more
@@ -29,23 +39,22 @@ seen_array items = search (rules, json.the_lemmas)
 
 -- ---- parts
 
--- two members, and then those of two parts
-pub judged_parts : (none one two three four : Members) (k l : List ℕ) (a b a' b' : Data) (shown said said' : List Member) → none ≡ no_members → one ≡ with_member none k a → a ≡ a' → two ≡ with_member one l b → b ≡ b' → three ≡ with_members two shown → four ≡ with_members three said → said ≡ said' → four ≡ with_members no_members ((k, a') ∷ (l, b') ∷ shown ++ said')
-judged_parts none one two three four k l a b a' b' shown said said' o p is_a q is_b r s is_said =
-    let first : one ≡ with_member no_members k a' = p ∙ ap (λ ms. with_member ms k a) o ∙ ap (λ x. with_member no_members k x) is_a in
-    let second : two ≡ with_member (with_member no_members k a') l b' = q ∙ ap (λ ms. with_member ms l b) first ∙ ap (λ x. with_member (with_member no_members k a') l x) is_b in
-    let front = with_member (with_member no_members k a') l b' in
-    s ∙ ap (λ ms. with_members ms said) (r ∙ ap (λ ms. with_members ms shown) second) ∙ ap (λ ms. with_members (with_members front shown) ms) is_said ∙ sym (with_both front shown said')
+-- the members of an expectation behind others
+pub expectation_put : (none one two : Members) (a : List Member) (e e' : List ℕ) (v v' : Standing) (t t' : List ℕ) → none ≡ no_members → one ≡ with_members none a → two ≡ with_members one (expectation_members e v t) → e ≡ e' → v ≡ v' → t ≡ t' → two ≡ with_members no_members (a ++ expectation_members e' v' t')
+expectation_put none one two a e e' v v' t t' o p q is_e is_v is_t =
+    let front = with_members no_members a in
+    q ∙ ap (λ ms. with_members ms (expectation_members e v t)) (p ∙ ap (λ ms. with_members ms a) o) ∙ ap (λ x. with_members front (expectation_members x v t)) is_e ∙ ap (λ x. with_members front (expectation_members e' x t)) is_v ∙ ap (λ x. with_members front (expectation_members e' v' x)) is_t
+    ∙ sym (with_both no_members a (expectation_members e' v' t'))
 
--- three parts
-pub mark_parts : (none one two three : Members) (judged limits note : List Member) → none ≡ no_members → one ≡ with_members none judged → two ≡ with_members one limits → three ≡ with_members two note → three ≡ with_members no_members (judged ++ limits ++ note)
-mark_parts none one two three judged limits note o p q r =
-    r ∙ ap (λ ms. with_members ms note) (q ∙ ap (λ ms. with_members ms limits) (p ∙ ap (λ ms. with_members ms judged) o) ∙ sym (with_both no_members judged limits)) ∙ sym (with_both no_members (judged ++ limits) note)
+-- those of a mark
+pub mark_put : (none one : Members) (m m' : List ℕ) (items items' : Data) (stops : Stops) (notes notes' : Data) (by : Signals) → none ≡ no_members → one ≡ with_members none (mark_members m items stops notes by) → m ≡ m' → items ≡ items' → notes ≡ notes' → one ≡ with_members no_members (mark_members m' items' stops notes' by)
+mark_put none one m m' items items' stops notes notes' by o p is_m is_items is_notes =
+    p ∙ ap (λ ms. with_members ms (mark_members m items stops notes by)) o ∙ ap (λ x. with_members no_members (mark_members x items stops notes by)) is_m ∙ ap (λ x. with_members no_members (mark_members m' x stops notes by)) is_items ∙ ap (λ x. with_members no_members (mark_members m' items' stops x by)) is_notes
 
--- three members, and then those of a part
-pub ends_parts : (none one two three four : Members) (k l n : List ℕ) (a b d a' b' d' : Data) (more : List Member) → none ≡ no_members → one ≡ with_member none k a → a ≡ a' → two ≡ with_member one l b → b ≡ b' → three ≡ with_member two n d → d ≡ d' → four ≡ with_members three more → four ≡ with_members no_members ((k, a') ∷ (l, b') ∷ (n, d') ∷ more)
-ends_parts none one two three four k l n a b d a' b' d' more o p is_a q is_b r is_d s =
-    let first : one ≡ with_member no_members k a' = p ∙ ap (λ ms. with_member ms k a) o ∙ ap (λ x. with_member no_members k x) is_a in
-    let second : two ≡ with_member (with_member no_members k a') l b' = q ∙ ap (λ ms. with_member ms l b) first ∙ ap (λ x. with_member (with_member no_members k a') l x) is_b in
-    let third : three ≡ with_member (with_member (with_member no_members k a') l b') n d' = r ∙ ap (λ ms. with_member ms n d) second ∙ ap (λ x. with_member (with_member (with_member no_members k a') l b') n x) is_d in
-    s ∙ ap (λ ms. with_members ms more) third
+-- who waits where, if somebody does
+pub final_some : (l : Legend) (all : List Wait) (ws : List Waiting) → map wait_of all ≡ ws → (length all == 0) ≡ false → final_members l ws ≡ (codes "final", waits_data l ws) ∷ []
+final_some l [] ws is some = absurd (cc)
+final_some l (w ∷ all) ws is some = subst (λ vs. final_members l vs ≡ (codes "final", waits_data l vs) ∷ []) is refl
+
+pub final_none : (l : Legend) (all : List Wait) (ws : List Waiting) → map wait_of all ≡ ws → (length all == 0) ≡ true → final_members l ws ≡ []
+final_none l all ws is none = subst (λ vs. final_members l vs ≡ []) (sym (ap (map wait_of) (nil_from_length all (eqb-true (length all) 0 none))) ∙ is) refl

@@ -14,7 +14,7 @@ use Rattle.cp_resolved.proofs.Resolving.{read_names}
 use Rattle.cp_resolved.specs.Enumerations.{constant_names}
 use Rattle.cp_resolved.specs.Resolving.{IsProgramOf}
 use Rattle.cp_machine_laws.specs.Named.{named_discipline}
-use Rattle.cp_tool.specs.Analysis.{is_at_once, is_endless}
+use Rattle.cp_tool.specs.Analysis.{is_endless}
 use Rattle.cp_tool.specs.declared.options.Options.{Options}
 use Rattle.cp_walk.specs.Text.{Spellings}
 use Rattle.cp_expectation.specs.Plain as plain
@@ -26,7 +26,7 @@ use Rattle.cp_verdict.specs.endless.Behaviour.{on_names}
 use Rattle.cp_verdict.specs.endless.Marked.{IsTrueMark, with_tables}
 use Rattle.cp_verdict.specs.endless.Naming.{Names, Processes}
 use Rattle.cp_verdict.specs.declared.endless.verdict.EndsMark.{EndsMark}
-use Rattle.cp_show_mark.specs.Given.{IsTrueBy, IsTrueInTurn, MeansEnds, Spells, TellsAsked, TellsBy, TellsEnds, TellsEndsBy, TellsIf, TellsSpelled, and_own, are_asked, can_be_judged, names_with}
+use Rattle.cp_show_mark.specs.Given.{IsTrueBy, IsTrueInTurn, MeansEnds, Spells, TellsAsked, TellsBy, TellsEnds, TellsEndsBy, TellsIf, TellsSpelled, and_own, are_asked, are_at_once, names_with}
 use Rattle.cp_show_mark.specs.Showing.{ends_verdict_of}
 use Rattle.cp_show_mark.specs.declared.answer.ShowVerdict.{ShowVerdict}
 use Rattle.cp_show_mark.specs.declared.answer.ShowVerdict.TheVariants.{Misread}
@@ -51,12 +51,8 @@ module _ (t : Tree) (r : Tables) (ps : Processes) (read : ∥ IsRead t.program �
         let true_by : Spellings → Type 0 = λ values. IsTrueInTurn t (record { values = values; processes = ps }) o.discipline o.steps es m in
         (m, e, ∥∥₁_map read (λ it. subst true_by names (λ no. in_turn m it (h.0 no), λ named. (h.1 named).1 t it ok is.laid)))
 
-    meant_if : (can at_once : Bool) → TellsIf can (TellsEndsBy at_once r ps o es verdict) verdict → TellsIf can ((m : EndsMark) × (verdict ≡ ends_verdict_of m) × ∥ IsTrueBy at_once t ps o es m ∥₁) verdict
-    meant_if true at_once h = meant_by at_once h
-    meant_if false at_once h = h
-
     pub ends_meant : TellsEnds r ps o es verdict → MeansEnds t ps o es verdict
-    ends_meant h = meant_if (can_be_judged (is_at_once o.analysis) o.discipline es) (is_at_once o.analysis) h
+    ends_meant h = meant_by (are_at_once o es) h
 
 -- ---- what can be asked
 

@@ -1,5 +1,5 @@
 -- What is told of a program within the limits that the options give.
-use Rattle.std.proofs.Common.{◌≡◌, ◌∙◌, ℕ, Bool, true, false, List, Option, Some, ap, inl, inr, refl, subst, sym}
+use Rattle.std.proofs.Common.{◌≡◌, ◌∙◌, ◌&&◌, ℕ, Bool, true, false, List, Option, Some, ap, inl, inr, refl, subst, sym}
 use Rattle.cp_slots.specs.Tables.{Tables}
 use Rattle.cp_machine.specs.declared.discipline.Discipline.{Discipline}
 use Rattle.cp_tree.specs.Read.{IsRead}
@@ -16,20 +16,17 @@ use Rattle.cp_run.specs.declared.limits.Limits.{Limits}
 use Rattle.cp_tool.specs.Analysis.{is_at_once}
 use Rattle.cp_tool.specs.declared.options.Options.{Options}
 use Rattle.cp_expectation.specs.declared.expectation.Expectation.{Expectation}
-use Rattle.cp_verdict.specs.endless.AtOnce.{IsMarkAtOnce, can_be_at_once}
-use Rattle.cp_verdict.specs.endless.Marked.{can_be_asked}
+use Rattle.cp_verdict.specs.endless.AtOnce.{IsEndsMark, IsMarkAtOnce, can_be_at_once}
 use Rattle.cp_verdict.specs.endless.Naming.{Processes, processes_of}
 use Rattle.cp_verdict.specs.declared.endless.verdict.EndsMark as ends_mark
-use Rattle.cp_verdict.specs.declared.endless.verdict.EndsMark.TheVariants as of_ends
 use Rattle.cp_verdict.specs.waiting.Who.{who_at}
 use Rattle.cp_outcomes.specs.Findings.{IsKnownOf}
 use Rattle.cp_outcomes.specs.declared.known.Known.{Known}
 use Rattle.cp_verdict.specs.declared.program.Marked.{Marked}
 use Rattle.cp_walk.specs.Text.{Spellings}
 use Rattle.cp_show_mark.specs.MarkText.{setting_of}
-use Rattle.cp_show_mark.specs.Given.{TellsEnds, TellsEndsBy, TellsIf, can_be_judged}
-use Rattle.cp_show_mark.specs.Showing.{IsEndsMark, IsMarkBy, IsNamedMark, IsSlotMark, ShowVerdict, TellsEndsMark, TellsMarkAtOnce, ends_verdict_of, verdict_of}
-use Rattle.cp_show_mark.specs.declared.answer.ShowVerdict.TheVariants.{Misread}
+use Rattle.cp_show_mark.specs.Given.{TellsEnds, TellsEndsBy}
+use Rattle.cp_show_mark.specs.Showing.{IsMarkBy, IsNamedMark, IsSlotMark, ShowVerdict, TellsEndsMark, TellsMarkAtOnce, ends_verdict_of, verdict_of}
 use Rattle.cp_show_mark.specs.Told.{IsExcessTold, IsMarkTold, TellsKnown, excess_saying, saying}
 use Rattle.cp_show_mark.specs.declared.examinee.Examinee.{Examinee}
 use Rattle.cp_show_mark.specs.declared.excess.MarkExcess.{MarkExcess}
@@ -77,20 +74,23 @@ known_told x l es doubtful e k said same known (inr t) =
 
 -- ---- by schedules of any length
 
-tells_if : (can : Bool) (told : Type 0) (verdict : ShowVerdict) → (can ≡ true → told) → (can ≡ false → verdict ≡ Misread) → TellsIf can told verdict
-tells_if true told verdict asked refused = asked refl
-tells_if false told verdict asked refused = refused refl
+module _ (o : Options) (l : Limits) (r : Tables) (ps : Processes) (es : List Expectation) (m : ends_mark.EndsMark) (verdict : ShowVerdict) {choices : ℕ} (same : (l.choices ≡ choices) × (l.steps ≡ o.steps) × (l.discipline ≡ o.discipline)) (is : verdict ≡ ends_verdict_of m) where
+  by_states : IsEndsMark r ps l.discipline l.steps o.states es m → TellsEndsMark r ps o.discipline o.steps o.states es verdict
+  by_states h = (m, is, subst (λ (g : Discipline). IsEndsMark r ps g o.steps o.states es m) same.2 (subst (λ (n : ℕ). IsEndsMark r ps l.discipline n o.states es m) same.1 h))
 
-module _ (o : Options) (l : Limits) (r : Tables) (ps : Processes) (es : List Expectation) (m : ends_mark.EndsMark) (verdict : ShowVerdict) {choices : ℕ} (same : (l.choices ≡ choices) × (l.steps ≡ o.steps) × (l.discipline ≡ o.discipline)) where
-  -- with calls at once
-  pub judged_at_once : is_at_once o.analysis ≡ true → verdict ≡ ends_verdict_of m → (can_be_at_once l.discipline es ≡ true → IsMarkAtOnce r ps l.steps es m) → (can_be_at_once l.discipline es ≡ false → m ≡ of_ends.Misread) → TellsEnds r ps o es verdict
-  judged_at_once asked is mark refused =
-      let told : can_be_at_once o.discipline es ≡ true → TellsMarkAtOnce r ps o.steps es verdict = λ can. (m, is, subst (λ (n : ℕ). IsMarkAtOnce r ps n es m) same.1 (mark (subst (λ (g : Discipline). can_be_at_once g es ≡ true) (sym same.2) can))) in
-      subst (λ (b : Bool). TellsIf (can_be_judged b o.discipline es) (TellsEndsBy b r ps o es verdict) verdict) (sym asked) (tells_if (can_be_at_once o.discipline es) (TellsMarkAtOnce r ps o.steps es verdict) verdict told (λ can. is ∙ ap ends_verdict_of (refused (subst (λ (g : Discipline). can_be_at_once g es ≡ false) (sym same.2) can))))
+  by_calls : IsMarkAtOnce r ps l.steps es m → TellsMarkAtOnce r ps o.steps es verdict
+  by_calls h = (m, is, subst (λ (n : ℕ). IsMarkAtOnce r ps n es m) same.1 h)
+
+  tells_by : (at_once : Bool) → (at_once ≡ true → TellsMarkAtOnce r ps o.steps es verdict) → (at_once ≡ false → TellsEndsMark r ps o.discipline o.steps o.states es verdict) → TellsEndsBy at_once r ps o es verdict
+  tells_by true calls states = calls refl
+  tells_by false calls states = states refl
+
+  -- with calls at once, where these settle it
+  pub judged_at_once : is_at_once o.analysis ≡ true → (can_be_at_once l.discipline es ≡ true → IsMarkAtOnce r ps l.steps es m) → (can_be_at_once l.discipline es ≡ false → IsEndsMark r ps l.discipline l.steps o.states es m) → TellsEnds r ps o es verdict
+  judged_at_once asked calls states =
+      let here : (b : Bool) → can_be_at_once o.discipline es ≡ b → can_be_at_once l.discipline es ≡ b = λ b can. subst (λ (g : Discipline). can_be_at_once g es ≡ b) (sym same.2) can in
+      subst (λ (b : Bool). TellsEndsBy (b && can_be_at_once o.discipline es) r ps o es verdict) (sym asked) (tells_by (can_be_at_once o.discipline es) (λ can. by_calls (calls (here true can))) (λ cannot. by_states (states (here false cannot))))
 
   -- by all states
-  pub judged_in_turn : is_at_once o.analysis ≡ false → verdict ≡ ends_verdict_of m → (can_be_asked l.discipline es ≡ true → IsEndsMark r ps l.discipline l.steps o.states es m) → (can_be_asked l.discipline es ≡ false → m ≡ of_ends.Misread) → TellsEnds r ps o es verdict
-  judged_in_turn asked is mark refused =
-      let within : IsEndsMark r ps l.discipline l.steps o.states es m → IsEndsMark r ps o.discipline o.steps o.states es m = λ h. subst (λ (g : Discipline). IsEndsMark r ps g o.steps o.states es m) same.2 (subst (λ (n : ℕ). IsEndsMark r ps l.discipline n o.states es m) same.1 h) in
-      let told : can_be_asked o.discipline es ≡ true → TellsEndsMark r ps o.discipline o.steps o.states es verdict = λ can. (m, is, within (mark (subst (λ (g : Discipline). can_be_asked g es ≡ true) (sym same.2) can))) in
-      subst (λ (b : Bool). TellsIf (can_be_judged b o.discipline es) (TellsEndsBy b r ps o es verdict) verdict) (sym asked) (tells_if (can_be_asked o.discipline es) (TellsEndsMark r ps o.discipline o.steps o.states es verdict) verdict told (λ can. is ∙ ap ends_verdict_of (refused (subst (λ (g : Discipline). can_be_asked g es ≡ false) (sym same.2) can))))
+  pub judged_in_turn : is_at_once o.analysis ≡ false → IsEndsMark r ps l.discipline l.steps o.states es m → TellsEnds r ps o es verdict
+  judged_in_turn asked h = subst (λ (b : Bool). TellsEndsBy (b && can_be_at_once o.discipline es) r ps o es verdict) (sym asked) (by_states h)

@@ -1,10 +1,10 @@
 -- The text that tells a mark by schedules of any length.
-use Rattle.std.specs.Prelude.{ℕ, nat_le, not, Bool, true, false, if◌then◌else◌, List, [], ◌++◌, length, Option, Some, None, string_bytes, codes}
+use Rattle.std.specs.Prelude.{ℕ, not, Bool, true, false, if◌then◌else◌, List, [], ◌++◌, Option, Some, string_bytes, codes}
 use Rattle.cp_ends.specs.declared.end.End.{End}
 use Rattle.cp_ends.specs.declared.end.End.TheVariants.{Over}
 use Rattle.cp_run.specs.Table.{each}
-use Rattle.cp_run.specs.declared.outcome.OutcomeKind.{OutcomeKind}
-use Rattle.cp_verdict.specs.declared.endless.known.KnownEnd.{KnownEnd}
+use Rattle.cp_verdict.specs.declared.endless.saying.Against.{Against}
+use Rattle.cp_verdict.specs.declared.endless.saying.Against.TheVariants as against
 use Rattle.cp_verdict.specs.declared.endless.saying.MarkedEnds.{MarkedEnds}
 use Rattle.cp_verdict.specs.declared.endless.saying.Said.{Said}
 use Rattle.cp_verdict.specs.declared.endless.verdict.EndsMark.{EndsMark}
@@ -13,27 +13,20 @@ use Rattle.cp_verdict.specs.declared.marking.Standing.{Standing}
 use Rattle.cp_verdict.specs.declared.marking.Standing.TheVariants as mark
 use Rattle.cp_show_mark.specs.MarkText.{Setting, end_text, mark_name}
 
--- ---- the end that is against an expectation
-
--- a schedule that is over, and how it ends, if it has no more choices than can be told
-abbrev pub told_if : (choices : ℕ) → End → List ℕ → Option (List ℕ × OutcomeKind)
-told_if choices (Over kind) word = if nat_le (length word) choices then Some (word, kind) else None
-told_if choices end word = None
-
-abbrev pub told_end : (choices : ℕ) → Option KnownEnd → Option (List ℕ × OutcomeKind)
-told_end choices None = None
-told_end choices (Some k) = told_if choices k.end k.word.items
-
--- who waits where at that end, or the line of its error
-abbrev pub told_end_text : Setting → Option (List ℕ × OutcomeKind) → List ℕ
-told_end_text s None = []
-told_end_text s (Some e) = end_text s e.0 e.1
-
 -- ---- an expectation
+
+-- at the end of a schedule that is over: who waits where, or the line of its error
+abbrev pub how_text : Setting → (word : List ℕ) → End → List ℕ
+how_text s word (Over kind) = end_text s word kind
+how_text s word end = []
+
+abbrev pub against_text : Setting → Option Against → List ℕ
+against_text s (Some (against.End k)) = how_text s k.word.items k.end
+against_text s a = []
 
 -- why it does not hold, or is not settled, and who waits where at the end that is against it
 abbrev pub said_reason : Setting → Said → List ℕ
-said_reason s x = string_bytes x.reason ++ codes "\n" ++ told_end_text s (told_end s.choices x.against)
+said_reason s x = string_bytes x.reason ++ against_text s x.against
 
 -- the verdict, the expectation as it is written, and why
 abbrev pub said_text : Setting → Said → List ℕ

@@ -27,10 +27,10 @@ use Rattle.cp_expectation.specs.declared.objection.Question.TheVariants.{Rows, E
 use Rattle.cp_verdict.specs.Comments.{AreHeld, and_text, comments_of}
 use Rattle.cp_verdict.specs.endless.AtOnce.{at_any_limit, can_be_at_once}
 use Rattle.cp_verdict.specs.endless.Behaviour.{on_names}
-use Rattle.cp_verdict.specs.endless.Marked.{IsTrueMark, can_be_asked, with_tables}
+use Rattle.cp_verdict.specs.endless.Marked.{IsTrueMark, asks_waits, with_tables}
 use Rattle.cp_verdict.specs.endless.Naming.{Names, Processes, knows_processes}
 use Rattle.cp_verdict.specs.declared.endless.verdict.EndsMark.{EndsMark}
-use Rattle.cp_verdict.specs.waiting.Asking.{name_who}
+use Rattle.cp_verdict.specs.waiting.Asking.{name_who, names_who}
 use Rattle.cp_verdict.specs.waiting.EndsMarked as who_in_ends
 use Rattle.cp_verdict.specs.waiting.Who.{who_on_names}
 use Rattle.cp_show_mark.specs.MarkText.{Setting, is_declared}
@@ -78,9 +78,13 @@ ends_question true gates = EndsAtOnce
 ends_question false Any = EndsAnyGates
 ends_question false First = Ends
 
--- by which schedules expectations are judged
-abbrev pub question_of : Options → Question
-question_of o = if is_endless o.analysis then ends_question (is_at_once o.analysis) o.discipline.gates else Rows
+-- it names who waits at an end, and does not ask who waits for ever: that is found by all states, whatever is asked
+abbrev pub is_by_states : Expectation → Bool
+is_by_states e = names_who e && not (asks_waits e)
+
+-- by which schedules an expectation is judged
+abbrev pub question_of : Options → Expectation → Question
+question_of o e = if is_endless o.analysis then ends_question (is_at_once o.analysis && not (is_by_states e)) o.discipline.gates else Rows
 
 -- a value that some display of the program can print: no name, or that of a truth value or of a constant
 abbrev pub can_be_shown : Spellings → List ℕ → Bool
@@ -100,7 +104,7 @@ abbrev pub is_asked : Question → Names → Expectation → Bool
 is_asked question names e = is_none (objection_to question e) && list_all (λ t. knows_processes names.processes t && knows_values names.values t) e.topics.items
 
 abbrev pub are_asked : Options → Names → List Expectation → Bool
-are_asked o names es = list_all (is_asked (question_of o) names) es
+are_asked o names es = list_all (λ e. is_asked (question_of o e) names e) es
 
 -- what can't be asked is told to be misread
 abbrev pub TellsIf : (can : Bool) → (told : Type 0) → ShowVerdict → Type 0
@@ -123,17 +127,16 @@ TellsWords o names ws within any verdict = TellsSpelled (Spells ws) plain.expect
 
 -- ---- schedules of any length
 
--- beside what is asked, kernel calls at once want the discipline of the book
-abbrev pub can_be_judged : (at_once : Bool) → Discipline → List Expectation → Bool
-can_be_judged false discipline es = can_be_asked discipline es
-can_be_judged true discipline es = can_be_at_once discipline es
+-- kernel calls at once are asked for, and settle it
+abbrev pub are_at_once : Options → List Expectation → Bool
+are_at_once o es = is_at_once o.analysis && can_be_at_once o.discipline es
 
 abbrev pub TellsEndsBy : (at_once : Bool) → Tables → Processes → Options → List Expectation → ShowVerdict → Type 0
 TellsEndsBy false r ps o es verdict = TellsEndsMark r ps o.discipline o.steps o.states es verdict
 TellsEndsBy true r ps o es verdict = TellsMarkAtOnce r ps o.steps es verdict
 
 abbrev pub TellsEnds : Tables → Processes → Options → List Expectation → ShowVerdict → Type 0
-TellsEnds r ps o es verdict = TellsIf (can_be_judged (is_at_once o.analysis) o.discipline es) (TellsEndsBy (is_at_once o.analysis) r ps o es verdict) verdict
+TellsEnds r ps o es verdict = TellsEndsBy (are_at_once o es) r ps o es verdict
 
 -- on the program's own names
 abbrev pub names_with : Tree → Processes → Names
@@ -150,7 +153,7 @@ IsTrueBy false t ps o es m = IsTrueInTurn t (names_with t ps) o.discipline o.ste
 IsTrueBy true t ps o es m = IsTrueMark (names_with t ps) (at_any_limit t) es m
 
 abbrev pub MeansEnds : Tree → Processes → Options → List Expectation → ShowVerdict → Type 0
-MeansEnds t ps o es verdict = TellsIf (can_be_judged (is_at_once o.analysis) o.discipline es) ((m : EndsMark) × (verdict ≡ ends_verdict_of m) × ∥ IsTrueBy (is_at_once o.analysis) t ps o es m ∥₁) verdict
+MeansEnds t ps o es verdict = (m : EndsMark) × (verdict ≡ ends_verdict_of m) × ∥ IsTrueBy (are_at_once o es) t ps o es m ∥₁
 
 -- ---- the whole
 

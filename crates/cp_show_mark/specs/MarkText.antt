@@ -26,7 +26,7 @@ use Rattle.cp_verdict.specs.declared.marking.Standing.{Standing}
 use Rattle.cp_verdict.specs.declared.marking.Standing.TheVariants as mark
 use Rattle.cp_verdict.specs.declared.program.Marked.{Marked}
 use Rattle.cp_verdict.specs.declared.program.Stops.{Stops}
-use Rattle.cp_show_mark.specs.Stories.{waits_at_end}
+use Rattle.cp_show_mark.specs.Stories.{waits_told}
 use Rattle.cp_show_mark.specs.declared.examinee.Examinee.{Examinee}
 use Rattle.cp_show_mark.specs.declared.excess.MarkExcess.{MarkExcess}
 use Rattle.cp_show_mark.specs.declared.excess.MarkExcess.TheVariants.{States, Outcomes}
@@ -82,9 +82,13 @@ waiting_text l w = codes "  " ++ wait_text l w ++ codes "\n"
 abbrev pub place_text : Setting → (process line : ℕ) → List ℕ
 place_text s process line = codes "  " ++ decimal process ++ codes " " ++ path_in (process_in s.legend.components process) ++ codes " at line " ++ decimal line ++ codes ": " ++ line_text s.source line ++ codes "\n"
 
+-- who waits where at the end of a schedule
+abbrev pub waits_in : Setting → (word : List ℕ) → List Waiting
+waits_in s word = waits_told s.legend s.program s.discipline s.choices s.steps word
+
 -- at the end of a schedule: where all wait, who waits and where; of a run error, who was in error and at which line
 abbrev pub end_text : Setting → (word : List ℕ) → OutcomeKind → List ℕ
-end_text s word AllWaiting = each (waiting_text s.legend) (waits_at_end s.legend s.program s.discipline s.choices s.steps word)
+end_text s word AllWaiting = each (waiting_text s.legend) (waits_in s word)
 end_text s word (RunError name process line) = place_text s process line
 end_text s word _ = []
 

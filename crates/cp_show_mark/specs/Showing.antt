@@ -9,14 +9,13 @@ use Rattle.cp_resolved.specs.Enumerations.{constant_names}
 use Rattle.cp_machine.specs.declared.discipline.Discipline.{Discipline}
 use Rattle.cp_machine_laws.specs.Named.{named, named_discipline}
 use Rattle.cp_endless_laws.specs.Silent.{waits_on_names, waits_on_slots}
-use Rattle.cp_verdict.specs.endless.AtOnce.{IsMarkAtOnce, IsMarkInTurn}
+use Rattle.cp_verdict.specs.endless.AtOnce.{IsEndsMark, IsMarkAtOnce}
 use Rattle.cp_verdict.specs.endless.Naming.{Processes}
 use Rattle.cp_verdict.specs.declared.endless.verdict.EndsMark as ends_mark
 use Rattle.cp_verdict.specs.declared.endless.verdict.EndsMark.TheVariants as of_ends
 use Rattle.cp_verdict.specs.Marked.{IsMarkOf, IsMarked}
 use Rattle.cp_verdict.specs.Meant.{IsMeantMark}
 use Rattle.cp_verdict.specs.waiting.Asking.{name_who}
-use Rattle.cp_verdict.specs.waiting.EndsMarked as who_in_ends
 use Rattle.cp_verdict.specs.waiting.Marked as who_in_rows
 use Rattle.cp_verdict.specs.waiting.Meant as who_meant
 use Rattle.cp_verdict.specs.waiting.Who.{who_at}
@@ -74,13 +73,8 @@ ends_verdict_of of_ends.Holds = Reported
 ends_verdict_of of_ends.Fails = Fails
 ends_verdict_of of_ends.Open = Open
 ends_verdict_of of_ends.TooMany = TooMany
-ends_verdict_of of_ends.Misread = Misread
 
--- It is the mark by all states or, where there are too many and nobody is named, with kernel calls at once; and it is true of the program on its own names.
-abbrev pub IsEndsMark : Tables → Processes → Discipline → (steps most : ℕ) → List Expectation → ends_mark.EndsMark → Type 0
-IsEndsMark r ps discipline steps most es m =
-    (name_who es ≡ false → IsMarkInTurn r ps discipline steps most es m) × (name_who es ≡ true → who_in_ends.IsMarkOf r ps discipline steps most es m × who_in_ends.IsMeantMark r ps discipline steps es m)
-
+-- the mark by all states or, where there are too many and nobody is named, with kernel calls at once is told
 abbrev pub TellsEndsMark : Tables → Processes → Discipline → (steps most : ℕ) → List Expectation → ShowVerdict → Type 0
 TellsEndsMark r ps discipline steps most es verdict = (m : ends_mark.EndsMark) × (verdict ≡ ends_verdict_of m) × IsEndsMark r ps discipline steps most es m
 

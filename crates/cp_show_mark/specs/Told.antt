@@ -6,12 +6,13 @@ use Rattle.cp_merged.specs.Tallies.{tally}
 use Rattle.cp_outcomes.specs.declared.known.Known.{Known}
 use Rattle.cp_run.specs.Slots.{slots}
 use Rattle.cp_run.specs.Table.{table}
+use Rattle.cp_story.specs.Objects.{line_of}
 use Rattle.cp_walk.specs.Groups.{Tally}
 use Rattle.cp_walk.specs.Report.{same_outcome}
 use Rattle.cp_expectation.specs.declared.expectation.Expectation.{Expectation}
 use Rattle.cp_verdict.specs.declared.endless.saying.MarkedEnds.{MarkedEnds}
 use Rattle.cp_verdict.specs.declared.program.Marked.{Marked}
-use Rattle.cp_show_mark.specs.EndsData.{ends_json}
+use Rattle.cp_show_mark.specs.EndsData.{ends_data}
 use Rattle.cp_show_mark.specs.EndsText.{ends_text}
 use Rattle.cp_show_mark.specs.MarkData.{excess_json, mark_data}
 use Rattle.cp_show_mark.specs.MarkText.{Setting, excess_text, known_if, mark_text, processes_in}
@@ -28,7 +29,7 @@ saying s es doubtful m = if s.as_json then compact_text (mark_data s es doubtful
 
 -- the mark by schedules of any length
 abbrev pub ends_saying : Setting → MarkedEnds → List ℕ
-ends_saying s m = if s.as_json then ends_json s m else ends_text s m
+ends_saying s m = if s.as_json then line_of (ends_data s m) else ends_text s m
 
 -- what there is too much of, and what is known by fewer choices
 abbrev pub excess_saying : Setting → MarkExcess → (known : Option (ℕ × List ℕ)) → List ℕ

@@ -12,24 +12,32 @@ use cp_expectation::value::is_name;
 use cp_expectation::words::{objection_words, push_process};
 use cp_expectation::{Expectation, OutputItem, Question, Topic, objection_to, push_expectation};
 use cp_machine::Gates;
-use cp_verdict::endless::unknown_in;
+use cp_verdict::endless::{asks_waits, unknown_in};
+use cp_verdict::names_who;
 use std::alloc::{AllocError, Global};
 
-// By which schedules the expectations are to be judged.
-fn question_of(examinee: Examinee<'_>) -> Question
-    ensures { result ≡ spec.question_of examinee.entry.options.now }
+// By which schedules an expectation is to be judged.
+fn question_of(examinee: Examinee<'_>, expectation: &Expectation) -> Question
+    ensures { result ≡ spec.question_of examinee.entry.options.now expectation.now }
 {
     let options = examinee.options;
     if !options.analysis.is_endless() {
         return Question::Rows;
     }
-    if options.analysis.is_at_once() {
+    if options.analysis.is_at_once() && !is_by_states(expectation) {
         return Question::EndsAtOnce;
     }
     match options.discipline.gates {
         Gates::Any => Question::EndsAnyGates,
         Gates::First => Question::Ends,
     }
+}
+
+// Who waits at an end is found by all states, also where calls at once are asked for.
+fn is_by_states(expectation: &Expectation) -> bool
+    ensures { result ≡ spec.is_by_states expectation.now }
+{
+    names_who(expectation) && !asks_waits(expectation)
 }
 
 /// Why one of some expectations can't be asked of the program, if one can't: the first of them.
@@ -65,9 +73,9 @@ fn objection(
     examinee: Examinee<'_>,
     expectation: &Expectation,
 ) -> Result<Option<String>, AllocError>
-    ensures { IfOk result (λ why. is_some why ≡ not (spec.is_asked (spec.question_of examinee.entry.options.now) (with_tables examinee.entry.program.now (processes_of examinee.entry.legend.now)) expectation.now)) }
+    ensures { IfOk result (λ why. is_some why ≡ not (spec.is_asked (spec.question_of examinee.entry.options.now expectation.now) (with_tables examinee.entry.program.now (processes_of examinee.entry.legend.now)) expectation.now)) }
 {
-    if let Some(objection) = objection_to(question_of(examinee), expectation) {
+    if let Some(objection) = objection_to(question_of(examinee, expectation), expectation) {
         return Ok(Some(String::from_str(alloc, objection_words(objection))?));
     }
     if let Some(name) = unknown_in(examinee.legend, expectation) {

@@ -1,20 +1,22 @@
 //! The same as JSON.
 
-ghost use Rattle.std.specs.Prelude.{◌≡◌, ◌++◌, IfOk, OnOk, map, string_bytes};
+ghost use Rattle.std.specs.Prelude.{◌≡◌, IfOk, OnOk, map, option_map, string_bytes};
 ghost use Rattle.serde_json.specs.View.{view};
-ghost use Rattle.cp_story.specs.Objects.{array_of, line_of, members_in, text_data, with_members};
+ghost use Rattle.cp_story.specs.Objects.{array_of, line_of, members_in, with_members};
 ghost use Rattle.cp_show_mark.specs.EndsData as spec;
-ghost use Rattle.cp_show_mark.specs.EndsText as text_spec;
+ghost use Rattle.cp_show_mark.specs.EndsText.{said_reason};
+ghost use Rattle.cp_show_mark.specs.MarkData.{notes_data};
 ghost use Rattle.cp_show_mark.specs.MarkText.{setting_of};
 
-use crate::ends_words::{push_said_reason, told_end};
+use crate::ends_words::push_reason;
 use crate::examinee::Examinee;
-use crate::mark_objects::{misread_json, put_end};
+use crate::mark_objects::{push_note, put_end, put_expectation, put_mark};
 use crate::mark_texts::mark_words;
+use cp_ends::End;
 use cp_prose::Prose;
-use cp_story::objects::{Object, numbers, put_kind, put_signals};
+use cp_story::objects::{Object, numbers, put_kind};
 use cp_verdict::Standing;
-use cp_verdict::endless::{EndsMark, MarkedEnds, Said};
+use cp_verdict::endless::{Against, EndsMark, MarkedEnds, Said};
 use serde_json::Value;
 use std::alloc::{AllocError, Global};
 
@@ -24,26 +26,18 @@ pub fn ends_as_json(
     examinee: Examinee<'_>,
     marked: &MarkedEnds,
 ) -> Result<String, AllocError>
-    ensures { IfOk result (λ t. string_bytes t ≡ spec.ends_json (setting_of examinee.entry) marked.now) }
-{
-    match marked.mark {
-        EndsMark::Misread => misread_json(alloc, marked.note.as_str()),
-        _ => ends_object(alloc, examinee, marked),
-    }
-}
-
-fn ends_object(
-    alloc: Global,
-    examinee: Examinee<'_>,
-    marked: &MarkedEnds,
-) -> Result<String, AllocError>
     ensures { IfOk result (λ t. string_bytes t ≡ line_of (spec.ends_data (setting_of examinee.entry) marked.now)) }
 {
     let mut object = Object::new(alloc);
-    object.text("verdict", ends_mark_words(marked.mark))?;
-    object.put("expectations", said_objects(alloc, examinee, &marked.each)?)?;
-    object.put("notes", notes(alloc, marked)?)?;
-    put_signals(&mut object, examinee.options.discipline.signals)?;
+    put_mark(
+        alloc,
+        examinee,
+        &mut object,
+        ends_mark_words(marked.mark),
+        said_objects(alloc, examinee, &marked.each)?,
+        marked.stops,
+        notes(alloc, marked)?,
+    )?;
     object.into_line()
 }
 
@@ -55,7 +49,6 @@ fn ends_mark_words(mark: EndsMark) -> &'static str
         EndsMark::Fails => mark_words(Standing::Fails),
         EndsMark::Open => mark_words(Standing::Open),
         EndsMark::TooMany => "too many states",
-        EndsMark::Misread => "misread",
     }
 }
 
@@ -69,73 +62,93 @@ fn said_objects(alloc: Global, examinee: Examinee<'_>, all: &[Said]) -> Result<V
     Ok(Value::Array(items))
 }
 
-// An expectation, whether it holds, the schedule that is against it if there is one, and why.
+// An expectation with what is said of it.
 fn said_object(alloc: Global, examinee: Examinee<'_>, said: &Said) -> Result<Value, AllocError>
     ensures { IfOk result (λ v. view v ≡ spec.said_data (setting_of examinee.entry) said.now) }
 {
     let mut object = Object::new(alloc);
-    object.text("expectation", said.expectation.as_str())?;
-    object.text("verdict", mark_words(said.standing))?;
-    put_told_end(alloc, examinee, &mut object, said)?;
-    put_reason(alloc, examinee, &mut object, said)?;
+    put_against(alloc, examinee, &mut object, &said.against)?;
+    let reason = reason_text(alloc, examinee, said)?;
+    put_expectation(
+        &mut object,
+        said.expectation.as_str(),
+        said.standing,
+        reason.as_str(),
+    )?;
     Ok(object.into_value())
 }
 
-fn put_told_end(
-    alloc: Global,
-    examinee: Examinee<'_>,
-    object: &mut Object,
-    said: &Said,
-) -> Result<(), AllocError>
-    ensures { OnOk result (members_in object.new ≡ with_members (members_in object.old) (spec.told_end_members (setting_of examinee.entry) (text_spec.told_end examinee.entry.options.now.choices said.now.against))) }
-{
-    let Some((word, kind)) = told_end(examinee, said) else {
-        return Ok(());
-    };
-    object.put("first", numbers(alloc, word)?)?;
-    put_kind(object, kind)?;
-    put_end(alloc, examinee, object, word, kind)
-}
-
-fn put_reason(
-    alloc: Global,
-    examinee: Examinee<'_>,
-    object: &mut Object,
-    said: &Said,
-) -> Result<(), AllocError>
-    ensures { OnOk result (members_in object.new ≡ with_members (members_in object.old) (spec.reason_members (setting_of examinee.entry) said.now)) }
-{
-    if said.reason.is_empty() {
-        return Ok(());
-    }
-    let reason = reason_text(alloc, examinee, said)?;
-    object.text("said", reason.as_str().trim_end())
-}
-
 fn reason_text(alloc: Global, examinee: Examinee<'_>, said: &Said) -> Result<String, AllocError>
-    ensures { IfOk result (λ t. string_bytes t ≡ text_spec.said_reason (setting_of examinee.entry) said.now) }
+    ensures { IfOk result (λ t. string_bytes t ≡ said_reason (setting_of examinee.entry) said.now) }
 {
     let mut reason = Prose::new(alloc);
-    push_said_reason(alloc, examinee, &mut reason, said);
+    push_reason(alloc, examinee, &mut reason, said);
     reason.finish()
+}
+
+// The schedule that is against an expectation, if there is one.
+fn put_against(
+    alloc: Global,
+    examinee: Examinee<'_>,
+    object: &mut Object,
+    against: &Option<Against>,
+) -> Result<(), AllocError>
+    ensures { OnOk result (members_in object.new ≡ with_members (members_in object.old) (spec.against_members (setting_of examinee.entry) against.now)) }
+{
+    match against {
+        Some(Against::End(known)) => {
+            object.put("first", numbers(alloc, &known.word)?)?;
+            put_how(alloc, examinee, object, &known.word, known.end)
+        }
+        Some(Against::Value(word)) => object.put("first", numbers(alloc, word)?),
+        Some(
+            Against::Round {
+                process,
+                first,
+                again,
+            },
+        ) => {
+            object.put("first", numbers(alloc, first)?)?;
+            object.put("again", numbers(alloc, again)?)?;
+            object.number("process", u64::from(*process))
+        }
+        None => Ok(()),
+    }
+}
+
+// How a schedule ends, and who waits where then.
+fn put_how(
+    alloc: Global,
+    examinee: Examinee<'_>,
+    object: &mut Object,
+    word: &[u8],
+    end: End,
+) -> Result<(), AllocError>
+    ensures { OnOk result (members_in object.new ≡ with_members (members_in object.old) (spec.how_members (setting_of examinee.entry) word.now end)) }
+{
+    match end {
+        End::Over(kind) => {
+            put_kind(object, kind)?;
+            put_end(alloc, examinee, object, word, kind)
+        }
+        End::Alone(process) => put_process(object, "alone", process),
+        End::Spins(process) => put_process(object, "spins", process),
+    }
+}
+
+fn put_process(object: &mut Object, kind: &str, process: u8) -> Result<(), AllocError>
+    ensures { OnOk result (members_in object.new ≡ with_members (members_in object.old) (spec.process_members kind.now process)) }
+{
+    object.text("kind", kind)?;
+    object.number("process", u64::from(process))
 }
 
 // What is said of all expectations, and how the mark was found.
 fn notes(alloc: Global, marked: &MarkedEnds) -> Result<Value, AllocError>
-    ensures { IfOk result (λ v. view v ≡ array_of (map text_data (spec.notes_of marked.now))) }
+    ensures { IfOk result (λ v. view v ≡ notes_data (spec.notes_of marked.now)) }
 {
     let mut notes = Vec::new(alloc);
     push_note(alloc, &mut notes, marked.note.as_str())?;
     push_note(alloc, &mut notes, marked.last.as_str())?;
     Ok(Value::Array(notes))
-}
-
-fn push_note(alloc: Global, notes: &mut Vec<Value>, text: &str) -> Result<(), AllocError>
-    ensures { IfOk result (λ _. map view notes.new.items ≡ map view notes.old.items ++ map text_data (spec.note_if text.now)) }
-{
-    if text.is_empty() {
-        return Ok(());
-    }
-    notes.push(Value::try_from_str(alloc, text.trim_end())?)?;
-    Ok(())
 }

@@ -1,6 +1,6 @@
 //! What is said of expectations of schedules of any length, in words.
 
-ghost use Rattle.std.specs.Prelude.{◌≡◌, ◌≤◌, IfOk, IfSome, length, nat_le, option_map, string_bytes};
+ghost use Rattle.std.specs.Prelude.{◌≡◌, IfOk, string_bytes};
 ghost use Rattle.cp_prose.specs.Telling.{UnlessRefused, appended};
 ghost use Rattle.cp_show_mark.specs.EndsText as spec;
 ghost use Rattle.cp_show_mark.specs.MarkText.{setting_of};
@@ -12,9 +12,8 @@ use crate::mark_texts::mark_words;
 use crate::mark_words::push_end;
 use cp_ends::End;
 use cp_prose::Prose;
-use cp_run::OutcomeKind;
 use cp_verdict::Standing;
-use cp_verdict::endless::{EndsMark, MarkedEnds, Said};
+use cp_verdict::endless::{Against, EndsMark, MarkedEnds, Said};
 use std::alloc::{AllocError, Global};
 
 /// What schedules of any length say of the expectations.
@@ -92,42 +91,29 @@ fn push_said(alloc: Global, examinee: Examinee<'_>, text: &mut Prose, said: &Sai
     text.put(": ");
     text.put(said.expectation.as_str());
     text.put("\n");
-    push_said_reason(alloc, examinee, text, said);
+    push_reason(alloc, examinee, text, said);
 }
 
 /// Why an expectation does not hold, or is not settled, and who waits where at the end that is against it.
-pub fn push_said_reason(alloc: Global, examinee: Examinee<'_>, text: &mut Prose, said: &Said)
+pub fn push_reason(alloc: Global, examinee: Examinee<'_>, text: &mut Prose, said: &Said)
     ensures { UnlessRefused text.new (appended text.old (spec.said_reason (setting_of examinee.entry) said.now)) }
 {
     text.put(said.reason.as_str());
-    text.put("\n");
-    push_told_end(alloc, examinee, text, said);
+    push_against(alloc, examinee, text, &said.against);
 }
 
-fn push_told_end(alloc: Global, examinee: Examinee<'_>, text: &mut Prose, said: &Said)
-    ensures { UnlessRefused text.new (appended text.old (spec.told_end_text (setting_of examinee.entry) (spec.told_end examinee.entry.options.now.choices said.now.against))) }
+fn push_against(alloc: Global, examinee: Examinee<'_>, text: &mut Prose, against: &Option<Against>)
+    ensures { UnlessRefused text.new (appended text.old (spec.against_text (setting_of examinee.entry) against.now)) }
 {
-    if let Some((word, kind)) = told_end(examinee, said) {
+    if let Some(Against::End(known)) = against {
+        push_how(alloc, examinee, text, &known.word, known.end);
+    }
+}
+
+fn push_how(alloc: Global, examinee: Examinee<'_>, text: &mut Prose, word: &[u8], end: End)
+    ensures { UnlessRefused text.new (appended text.old (spec.how_text (setting_of examinee.entry) word.now end)) }
+{
+    if let End::Over(kind) = end {
         push_end(alloc, examinee, text, word, kind);
     }
-}
-
-/// The schedule that is against an expectation and how it ends, where its story can be told.
-pub fn told_end<'a>(examinee: Examinee<'_>, said: &'a Said) -> Option<(&'a [u8], OutcomeKind)>
-    ensures told { option_map (λ e. (e.0.now, e.1)) result ≡ spec.told_end examinee.entry.options.now.choices said.entry.now.against }
-    ensures short { IfSome result (λ e. length e.0.now ≤ 100) }
-{
-    let Some(known) = &said.against else {
-        return None;
-    };
-    match known.end {
-        End::Over(kind) if can_be_told(examinee, &known.word) => Some((&known.word, kind)),
-        _ => None,
-    }
-}
-
-fn can_be_told(examinee: Examinee<'_>, word: &[u8]) -> bool
-    ensures { result ≡ nat_le (length word.now) examinee.entry.options.now.choices }
-{
-    word.len() <= examinee.options.choices as usize
 }

@@ -1,11 +1,13 @@
 //! The same as JSON.
 
-ghost use Rattle.std.specs.Prelude.{◌≡◌, ◌≤◌, ◌++◌, ◌∷◌, [], IfOk, OnOk, if◌then◌else◌, length, map, option_map, string_bytes};
+ghost use Rattle.std.specs.Prelude.{◌≡◌, ◌++◌, IfOk, OnOk, map, option_map, string_bytes};
 ghost use Rattle.std.specs.List.{zip};
 ghost use Rattle.serde_json.specs.View.{view};
 ghost use Rattle.serde_json.specs.Written.{compact_text};
+ghost use Rattle.cp_legend.specs.Names.{legend_seen};
 ghost use Rattle.cp_story.specs.Ends.{kind_name};
 ghost use Rattle.cp_story.specs.Objects.{array_of, line_of, members_in, text_data, with_members};
+ghost use Rattle.cp_story.specs.Views.{wait_of};
 ghost use Rattle.cp_verdict.specs.Judged.{row_line};
 ghost use Rattle.cp_verdict.specs.Written.{named_if};
 ghost use Rattle.cp_show_mark.specs.MarkData as spec;
@@ -13,16 +15,17 @@ ghost use Rattle.cp_show_mark.specs.MarkText as text_spec;
 ghost use Rattle.cp_show_mark.specs.MarkText.{setting_of};
 
 use crate::examinee::Examinee;
-use crate::mark_texts::{doubt_text, doubtful, expectation_text, mark_words, standing_of};
+use crate::mark_texts::{doubt_text, expectation_text, mark_words, standing_of};
 use crate::mark_words::push_reason;
 use crate::stories::waits_of;
 use cp_expectation::{Expectation, Reading};
+use cp_legend::Legend;
 use cp_machine::Signals;
 use cp_prose::Prose;
 use cp_run::OutcomeKind;
 use cp_story::objects::{Object, numbers, put_kind, put_signals, waits};
-use cp_story::{kind_words, output_words};
-use cp_verdict::{Judgement, Marked, SeenRow, Stops};
+use cp_story::{Wait, kind_words, output_words};
+use cp_verdict::{Judgement, Marked, SeenRow, Standing, Stops};
 use serde_json::Value;
 use std::alloc::{AllocError, Global};
 
@@ -45,35 +48,37 @@ pub fn marks_as_json(
     ensures { IfOk result (λ t. string_bytes t ≡ compact_text (spec.mark_data (setting_of examinee.entry) reading.now.expectations.items (option_map (λ w. w.now) reading.now.doubtful) marked.now)) }
 {
     let mut object = Object::new(alloc);
-    put_judged(alloc, examinee, &mut object, reading, marked)?;
-    put_limits(
+    put_mark(
         alloc,
+        examinee,
         &mut object,
+        mark_words(marked.mark),
+        judged_objects(alloc, examinee, reading, marked)?,
         marked.stops,
-        examinee.options.discipline.signals,
+        doubts(alloc, examinee, reading)?,
     )?;
-    put_note(alloc, examinee, &mut object, reading)?;
     object.into_value().to_string(alloc)
 }
 
-// The verdict, and what is said of each expectation.
-fn put_judged(
+/// A mark, what is said of each expectation, which limits were met, and what is said of all.
+pub fn put_mark(
     alloc: Global,
     examinee: Examinee<'_>,
     object: &mut Object,
-    reading: &Reading,
-    marked: &Marked,
+    mark: &str,
+    expectations: Value,
+    stops: Stops,
+    notes: Value,
 ) -> Result<(), AllocError>
-    ensures { OnOk result (members_in object.new ≡ with_members (members_in object.old) (spec.judged_members (setting_of examinee.entry) reading.now.expectations.items marked.now)) }
+    ensures { OnOk result (members_in object.new ≡ with_members (members_in object.old) (spec.mark_members mark.now (view expectations) stops (view notes) examinee.entry.options.now.discipline.signals)) }
 {
-    object.text("verdict", mark_words(marked.mark))?;
-    object.put(
-        "expectations",
-        judged_objects(alloc, examinee, reading, marked)?,
-    )
+    object.text("verdict", mark)?;
+    object.put("expectations", expectations)?;
+    object.put("notes", notes)?;
+    put_limits(alloc, object, stops, examinee.options.discipline.signals)
 }
 
-// Whether no schedule ended at a limit, or at which some did; and who goes on after a `continue`, where that is not by the book.
+// Whether no limit was met, and which were; and who goes on after a `continue`, where that is not by the book.
 fn put_limits(
     alloc: Global,
     object: &mut Object,
@@ -88,21 +93,27 @@ fn put_limits(
 }
 
 // How a value is written that begins an outcome as well.
-fn put_note(
-    alloc: Global,
-    examinee: Examinee<'_>,
-    object: &mut Object,
-    reading: &Reading,
-) -> Result<(), AllocError>
-    ensures { OnOk result (members_in object.new ≡ with_members (members_in object.old) (spec.note_members (text_spec.doubt_told examinee.entry.program.now.names (option_map (λ w. w.now) reading.now.doubtful)))) }
+fn doubts(alloc: Global, examinee: Examinee<'_>, reading: &Reading) -> Result<Value, AllocError>
+    ensures { IfOk result (λ v. view v ≡ spec.notes_data (spec.note_if (text_spec.doubtful_text (text_spec.doubt_told examinee.entry.program.now.names (option_map (λ w. w.now) reading.now.doubtful))))) }
 {
-    match doubtful(examinee, reading) {
-        Some(name) => object.text("note", doubt_text(alloc, name)?.as_str().trim_end()),
-        None => Ok(()),
-    }
+    let doubt = doubt_text(alloc, examinee, reading)?;
+    let mut notes = Vec::new(alloc);
+    push_note(alloc, &mut notes, doubt.as_str())?;
+    Ok(Value::Array(notes))
 }
 
-// The limits at which some schedules ended.
+/// What is said of all expectations, if anything is.
+pub fn push_note(alloc: Global, notes: &mut Vec<Value>, text: &str) -> Result<(), AllocError>
+    ensures { IfOk result (λ _. map view notes.new.items ≡ map view notes.old.items ++ map text_data (spec.note_if text.now)) }
+{
+    if text.is_empty() {
+        return Ok(());
+    }
+    notes.push(Value::try_from_str(alloc, text.trim_end())?)?;
+    Ok(())
+}
+
+// The limits that were met.
 fn limits(alloc: Global, stops: Stops) -> Result<Value, AllocError>
     ensures { IfOk result (λ v. view v ≡ array_of (map text_data (spec.stop_names stops))) }
 {
@@ -143,7 +154,7 @@ fn judged_objects(
     Ok(Value::Array(items))
 }
 
-// An expectation, whether it holds, and the schedule that settles it if there is one.
+// An expectation with its judgement.
 fn judged_object(
     alloc: Global,
     examinee: Examinee<'_>,
@@ -154,13 +165,30 @@ fn judged_object(
     ensures { IfOk result (λ v. view v ≡ spec.judged_data (setting_of examinee.entry) marked.now.stops (expectation.now, judgement.now)) }
 {
     let mut object = Object::new(alloc);
-    let expected = expectation_text(alloc, expectation)?;
-    object.text("expectation", expected.as_str())?;
-    object.text("verdict", mark_words(standing_of(judgement)))?;
     put_shown(alloc, examinee, &mut object, judgement)?;
+    let expected = expectation_text(alloc, expectation)?;
     let reason = reason_text(alloc, examinee, expectation, judgement, marked)?;
-    put_said(&mut object, reason.as_str())?;
+    put_expectation(
+        &mut object,
+        expected.as_str(),
+        standing_of(judgement),
+        reason.as_str(),
+    )?;
     Ok(object.into_value())
+}
+
+/// An expectation as it is written, whether it holds, and why not.
+pub fn put_expectation(
+    object: &mut Object,
+    expectation: &str,
+    standing: Standing,
+    reason: &str,
+) -> Result<(), AllocError>
+    ensures { OnOk result (members_in object.new ≡ with_members (members_in object.old) (spec.expectation_members expectation.now standing reason.now)) }
+{
+    object.text("expectation", expectation)?;
+    object.text("verdict", mark_words(standing))?;
+    put_said(object, reason)
 }
 
 fn put_said(object: &mut Object, reason: &str) -> Result<(), AllocError>
@@ -226,21 +254,38 @@ pub fn put_end(
     word: &[u8],
     kind: OutcomeKind,
 ) -> Result<(), AllocError>
-    requires { length word.now ≤ 100 }
     ensures { OnOk result (members_in object.new ≡ with_members (members_in object.old) (spec.end_members (setting_of examinee.entry) word.now kind)) }
 {
     match kind {
-        OutcomeKind::AllWaiting => object.put("final", final_waits(alloc, examinee, word)?),
+        OutcomeKind::AllWaiting => put_final(alloc, examinee, object, word),
         OutcomeKind::RunError { line, .. } => object.text("text", examinee.line(line)),
         _ => Ok(()),
     }
 }
 
-// Who waits where at the end of a schedule.
-fn final_waits(alloc: Global, examinee: Examinee<'_>, word: &[u8]) -> Result<Value, AllocError>
-    requires { length word.now ≤ 100 }
-    ensures { IfOk result (λ v. view v ≡ spec.final_data (setting_of examinee.entry) word.now) }
+// Who waits where at the end of a schedule, if that can be told.
+fn put_final(
+    alloc: Global,
+    examinee: Examinee<'_>,
+    object: &mut Object,
+    word: &[u8],
+) -> Result<(), AllocError>
+    ensures { OnOk result (members_in object.new ≡ with_members (members_in object.old) (spec.final_members (legend_seen examinee.entry.legend.now) (text_spec.waits_in (setting_of examinee.entry) word.now))) }
 {
     let all = waits_of(alloc, examinee, word)?;
-    waits(alloc, examinee.legend, &all)
+    put_waits(alloc, examinee.legend, object, &all)
+}
+
+fn put_waits(
+    alloc: Global,
+    legend: &Legend,
+    object: &mut Object,
+    all: &[Wait],
+) -> Result<(), AllocError>
+    ensures { OnOk result (members_in object.new ≡ with_members (members_in object.old) (spec.final_members (legend_seen legend.now) (map wait_of all.now))) }
+{
+    if all.is_empty() {
+        return Ok(());
+    }
+    object.put("final", waits(alloc, legend, all)?)
 }

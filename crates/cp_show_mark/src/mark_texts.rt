@@ -38,8 +38,22 @@ pub fn standing_of(judgement: &Judgement) -> Standing
     }
 }
 
-/// The word of which it is said how a constant of the program is written.
-pub fn doubtful(examinee: Examinee<'_>, reading: &Reading) -> Option<&'static str>
+/// How a constant of the program is written that is a word of the language as well, if one may be meant.
+pub fn doubt_text(
+    alloc: Global,
+    examinee: Examinee<'_>,
+    reading: &Reading,
+) -> Result<String, AllocError>
+    ensures { IfOk result (λ t. string_bytes t ≡ spec.doubtful_text (spec.doubt_told examinee.entry.program.now.names (option_map (λ w. w.now) reading.now.doubtful))) }
+{
+    let mut text = String::new(alloc);
+    if let Some(name) = doubtful(examinee, reading) {
+        push_doubt(&mut text, name)?;
+    }
+    Ok(text)
+}
+
+fn doubtful(examinee: Examinee<'_>, reading: &Reading) -> Option<&'static str>
     ensures { option_map (λ w. w.now) result ≡ spec.doubt_told examinee.entry.program.now.names (option_map (λ w. w.now) reading.now.doubtful) }
 {
     let name = reading.doubtful?;
@@ -48,15 +62,6 @@ pub fn doubtful(examinee: Examinee<'_>, reading: &Reading) -> Option<&'static st
     } else {
         None
     }
-}
-
-/// How such a constant is written.
-pub fn doubt_text(alloc: Global, name: &str) -> Result<String, AllocError>
-    ensures { IfOk result (λ t. string_bytes t ≡ language.doubt_text name.now) }
-{
-    let mut text = String::new(alloc);
-    push_doubt(&mut text, name)?;
-    Ok(text)
 }
 
 /// The limits at which some schedules ended, as words.

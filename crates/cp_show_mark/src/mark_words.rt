@@ -1,6 +1,6 @@
 //! What is said of expectations, in words.
 
-ghost use Rattle.std.specs.Prelude.{◌≡◌, ◌≤◌, IfOk, if◌then◌else◌, length, map, option_map, string_bytes};
+ghost use Rattle.std.specs.Prelude.{◌≡◌, IfOk, if◌then◌else◌, map, option_map, string_bytes};
 ghost use Rattle.std.specs.List.{list_any, zip};
 ghost use Rattle.cp_legend.specs.Names.{legend_seen};
 ghost use Rattle.cp_prose.specs.Telling.{UnlessRefused, appended};
@@ -16,7 +16,7 @@ ghost use Rattle.cp_show_mark.specs.Told.{saying};
 use crate::examinee::Examinee;
 use crate::mark_objects::{marks_as_json, misread_json};
 use crate::mark_texts::{
-    doubt_text, doubtful, expectation_text, mark_words, push_schedule, standing_of, stops_text,
+    doubt_text, expectation_text, mark_words, push_schedule, standing_of, stops_text,
 };
 use crate::stories::waits_of;
 use cp_expectation::{Claim, Expectation, Reading};
@@ -66,7 +66,7 @@ fn marks_as_text(
     push_those(alloc, examinee, &mut text, reading, marked, true);
     push_those(alloc, examinee, &mut text, reading, marked, false);
     push_longer(examinee, &mut text, marked);
-    push_doubtful(alloc, examinee, &mut text, reading);
+    text.put_made(doubt_text(alloc, examinee, reading));
     text.finish()
 }
 
@@ -108,15 +108,6 @@ fn push_longer(examinee: Examinee<'_>, text: &mut Prose, marked: &Marked)
             text.put("./show mark --ends says what holds of schedules of any length\n");
         }
         Standing::Holds | Standing::Fails | Standing::Open => {}
-    }
-}
-
-// How a value is written that begins an outcome as well.
-fn push_doubtful(alloc: Global, examinee: Examinee<'_>, text: &mut Prose, reading: &Reading)
-    ensures { UnlessRefused text.new (appended text.old (spec.doubtful_text (spec.doubt_told examinee.entry.program.now.names (option_map (λ w. w.now) reading.now.doubtful)))) }
-{
-    if let Some(name) = doubtful(examinee, reading) {
-        text.put_made(doubt_text(alloc, name));
     }
 }
 
@@ -262,7 +253,6 @@ pub fn push_end(
     word: &[u8],
     kind: OutcomeKind,
 )
-    requires { length word.now ≤ 100 }
     ensures { UnlessRefused text.new (appended text.old (spec.end_text (setting_of examinee.entry) word.now kind)) }
 {
     match kind {

@@ -178,7 +178,7 @@ fn judge_ends<O: ObserveProgress>(
         limits: options.longest_limits(),
         most: options.states,
     };
-    // Without calls at once they are made all the same where there are too many states.
+    // Not asked for, calls are made at once all the same where there are too many states.
     if options.analysis.is_at_once() {
         let marked = mark_at_once(alloc, subject, list, observer)?;
         ends_answer(alloc, examinee, &marked)
@@ -211,7 +211,6 @@ fn ends_verdict_of(mark: EndsMark) -> ShowVerdict
         EndsMark::Fails => ShowVerdict::Fails,
         EndsMark::Open => ShowVerdict::Open,
         EndsMark::TooMany => ShowVerdict::TooMany,
-        EndsMark::Misread => ShowVerdict::Misread,
     }
 }
 

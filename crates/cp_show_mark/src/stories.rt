@@ -1,12 +1,12 @@
 //! The story of a schedule within the limits of the options.
 
-ghost use Rattle.std.specs.Prelude.{◌≡◌, ◌≤◌, IfOk, length, map};
+ghost use Rattle.std.specs.Prelude.{◌≡◌, ◌≤◌, IfOk, length, map, nat_le};
 ghost use Rattle.cp_legend.specs.Names.{legend_seen};
 ghost use Rattle.cp_run.specs.Code.{answer_of};
 ghost use Rattle.cp_story.specs.Views.{wait_of};
 ghost use Rattle.cp_walk.specs.Rows.{UsedWithin};
 ghost use Rattle.cp_show_mark.specs.Stories as spec;
-ghost use Rattle.cp_show_mark.specs.Stories.{IsStoryOf, waits_at_end};
+ghost use Rattle.cp_show_mark.specs.Stories.{IsStoryOf, waits_at_end, waits_told};
 
 use crate::examinee::Examinee;
 use cp_legend::Legend;
@@ -41,8 +41,24 @@ pub fn story_of(
     )
 }
 
-/// Who waits where at the end of a word, if all do there.
+/// Who waits where at the end of a word, if all do there and it can be told: it has no more numbers than the options allow.
 pub fn waits_of(alloc: Global, examinee: Examinee<'_>, word: &[u8]) -> Result<Vec<Wait>, AllocError>
+    ensures { IfOk result (λ waits. map wait_of waits.items ≡ waits_told (legend_seen examinee.entry.legend.now) examinee.entry.program.now examinee.entry.options.now.discipline examinee.entry.options.now.choices examinee.entry.options.now.steps word.now) }
+{
+    if can_be_told(examinee, word) {
+        waits_within(alloc, examinee, word)
+    } else {
+        Ok(Vec::new(alloc))
+    }
+}
+
+fn can_be_told(examinee: Examinee<'_>, word: &[u8]) -> bool
+    ensures { result ≡ nat_le (length word.now) examinee.entry.options.now.choices }
+{
+    word.len() <= examinee.options.choices as usize
+}
+
+fn waits_within(alloc: Global, examinee: Examinee<'_>, word: &[u8]) -> Result<Vec<Wait>, AllocError>
     requires { length word.now ≤ 100 }
     ensures { IfOk result (λ waits. map wait_of waits.items ≡ waits_at_end (legend_seen examinee.entry.legend.now) examinee.entry.program.now examinee.entry.options.now.discipline examinee.entry.options.now.choices examinee.entry.options.now.steps word.now) }
 {

@@ -14,7 +14,7 @@ pub mod waiting;
 pub mod words;
 
 pub use at_once::{mark_at_once, mark_in_turn};
-pub use marking::MarkSubject;
+pub use marking::{MarkSubject, asks_waits};
 pub use process::unknown_in;
-pub use saying::{MarkedEnds, Said};
+pub use saying::{Against, MarkedEnds, Said};
 pub use verdict::EndsMark;

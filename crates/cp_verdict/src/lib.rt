@@ -19,4 +19,4 @@ pub use laws::{law_holds, law_output, law_stays};
 pub use marking::{Standing, judge_each, mark_of};
 pub use program::{MarkFault, Marked, Stops, mark_tallies};
 pub use seen::{Seen, SeenRow};
-pub use waiting::{mark_known, mark_named};
+pub use waiting::{mark_known, mark_named, names_who};

@@ -6,4 +6,5 @@ pub mod marking;
 pub mod matching;
 pub mod rows;
 
+pub use asking::names_who;
 pub use marking::{mark_known, mark_named};

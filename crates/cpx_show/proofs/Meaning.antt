@@ -26,6 +26,7 @@ use Rattle.cpx_show.specs.Schedules.{IsStoryText, IsTracedAs}
 use Rattle.cpx_show.specs.Shown.{AreNamed, AreOutcomes, IsTraceInNames}
 use Rattle.cpx_show.specs.Summaries.{AreOutcomesOf}
 use Rattle.cpx_show.specs.declared.schedules.ScheduleForm.{ScheduleForm}
+use Rattle.cpx_show.specs.declared.selecting.ChosenSchedule.{ChosenSchedule}
 
 module _ (t : Tree) (r : Tables) (read : ∥ IsRead t.program ∥₁) (ok : IsAccepted t) (tables : plain r ≡ laid t) (o : Options) where
   same : SameRuns (named t (named_discipline o.discipline)) (slots r o.discipline) o.choices o.steps
@@ -41,8 +42,9 @@ module _ (t : Tree) (r : Tables) (read : ∥ IsRead t.program ∥₁) (ok : IsAc
     stop_agrees : (word : List ℕ) → ∥ TellsStop t r (legend_seen l) o.discipline o.choices o.steps word ∥₁
     stop_agrees word = ∥∥₁_map read (λ it. stop_law t is.symbols r l o.discipline it ok is.noted tables is.legend o.choices o.steps word)
 
-    in_names : (f : ScheduleForm) (source : List (List ℕ)) (word text : List ℕ) → IsStoryText f o r (legend_seen l) source word text → IsTraceInNames f o t r l source word text
-    in_names f source word text h =
+    in_names : (f : ScheduleForm) (source : List (List ℕ)) (s : ChosenSchedule) (text : List ℕ) → IsStoryText f o r (legend_seen l) source s text → IsTraceInNames f o t r l source s text
+    in_names f source s text h =
+        let word = s.word.items in
         record {
           told = h;
           lines = h.so.lines ∙ sym (same.traces word);
@@ -71,7 +73,5 @@ traced t r l a f source verdict text read ok is h =
       told =
           λ reported.
           let it = h.told reported in
-          let s = it.0 in
-          let tells = it.2 in
-          (s, it.1, record { told = tells.told; is = in_names t r read ok is.stands.laid a.options l is f source s.word.items tells.told tells.is; first = tells.first; once = tells.once; marked = tells.marked });
+          (it.0, it.1, in_names t r read ok is.stands.laid a.options l is f source it.0 text it.2);
     }

@@ -14,7 +14,7 @@ use Rattle.cp_show_options.specs.declared.choosing.ScheduleChoice.{ScheduleChoic
 use Rattle.cp_show_options.specs.declared.choosing.ScheduleChoice.TheVariants as choice
 use Rattle.cp_show_options.specs.declared.parts.Asked.{Asked}
 use Rattle.cp_tool.specs.declared.options.Options.{Options}
-use Rattle.cpx_show.specs.Schedules.{DrawsAll, IsTracedAs, TellsSchedule}
+use Rattle.cpx_show.specs.Schedules.{DrawsAll, IsTracedAs}
 use Rattle.cpx_show.specs.Selecting.{IsAskedFor, IsChoiceOf, GivesSchedule, IsOfNumber, IsOfOutcome}
 use Rattle.cpx_show.specs.declared.schedules.ScheduleForm.{ScheduleForm}
 use Rattle.cpx_show.specs.declared.selecting.ChosenSchedule.{ChosenSchedule}
@@ -65,10 +65,10 @@ never_reported (choice.Simplest number) o r answer (job, is, chosen, schedule, o
 never_reported (choice.End number) o r answer (subject, is, (found, schedule, of)) reported = of_number found answer of reported
 never_reported (choice.Wait number) o r answer (subject, is, (found, schedule, of)) reported = of_number found answer of reported
 
-pub without_traced : (f : ScheduleForm) (Is : List ℕ → List ℕ → Type 0) (a : Asked) (r : Tables) (answer : ShowAnswer) → IsAskedFor a r (Without answer) → IsTracedAs f Is a r answer.verdict (string_bytes answer.text)
+pub without_traced : (f : ScheduleForm) (Is : ChosenSchedule → List ℕ → Type 0) (a : Asked) (r : Tables) (answer : ShowAnswer) → IsAskedFor a r (Without answer) → IsTracedAs f Is a r answer.verdict (string_bytes answer.text)
 without_traced f Is a r answer h = record { given = λ given all. absurd (not_given a.schedule a.options r answer h given); told = λ reported. absurd (never_reported a.schedule a.options r answer h reported) }
 
 -- the schedule that is asked for, and its text
-pub schedule_traced : (f : ScheduleForm) (Is : List ℕ → List ℕ → Type 0) (a : Asked) (r : Tables) (s : ChosenSchedule) (result : Result ShowAnswer AllocError) → IfOk result (λ x. x.verdict ≡ Reported → TellsSchedule f Is s (string_bytes x.text)) → (DrawsAll f → IfOk result (λ x. x.verdict ≡ Reported)) → IsAskedFor a r (Schedule s) → IfOk result (λ x. IsTracedAs f Is a r x.verdict (string_bytes x.text))
+pub schedule_traced : (f : ScheduleForm) (Is : ChosenSchedule → List ℕ → Type 0) (a : Asked) (r : Tables) (s : ChosenSchedule) (result : Result ShowAnswer AllocError) → IfOk result (λ x. x.verdict ≡ Reported → Is s (string_bytes x.text)) → (DrawsAll f → IfOk result (λ x. x.verdict ≡ Reported)) → IsAskedFor a r (Schedule s) → IfOk result (λ x. IsTracedAs f Is a r x.verdict (string_bytes x.text))
 schedule_traced f Is a r s (Ok x) told drawn asked = record { given = λ given all. drawn all; told = λ reported. (s, asked, told reported) }
 schedule_traced f Is a r s (Err e) told drawn asked = tt

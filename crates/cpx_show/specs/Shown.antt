@@ -42,6 +42,7 @@ use Rattle.cpx_show.specs.Selecting.{GivesSchedule}
 use Rattle.cpx_show.specs.Summaries.{AreOutcomesOf, IsCovered, form_of}
 use Rattle.cpx_show.specs.declared.schedules.ScheduleForm.{ScheduleForm}
 use Rattle.cpx_show.specs.declared.schedules.ScheduleForm.TheVariants as schedule_form
+use Rattle.cpx_show.specs.declared.selecting.ChosenSchedule.{ChosenSchedule}
 
 -- The tables of a tree, and a legend of what its names stand for. So each component has the path that the language gives it.
 pub record AreNamed (t : Tree) (r : Tables) (l : code_legend.Legend) : Type 0 where
@@ -55,14 +56,14 @@ pub record AreNamed (t : Tree) (r : Tables) (l : code_legend.Legend) : Type 0 wh
 
 -- The story of a word in names is told of the meaning of the program: its events have the lines of the trace, and each is the one that happens there on the program's own
 -- names; so is the last choice, who waits where the run stops, and how it stops where no event tells of it; and it ends as the run does.
-pub record IsTraceInNames (f : ScheduleForm) (o : Options) (t : Tree) (r : Tables) (l : code_legend.Legend) (source : List (List ℕ)) (word : List ℕ) (text : List ℕ) : Type 0 where
-  pub told : IsStoryText f o r (legend_seen l) source word text
-  pub lines : lines_of told.story.events.items ≡ trace (named t (named_discipline o.discipline)) o.choices o.steps word
-  pub events : ∥ map (event_on_names (legend_seen l)) (map told_of told.story.events.items) ≡ events_on_names t (named_discipline o.discipline) o.choices o.steps word ∥₁
-  pub last_choice : ∥ option_map decision_of told.story.last_choice ≡ (names_telling t (named_discipline o.discipline) o.choices o.steps word).past.choice ∥₁
-  pub waits : ∥ map (wait_on_names (legend_seen l)) (map wait_of told.story.waits.items) ≡ who_waits_on_names t (named_discipline o.discipline) o.choices o.steps word ∥₁
-  pub stop : ∥ option_map halted_seen told.story.stop ≡ stop_on_names t (named_discipline o.discipline) o.choices o.steps word ∥₁
-  pub end : answer_of told.story.end ≡ run (named t (named_discipline o.discipline)) o.choices o.steps word
+pub record IsTraceInNames (f : ScheduleForm) (o : Options) (t : Tree) (r : Tables) (l : code_legend.Legend) (source : List (List ℕ)) (s : ChosenSchedule) (text : List ℕ) : Type 0 where
+  pub told : IsStoryText f o r (legend_seen l) source s text
+  pub lines : lines_of told.story.events.items ≡ trace (named t (named_discipline o.discipline)) o.choices o.steps s.word.items
+  pub events : ∥ map (event_on_names (legend_seen l)) (map told_of told.story.events.items) ≡ events_on_names t (named_discipline o.discipline) o.choices o.steps s.word.items ∥₁
+  pub last_choice : ∥ option_map decision_of told.story.last_choice ≡ (names_telling t (named_discipline o.discipline) o.choices o.steps s.word.items).past.choice ∥₁
+  pub waits : ∥ map (wait_on_names (legend_seen l)) (map wait_of told.story.waits.items) ≡ who_waits_on_names t (named_discipline o.discipline) o.choices o.steps s.word.items ∥₁
+  pub stop : ∥ option_map halted_seen told.story.stop ≡ stop_on_names t (named_discipline o.discipline) o.choices o.steps s.word.items ∥₁
+  pub end : answer_of told.story.end ≡ run (named t (named_discipline o.discipline)) o.choices o.steps s.word.items
   pub constants : r.names ≡ constant_names t.program
 
 -- ---- the outcomes of all schedules

@@ -1,5 +1,5 @@
 -- The outcomes of all schedules, from the slot machine on.
-use Rattle.std.specs.Prelude.{◌≡◌, ℕ, List, ◌∷◌, ◌++◌, Bool, true, false, string_bytes, if◌then◌else◌}
+use Rattle.std.specs.Prelude.{◌≡◌, ℕ, List, ◌∷◌, ◌++◌, Bool, true, false, codes, string_bytes, if◌then◌else◌}
 use Rattle.cp_slots.specs.Tables.{Tables}
 use Rattle.cp_legend.specs.declared.legend.Legend as code_legend
 use Rattle.cp_tool.specs.declared.options.Options.{Options}
@@ -35,12 +35,12 @@ pub record AreOutcomesOf (form : Format) (o : Options) (r : Tables) (l : code_le
   pub verdict_is : verdict ≡ verdict_on summary.is_whole
   pub text_is : text ≡ string_bytes summary.text
 
--- Behind them stands what no schedule comes to; of that, and of JSON, nothing is said.
-abbrev pub IsBefore : (json : Bool) → (told text : List ℕ) → Type 0
-IsBefore true told text = Unit {0}
-IsBefore false told text = (cover : List ℕ) × (text ≡ told ++ 10 ∷ cover)
+-- Behind them stands what no schedule comes to: after an empty line, or as the last member of the object. Of that itself nothing is said.
+abbrev pub HasCover : (json : Bool) → (told cover text : List ℕ) → Type 0
+HasCover false told cover text = text ≡ told ++ 10 ∷ cover
+HasCover true told cover text = (front : List ℕ) → told ≡ front ++ codes "}\n" → text ≡ front ++ codes ",\"cover\":" ++ cover ++ codes "}\n"
 
 -- where that is asked for
 abbrev pub IsCovered : (json cover : Bool) → (told text : List ℕ) → Type 0
-IsCovered json true told text = IsBefore json told text
+IsCovered json true told text = (cover : List ℕ) × HasCover json told cover text
 IsCovered json false told text = text ≡ told

@@ -1,8 +1,8 @@
 //! What no schedule comes to, after the outcomes.
 
-ghost use Rattle.std.specs.Prelude.{◌≡◌, IfOk, string_bytes};
+ghost use Rattle.std.specs.Prelude.{◌≡◌, true, IfOk, string_bytes};
 ghost use Rattle.cp_show_mark.specs.declared.answer.ShowAnswer as answers;
-ghost use Rattle.cpx_show.specs.Summaries.{IsBefore};
+ghost use Rattle.cpx_show.specs.Summaries.{HasCover, IsCovered};
 
 use cp_cover::{Gaps, cover_json, cover_text, entries_of, find_coverage, gaps_of};
 use cp_front::Loaded;
@@ -23,7 +23,7 @@ pub fn with_coverage<O: ObserveProgress>(
     answer: Result<ShowAnswer, AllocError>,
     as_json: bool,
 ) -> Result<ShowAnswer, AllocError>
-    ensures { IfOk result (λ a. (before : answers.ShowAnswer) × (answer ≡ Ok before) × (a.verdict ≡ before.verdict) × IsBefore as_json (string_bytes before.text) (string_bytes a.text)) }
+    ensures { IfOk result (λ a. (before : answers.ShowAnswer) × (answer ≡ Ok before) × (a.verdict ≡ before.verdict) × IsCovered as_json true (string_bytes before.text) (string_bytes a.text)) }
 {
     let answer = answer?;
     let text = text_with_gaps(
@@ -50,7 +50,7 @@ fn text_with_gaps<O: ObserveProgress>(
     told: &str,
     as_json: bool,
 ) -> Result<String, AllocError>
-    ensures { IfOk result (λ text. IsBefore as_json told.now (string_bytes text)) }
+    ensures { IfOk result (λ text. IsCovered as_json true told.now (string_bytes text)) }
 {
     let gaps = gaps_within(alloc, options, observer, loaded, legend)?;
     if as_json {
@@ -77,9 +77,10 @@ fn gaps_within<O: ObserveProgress>(
     gaps_of(alloc, program, legend, &entries, &coverage)
 }
 
-// An object on a line of its own, with one member more.
-fn with_member(alloc: Global, object: &str, cover: &str) -> Result<String, AllocError> {
-    let before = object.trim_end();
-    let before = before.strip_suffix('}').unwrap_or(before);
-    format!(in alloc; "{before},\"cover\":{cover}}}\n")
+// An object on a line of its own, with one member more, behind those that stand in the order of their names.
+fn with_member(alloc: Global, object: &str, cover: &str) -> Result<String, AllocError>
+    ensures { IfOk result (λ text. HasCover true object.now cover.now (string_bytes text)) }
+{
+    let front = object.strip_suffix("}\n").unwrap_or(object);
+    format!(in alloc; "{front},\"cover\":{cover}}}\n")
 }

@@ -1,6 +1,6 @@
 -- A mark by what a search that makes kernel calls at once found is true of the program on its own names.
 use Rattle.std.proofs.Common.{◌≡◌, ◌⊎◌, inl, inr, ◌∙◌, ◌+◌, ℕ, zero, suc, Bool, true, false, not, ◌&&◌, ◌||◌, List, [], ◌∷◌, map, length, cond, refl, sym, ap, subst, arith}
-use Rattle.std.specs.Prelude.{Contains, IfOk, None, Option, Result, Some, find, nat_le, nat_lt, option_map, slice_get}
+use Rattle.std.specs.Prelude.{Contains, Err, IfOk, None, Ok, Option, Result, Some, find, nat_le, nat_lt, option_map, slice_get}
 use Rattle.std.specs.List.{list_any}
 use Rattle.std.proofs.lemmas.Bool.{leb-true, ltb-true}
 use Rattle.std.proofs.lemmas.Result.{IfOk-weaker}
@@ -21,9 +21,10 @@ use Rattle.cp_at_once_laws.specs.OnSlots.{LeavesNone}
 use Rattle.cp_at_once_laws.proofs.names.Repeating.{repeats_by_one}
 use Rattle.cp_verdict.specs.waiting.Asking.{name_who}
 use Rattle.cp_verdict.specs.waiting.EndsJudged.{IsJudgedByAny}
+use Rattle.cp_verdict.specs.waiting.EndsMarked as who_in_ends
 use Rattle.cp_verdict.proofs.any_length.Verdicts.{judged_each}
 use Rattle.cp_verdict.proofs.who.EndsMarks.{unnamed}
-use Rattle.cp_verdict.specs.endless.AtOnce.{IsAgain, IsKnownAtOnce, IsMarkAtOnce, IsMarkInTurn, at_any_limit, can_be_at_once, knows_end, knows_value}
+use Rattle.cp_verdict.specs.endless.AtOnce.{IsAgain, IsEndsMark, IsKnownAtOnce, IsMarkAtOnce, IsMarkInTurn, at_any_limit, can_be_at_once, knows_end, knows_value}
 use Rattle.cp_verdict.specs.endless.Behaviour.{Behaviour, Finding, Ends, Shows, Waits, IsSo}
 use Rattle.cp_verdict.specs.endless.Expectations.{HasSettling, IsTrue, IsTrueIf, asks_some, is_about, is_against_only, is_value_named, is_waiting_named, settles_by}
 use Rattle.cp_verdict.specs.endless.Judged.{earlier_of, found_about, found_by, found_settling, or_other}
@@ -311,3 +312,19 @@ module _ {E : Type 0} (r : Tables) (ps : Processes) (discipline : Discipline) (s
 
     pub in_turn : IfOk told (λ m. IsAgain r ps discipline steps es before m.mark) → IfOk told (λ m. IsMarkInTurn r ps discipline steps most es m.mark)
     in_turn h = IfOk-weaker told (λ m. IsAgain r ps discipline steps es before m.mark) (λ m. IsMarkInTurn r ps discipline steps most es m.mark) (λ m x. by_turns m.mark x) h
+
+-- ---- by all states
+
+module _ (r : Tables) (ps : Processes) (discipline : Discipline) (steps : ℕ) (es : List Expectation) (most : ℕ) where
+  pub is_ends_mark : (m : EndsMark) → (name_who es ≡ false → IsMarkOf r ps discipline steps most es m) → (name_who es ≡ false → IsMeantMark r ps discipline steps es m) → who_in_ends.IsMarkOf r ps discipline steps most es m → who_in_ends.IsMeantMark r ps discipline steps es m → IsEndsMark r ps discipline steps most es m
+  is_ends_mark m mark meaning who who_meant = (λ none. inl (mark none, meaning none), λ named. (who, who_meant))
+
+  module _ {E : Type 0} where
+    pub by_states : (told : Result MarkedEnds E) → (name_who es ≡ false → IfOk told (λ m. IsMarkOf r ps discipline steps most es m.mark)) → (name_who es ≡ false → IfOk told (λ m. IsMeantMark r ps discipline steps es m.mark)) → IfOk told (λ m. who_in_ends.IsMarkOf r ps discipline steps most es m.mark) → IfOk told (λ m. who_in_ends.IsMeantMark r ps discipline steps es m.mark) → IfOk told (λ m. IsEndsMark r ps discipline steps most es m.mark)
+    by_states (Ok m) mark meaning who who_meant = is_ends_mark m.mark mark meaning who who_meant
+    by_states (Err e) mark meaning who who_meant = tt
+
+    -- or by calls at once, where nobody is named
+    pub turned : (told : Result MarkedEnds E) → (name_who es ≡ false → IfOk told (λ m. IsMarkInTurn r ps discipline steps most es m.mark)) → (name_who es ≡ true → IfOk told (λ m. who_in_ends.IsMarkOf r ps discipline steps most es m.mark)) → (name_who es ≡ true → IfOk told (λ m. who_in_ends.IsMeantMark r ps discipline steps es m.mark)) → IfOk told (λ m. IsEndsMark r ps discipline steps most es m.mark)
+    turned (Ok m) nobody who who_meant = (nobody, λ named. (who named, who_meant named))
+    turned (Err e) nobody who who_meant = tt

@@ -30,7 +30,6 @@ use Rattle.cp_endless_laws.proofs.names.Meant.{leaves}
 use Rattle.cp_endless_laws.proofs.names.Processes.{waits_so}
 use Rattle.cp_endless_laws.proofs.names.Together.{ChoicesAlike}
 use Rattle.cp_expectation.specs.declared.expectation.Expectation.{Expectation}
-use Rattle.cp_waiting_ends.specs.Waiting.{who_waits}
 use Rattle.cp_verdict.specs.endless.Naming.{Processes}
 use Rattle.cp_verdict.specs.waiting.Marked.{IsMarked}
 use Rattle.cp_verdict.specs.waiting.Meant.{IsMeantMark, IsSlotMark}

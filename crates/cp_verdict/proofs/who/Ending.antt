@@ -1,5 +1,5 @@
 -- The ends at which all wait that words of at most so many choices lead to are those of the rows of a table.
-use Rattle.std.proofs.Common.{◌≡◌, ◌∙◌, ◌≤◌, ℕ, Bool, true, false, List, length, refl, sym, ap, subst}
+use Rattle.std.proofs.Common.{◌≡◌, ◌∙◌, ℕ, Bool, true, List, refl, sym, ap}
 use Rattle.std.specs.Prelude.{Contains}
 use Rattle.std.specs.declared.alloc.Global.{Global}
 use Rattle.std.specs.declared.vec.Vec.{Vec}
@@ -7,13 +7,12 @@ use Rattle.cp_machine.specs.declared.shown.Shown.{Shown}
 use Rattle.cp_run.specs.declared.outcome.Outcome.{Outcome}
 use Rattle.cp_run.specs.declared.outcome.OutcomeKind.{OutcomeKind}
 use Rattle.cp_run.specs.declared.outcome.OutcomeKind.TheVariants.{Finished, AllWaiting, RunError, ChoiceLimit, StepLimit, OutputLimit}
-use Rattle.cp_run.specs.Run.{Halted, opened}
+use Rattle.cp_run.specs.Run.{opened}
 use Rattle.cp_run.specs.Stop.{last_state}
 use Rattle.cp_run.specs.System.{System}
 use Rattle.cp_run.specs.Table.{Line, IsAmong, table}
-use Rattle.cp_endless_laws.specs.Reachable.{LeadsTo}
-use Rattle.cp_waiting_ends.specs.Ending.{AreEndsWithin, EndsWaiting}
-use Rattle.cp_waiting_ends.specs.Waiting.{WaitsSo, entry_seen, who_waits}
+use Rattle.cp_waiting_ends.specs.Ending.{AreEndsWithin}
+use Rattle.cp_waiting_ends.specs.Waiting.{WaitsSo, who_waits}
 use Rattle.cp_waiting_ends.specs.declared.end.WaitingEnd.{WaitingEnd}
 use Rattle.cp_waiting_ends.specs.declared.ends.WaitingEnds.{WaitingEnds}
 use Rattle.cp_verdict.specs.waiting.Matching.{is_waiting, is_waiting_kind}

@@ -1,18 +1,13 @@
 -- What is known of an expectation that names who waits at an end, by what the code finds.
-use Rattle.std.proofs.Common.{◌≡◌, ◌⊎◌, inl, inr, ◌∙◌, ℕ, Bool, true, false, not, ◌&&◌, ◌||◌, List, [], ◌∷◌, ◌++◌, map, cond, refl, sym, ap, subst}
-use Rattle.std.specs.Prelude.{Contains, find, Option, None, Some, is_some, nat_le, option_map, vec_len}
+use Rattle.std.proofs.Common.{◌≡◌, inl, inr, ◌∙◌, ℕ, Bool, true, false, not, ◌&&◌, ◌||◌, List, [], ◌∷◌, ◌++◌, map, cond, refl, sym, ap, subst}
+use Rattle.std.specs.Prelude.{find, Option, None, Some, option_map}
 use Rattle.std.specs.List.{list_any, list_all}
 use Rattle.cp_slots.specs.Tables.{Tables}
 use Rattle.cp_machine.specs.declared.discipline.Discipline.{Discipline}
-use Rattle.cp_machine.specs.declared.shown.Shown.{Shown}
-use Rattle.cp_run.specs.declared.outcome.OutcomeKind.{OutcomeKind}
 use Rattle.cp_run.specs.declared.outcome.OutcomeKind.TheVariants.{Finished, AllWaiting, RunError, ChoiceLimit, StepLimit, OutputLimit}
-use Rattle.cp_ends.specs.Firsts.{Within}
 use Rattle.cp_ends.specs.declared.end.End.{End}
 use Rattle.cp_ends.specs.declared.end.End.TheVariants.{Over, Alone, Spins}
-use Rattle.cp_ends.specs.declared.found.TheConstants.{MOST_VALUES}
 use Rattle.cp_ends.proofs.Searching.Lists.{contains_at, place_of}
-use Rattle.cp_waits.specs.declared.waiting.Waiting.{Waiting}
 use Rattle.cp_expectation.specs.declared.expectation.Claim.{Claim}
 use Rattle.cp_expectation.specs.declared.expectation.Claim.TheVariants.{Never, Sometimes, Only}
 use Rattle.cp_expectation.specs.declared.expectation.Expectation.{Expectation}
@@ -25,7 +20,7 @@ use Rattle.cp_verdict.specs.endless.Judged.{earlier_of, judgement_of, or_other}
 use Rattle.cp_verdict.specs.endless.Knowledge.{IsKnown, Looked, ended, end_pair, finding_of, is_kept, is_settled, is_whole, shown, those_waiting, value_pair, waiting_for_ever}
 use Rattle.cp_verdict.specs.endless.Marked.{with_tables}
 use Rattle.cp_verdict.specs.endless.Naming.{Names, Processes}
-use Rattle.cp_verdict.specs.waiting.Ends.{HasSettling, IsTrueIf, is_waiting, settles, settles_end}
+use Rattle.cp_verdict.specs.waiting.Ends.{IsTrueIf, is_waiting, settles, settles_end}
 use Rattle.cp_verdict.specs.waiting.EndsJudged.{IsJudged, found_by, found_end, found_settling}
 use Rattle.cp_verdict.specs.waiting.Known.{KnowsWho}
 use Rattle.cp_verdict.specs.waiting.Who.{who_on_slots}

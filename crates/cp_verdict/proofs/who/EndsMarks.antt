@@ -1,5 +1,5 @@
 -- Verdicts on expectations that may name who waits at an end.
-use Rattle.std.proofs.Common.{◌≡◌, ℕ, zero, suc, Bool, true, false, List, [], ◌∷◌, subst}
+use Rattle.std.proofs.Common.{◌≡◌, ℕ, zero, suc, Bool, false, List, [], ◌∷◌, subst}
 use Rattle.std.specs.Prelude.{Contains, Some, slice_get}
 use Rattle.std.specs.List.{list_any}
 use Rattle.cp_ends.proofs.Searching.Lists.{place_of}

@@ -13,8 +13,6 @@ use Rattle.cp_meaning.specs.State.{Discipline}
 use Rattle.cp_machine_laws.specs.Named.{discipline_of, named_discipline}
 use Rattle.cp_machine_laws.proofs.Disciplines.{same_discipline}
 use Rattle.cp_ends.specs.declared.end.End.{End}
-use Rattle.cp_ends.specs.declared.end.End.TheVariants.{Over}
-use Rattle.cp_run.specs.declared.outcome.OutcomeKind.TheVariants.{AllWaiting}
 use Rattle.cp_ends.proofs.Searching.Lists.{place_of}
 use Rattle.cp_expectation.specs.declared.expectation.Expectation.{Expectation}
 use Rattle.cp_verdict.specs.endless.Behaviour.{Behaviour, Finding, Ends, Shows, Waits, IsSo, on_names, on_slots}

@@ -1,6 +1,6 @@
 -- What a table says of an expectation by who waits at the ends of its rows, from what the code finds.
-use Rattle.std.proofs.Common.{◌≡◌, ◌≢◌, ◌⊎◌, inl, inr, ◌∙◌, ℕ, Bool, true, false, not, ◌&&◌, ◌||◌, List, [], ◌∷◌, map, cond, refl, sym, ap, subst}
-use Rattle.std.specs.Prelude.{Contains, find, Option, None, Some, option_map}
+use Rattle.std.proofs.Common.{◌≡◌, ◌≢◌, ◌∙◌, ℕ, Bool, true, false, not, ◌&&◌, ◌||◌, List, [], ◌∷◌, map, cond, refl, sym, ap, subst}
+use Rattle.std.specs.Prelude.{find, Option, None, Some, option_map}
 use Rattle.std.specs.List.{list_any, list_all}
 use Rattle.cp_run.specs.declared.outcome.Outcome.{Outcome}
 use Rattle.cp_run.specs.declared.outcome.OutcomeKind.{OutcomeKind}

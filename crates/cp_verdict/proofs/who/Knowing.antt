@@ -1,5 +1,5 @@
 -- Who waits at the ends that a search of ends found, gone on from once more.
-use Rattle.std.proofs.Common.{◌≡◌, ◌∙◌, ◌+◌, ◌≤◌, ◌++◌, ℕ, List, length, map, take, refl, sym, ap, subst, arith}
+use Rattle.std.proofs.Common.{◌≡◌, ◌∙◌, ◌+◌, ◌++◌, ℕ, List, length, map, take, refl, sym, ap, subst, arith}
 use Rattle.std.specs.Prelude.{Contains, Option, None, Some, option_map, slice_get}
 use Rattle.std.specs.declared.alloc.Global.{Global}
 use Rattle.std.specs.declared.vec.Vec.{Vec}
@@ -7,14 +7,11 @@ use Rattle.cp_slots.specs.Tables.{Tables}
 use Rattle.cp_machine.specs.System.{Machine}
 use Rattle.cp_machine.specs.declared.discipline.Discipline.{Discipline}
 use Rattle.cp_run.specs.declared.outcome.OutcomeKind.TheVariants.{AllWaiting}
-use Rattle.cp_run.specs.Run.{Halted, opened}
-use Rattle.cp_run.specs.declared.outcome.Outcome.{Outcome}
-use Rattle.cp_ends.specs.Firsts.{Within}
-use Rattle.cp_ends.specs.Holds.{Holds, SlotFindings}
+use Rattle.cp_run.specs.Run.{opened}
+use Rattle.cp_ends.specs.Holds.{SlotFindings}
 use Rattle.cp_ends.specs.Whole.{IsAnswerBy}
 use Rattle.cp_ends.specs.declared.end.End.{End}
 use Rattle.cp_ends.specs.declared.end.End.TheVariants.{Over}
-use Rattle.cp_endless_laws.specs.Reachable.{LeadsTo}
 use Rattle.cp_endless_laws.specs.Silent.{silent_slots, waits_on_slots}
 use Rattle.cp_waiting_ends.specs.Again as again
 use Rattle.cp_waiting_ends.specs.Again.{AreEndsOf, EndsSo}

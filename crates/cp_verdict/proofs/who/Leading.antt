@@ -1,11 +1,11 @@
 -- Words that lead to ends, and the rows of a table.
-use Rattle.std.proofs.Common.{◌≡◌, ◌⊎◌, inl, inr, ◌∙◌, ◌<◌, ◌≤◌, ℕ, zero, suc, Bool, true, false, ◌&&◌, ◌==◌, nat_lt, if◌then◌else◌, List, [], ◌∷◌, ◌++◌, length, map, Option, None, Some, refl, sym, ap, subst, arith}
+use Rattle.std.proofs.Common.{◌≡◌, inl, inr, ◌∙◌, ◌<◌, ◌≤◌, ℕ, zero, suc, Bool, true, false, ◌&&◌, ◌==◌, nat_lt, if◌then◌else◌, List, [], ◌∷◌, ◌++◌, length, map, Option, None, Some, refl, sym, ap, subst, arith}
 use Rattle.std.proofs.lemmas.Bool.{cases_lt, eq-eqb, eqb-true, ltb-true}
 use Rattle.cp_run.specs.declared.outcome.Outcome.{Outcome}
 use Rattle.cp_run.specs.declared.outcome.OutcomeKind.{OutcomeKind}
-use Rattle.cp_run.specs.declared.outcome.OutcomeKind.TheVariants.{Finished, AllWaiting, RunError, ChoiceLimit, StepLimit, OutputLimit}
+use Rattle.cp_run.specs.declared.outcome.OutcomeKind.TheVariants.{AllWaiting, ChoiceLimit}
 use Rattle.cp_run.specs.Run.{Answer, Ended, NotReady, Wants, Node, Halted, Choosing, chosen, joined_below, later, may, opened, run, run_from}
-use Rattle.cp_run.specs.Stop.{last_state, last_state_from}
+use Rattle.cp_run.specs.Stop.{last_state_from}
 use Rattle.cp_run.specs.System.{System}
 use Rattle.cp_run.specs.Table.{Line, IsAmong, Here, There, each, lines_of, table, words}
 use Rattle.cp_endless_laws.specs.Reachable.{LeadsTo, node_after}

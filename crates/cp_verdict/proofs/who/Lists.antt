@@ -1,6 +1,6 @@
 -- What is in a list, in the list of what comes of its things, and in those that pass a test.
 use Rattle.std.proofs.Common.{◌≡◌, ℕ, zero, suc, Bool, true, false, ◌||◌, List, [], ◌∷◌, map, cond, refl, sym, ap, subst}
-use Rattle.std.specs.Prelude.{All, Contains, filter, Some, slice_get}
+use Rattle.std.specs.Prelude.{Contains, filter, Some, slice_get}
 use Rattle.std.specs.List.{list_any}
 use Rattle.std.proofs.lemmas.List.Elements.{All-contains, All-contains_itself, All-filter, Contains-append_right, filter_passes}
 use Rattle.cp_ends.proofs.Searching.Lists.{contains_at, place_of}

@@ -1,16 +1,15 @@
 -- The rows of a table by who waits at their ends, from its outcomes and the ends at which all wait.
-use Rattle.std.proofs.Common.{◌≡◌, ◌⊎◌, inl, inr, ⊎_elim, ◌∙◌, ℕ, ◌+◌, Bool, true, false, not, ◌||◌, if◌then◌else◌, List, [], ◌∷◌, ◌++◌, ◌≤◌, length, map, take, refl, sym, ap, subst, arith, append_assoc, append-nil}
+use Rattle.std.proofs.Common.{◌≡◌, ⊎_elim, ◌∙◌, ℕ, ◌+◌, Bool, true, false, not, if◌then◌else◌, List, [], ◌∷◌, ◌++◌, ◌≤◌, length, map, take, refl, sym, ap, subst, arith, append_assoc}
 use Rattle.std.specs.Prelude.{Contains, Option, None, Some, option_map, slice_get}
-use Rattle.std.specs.List.{list_any}
 use Rattle.std.specs.List.Sorted.{IsPermutation}
 use Rattle.std.proofs.lemmas.List.{map-append}
 use Rattle.std.proofs.lemmas.List.Elements.{Contains-append_cases, Contains-append_left, Contains-append_right, Contains-push_cases}
 use Rattle.std.proofs.lemmas.List.Sorted.{Contains-permutation, IsPermutation-sym}
 use Rattle.std.specs.declared.alloc.Global.{Global}
 use Rattle.std.specs.declared.vec.Vec.{Vec}
-use Rattle.cp_run.specs.Table.{Line, IsAmong, Here, There}
+use Rattle.cp_run.specs.Table.{Line, IsAmong}
 use Rattle.cp_run.specs.declared.outcome.Outcome.{Outcome}
-use Rattle.cp_walk.specs.Report.{firsts, outcomes_of, same_outcome}
+use Rattle.cp_walk.specs.Report.{outcomes_of}
 use Rattle.cp_ends.proofs.Searching.Lists.{contains_at}
 use Rattle.cp_waiting_ends.proofs.Waits.{take_one}
 use Rattle.cp_waiting_ends.specs.Waiting.{WaitsSo, entry_word, those_in}
@@ -21,10 +20,8 @@ use Rattle.cp_verdict.specs.waiting.Matching.{is_waiting}
 use Rattle.cp_verdict.specs.waiting.Rows.{AreEndsIn, AreRowsOf, HaveShortEnds, HaveShortWords, end_row, other_row, others_in, row_seen, who_of}
 use Rattle.cp_verdict.specs.declared.seen.Seen.{Seen}
 use Rattle.cp_verdict.specs.declared.waiting.rows.SeenWaiting.{SeenWaiting}
-use Rattle.cp_verdict.proofs.Exact.{exact}
-use Rattle.cp_verdict.proofs.Finding.{any_of}
 use Rattle.cp_verdict.proofs.any_length.Finding.{some_same}
-use Rattle.cp_verdict.proofs.who.Lists.{among, contained, in_filter, in_map, of_filter, of_map, of_same_map}
+use Rattle.cp_verdict.proofs.who.Lists.{among, contained, in_filter, in_map, of_filter, of_map}
 use Rattle.cp_verdict.proofs.who.Outcomes.{first_among, outcome_first}
 
 -- who waits, the outcome, and the schedule

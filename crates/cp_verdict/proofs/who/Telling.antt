@@ -1,5 +1,5 @@
 -- What the code finds first is what settles an expectation first, where it names who waits at an end.
-use Rattle.std.proofs.Common.{◌≡◌, ◌≢◌, ◌∙◌, Bool, true, false, not, ◌&&◌, List, [], map, refl, sym, ap}
+use Rattle.std.proofs.Common.{◌≡◌, ◌≢◌, ◌∙◌, not, ◌&&◌, [], map, refl, sym, ap}
 use Rattle.std.specs.Prelude.{find, Option, None, Some, option_map, string_bytes}
 use Rattle.std.specs.Borrow.{Bor}
 use Rattle.cp_waits.specs.declared.waiting.Waiting.{Waiting}

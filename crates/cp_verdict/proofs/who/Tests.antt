@@ -1,5 +1,5 @@
 -- Where nobody is named, or not all wait, it is not asked who waits.
-use Rattle.std.proofs.Common.{◌≡◌, ◌∙◌, ℕ, Bool, true, false, not, ◌&&◌, ◌||◌, List, [], ◌∷◌, refl, sym, ap, subst}
+use Rattle.std.proofs.Common.{◌≡◌, ◌∙◌, ℕ, Bool, true, false, not, ◌&&◌, ◌||◌, List, [], ◌∷◌, refl, sym, ap}
 use Rattle.std.specs.Prelude.{None, Some}
 use Rattle.std.specs.List.{list_any, list_all}
 use Rattle.cp_run.specs.declared.outcome.Outcome.{Outcome}
@@ -21,7 +21,7 @@ use Rattle.cp_verdict.specs.endless.Expectations as ends
 use Rattle.cp_verdict.specs.endless.Expectations.{is_cut, is_of}
 use Rattle.cp_verdict.specs.endless.Behaviour.{Finding, Ends, Shows, Waits}
 use Rattle.cp_verdict.specs.endless.Naming.{Names, Processes}
-use Rattle.cp_verdict.specs.waiting.Asking.{is_of_who, name_who, names_who}
+use Rattle.cp_verdict.specs.waiting.Asking.{is_of_who, names_who}
 use Rattle.cp_verdict.specs.waiting.Ends as spec
 use Rattle.cp_verdict.specs.waiting.Matching as matching
 

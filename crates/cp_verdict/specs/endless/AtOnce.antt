@@ -1,5 +1,5 @@
 -- What a search that makes kernel calls at once lets one know, and the marks by it.
-use Rattle.std.specs.Prelude.{◌≡◌, ◌⊎◌, ◌&&◌, ◌||◌, ℕ, List, Bool, true, not, map, nat_lt, All, length}
+use Rattle.std.specs.Prelude.{◌≡◌, ◌⊎◌, ◌&&◌, ◌||◌, ℕ, List, Bool, true, false, not, map, nat_lt, All, length}
 use Rattle.std.specs.List.{list_any}
 use Rattle.cp_tree.specs.Syntax.{Tree}
 use Rattle.cp_slots.specs.Tables.{Tables}
@@ -27,6 +27,7 @@ use Rattle.cp_verdict.specs.endless.Knowledge.{HasTexts, end_pair, is_whole, val
 use Rattle.cp_verdict.specs.endless.Marked.{AreJudged, IsMarkOf, IsMeantMark, IsTrueMark, ask_waits, mark_of, with_tables}
 use Rattle.cp_verdict.specs.endless.Naming.{Processes}
 use Rattle.cp_verdict.specs.waiting.Asking.{name_who}
+use Rattle.cp_verdict.specs.waiting.EndsMarked as who_in_ends
 use Rattle.cp_expectation.specs.declared.expectation.Expectation.{Expectation}
 use Rattle.cp_verdict.specs.declared.endless.known.KnownEnds.{KnownEnds}
 use Rattle.cp_verdict.specs.declared.endless.verdict.EndsMark.{EndsMark}
@@ -68,7 +69,7 @@ pub record IsKnownAtOnce (r : Tables) (steps : ℕ) (k : KnownEnds) : Type 0 whe
 
 -- ---- marks
 
--- who waits, for ever or at an end, can't be asked then, nor what another discipline than the book's leads to
+-- they settle neither who waits, for ever or at an end, nor what another discipline than the book's leads to
 abbrev pub can_be_at_once : Discipline → List Expectation → Bool
 can_be_at_once discipline es = (is_of_the_book discipline && not (ask_waits es)) && not (name_who es)
 
@@ -89,3 +90,8 @@ IsAgain r ps discipline steps es before after = (after ≡ before) ⊎ ((discipl
 abbrev pub IsMarkInTurn : Tables → Processes → Discipline → (steps most : ℕ) → List Expectation → EndsMark → Type 0
 IsMarkInTurn r ps discipline steps most es m =
     (IsMarkOf r ps discipline steps most es m × IsMeantMark r ps discipline steps es m) ⊎ (IsMarkOf r ps discipline steps most es TooMany × (discipline ≡ by_the_book) × IsMarkAtOnce r ps steps es m)
+
+-- The same where nobody is named; else it is the mark by all states with who waits at their ends. And it is true of the program on its own names.
+abbrev pub IsEndsMark : Tables → Processes → Discipline → (steps most : ℕ) → List Expectation → EndsMark → Type 0
+IsEndsMark r ps discipline steps most es m =
+    (name_who es ≡ false → IsMarkInTurn r ps discipline steps most es m) × (name_who es ≡ true → who_in_ends.IsMarkOf r ps discipline steps most es m × who_in_ends.IsMeantMark r ps discipline steps es m)

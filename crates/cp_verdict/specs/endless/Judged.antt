@@ -1,5 +1,5 @@
 -- What is known of an expectation.
-use Rattle.std.specs.Prelude.{◌≡◌, ◌⊎◌, Bool, true, false, not, List, find, map, Option, None, Some, option_map, if◌then◌else◌}
+use Rattle.std.specs.Prelude.{◌≡◌, ◌⊎◌, Bool, true, false, List, find, map, Option, None, Some, option_map, if◌then◌else◌}
 use Rattle.cp_ends.specs.Firsts.{is_up_to}
 use Rattle.cp_expectation.specs.declared.expectation.Claim.{Claim}
 use Rattle.cp_expectation.specs.declared.expectation.Claim.TheVariants.{Only}

@@ -1,5 +1,5 @@
 -- What is known of the schedules of a program.
-use Rattle.std.specs.Prelude.{◌≡◌, ◌&&◌, ℕ, suc, List, [], Bool, true, not, map, nat_le, Option, None, Some, is_none, is_some, Contains, string_bytes, filter, length, slice_get, vec_len}
+use Rattle.std.specs.Prelude.{◌≡◌, ◌&&◌, ℕ, suc, List, [], Bool, true, not, map, nat_le, nat_lt, Option, None, Some, is_none, is_some, Contains, string_bytes, filter, length, slice_get, vec_len}
 use Rattle.std.specs.List.{list_all}
 use Rattle.std.specs.declared.vec.Vec.{Vec}
 use Rattle.std.specs.declared.alloc.Global.{Global}
@@ -29,6 +29,7 @@ use Rattle.cp_verdict.specs.declared.endless.known.KnownEnd.{KnownEnd}
 use Rattle.cp_verdict.specs.declared.endless.known.KnownValue.{KnownValue}
 use Rattle.cp_verdict.specs.declared.endless.known.Witness.{Witness}
 use Rattle.cp_verdict.specs.declared.endless.known.Witness.TheVariants as witness
+use Rattle.cp_verdict.specs.declared.program.Stops.{Stops}
 
 abbrev pub end_pair : KnownEnd → End × List ℕ
 end_pair e = (e.end, e.word.items)
@@ -59,6 +60,10 @@ those_waiting (Some list) = list.items
 -- all schedules were looked at, and no stretch was cut
 abbrev pub is_whole : KnownEnds → Bool
 is_whole k = is_none k.looked && list_all (λ e. not (is_cut e.end)) k.ends.items
+
+-- the limits that were met: there are more states, a stretch was cut, or more values can be displayed than are kept
+abbrev pub stops_of : KnownEnds → Stops
+stops_of k = record { choices = is_some k.looked; steps = not (list_all (λ e. not (is_cut e.end)) k.ends.items); output = nat_lt MOST_VALUES (vec_len k.values) }
 
 -- all is kept that a topic speaks of
 abbrev pub is_kept : Topic → KnownEnds → Bool

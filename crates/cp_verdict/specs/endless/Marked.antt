@@ -1,11 +1,9 @@
 -- What is known of some expectations together.
-use Rattle.std.specs.Prelude.{◌≡◌, ◌⊎◌, ◌&&◌, ℕ, List, Bool, true, false, not, Option, None, Some, Contains}
+use Rattle.std.specs.Prelude.{◌≡◌, ◌⊎◌, ℕ, List, Bool, true, false, Option, None, Some, Contains}
 use Rattle.std.specs.List.{list_any}
 use Rattle.std.specs.Borrow.{Bor}
 use Rattle.cp_slots.specs.Tables.{Tables}
 use Rattle.cp_machine.specs.declared.discipline.Discipline.{Discipline}
-use Rattle.cp_machine.specs.declared.discipline.Gates.{Gates}
-use Rattle.cp_machine.specs.declared.discipline.Gates.TheVariants.{First, Any}
 use Rattle.cp_machine_laws.specs.Named.{named_discipline}
 use Rattle.cp_ends.specs.Whole.{OfItsPrograms}
 use Rattle.cp_verdict.specs.endless.Behaviour.{Behaviour, on_slots, on_names}
@@ -63,18 +61,6 @@ asks_waits e = list_any is_of_waiting e.topics.items
 
 abbrev pub ask_waits : List Expectation → Bool
 ask_waits es = list_any asks_waits es
-
--- anybody in line may go into a monitor that becomes free
-abbrev pub are_any : Gates → Bool
-are_any First = false
-are_any Any = true
-
-abbrev pub is_any : Discipline → Bool
-is_any discipline = are_any discipline.gates
-
--- who waits can't be asked then
-abbrev pub can_be_asked : Discipline → List Expectation → Bool
-can_be_asked discipline es = not (ask_waits es && is_any discipline)
 
 -- ---- marks
 

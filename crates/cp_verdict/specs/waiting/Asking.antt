@@ -1,5 +1,5 @@
 -- Which expectations name who waits at an end.
-use Rattle.std.specs.Prelude.{List, Bool, true, false, Option, Some}
+use Rattle.std.specs.Prelude.{List, Bool, true, false, Some}
 use Rattle.std.specs.List.{list_any}
 use Rattle.cp_expectation.specs.declared.expectation.EndPattern.TheVariants as pattern
 use Rattle.cp_expectation.specs.declared.expectation.Topic.{Topic}

@@ -1,5 +1,5 @@
 -- What is known of an expectation that may name who waits at an end.
-use Rattle.std.specs.Prelude.{◌≡◌, ◌⊎◌, ◌&&◌, ◌++◌, ℕ, List, [], Bool, true, false, not, Option, None, Some, find, map, option_map}
+use Rattle.std.specs.Prelude.{◌≡◌, ◌⊎◌, ◌&&◌, ◌++◌, ℕ, List, [], true, false, not, Option, find, map, option_map}
 use Rattle.std.specs.List.{list_any}
 use Rattle.cp_slots.specs.Tables.{Tables}
 use Rattle.cp_machine.specs.declared.discipline.Discipline.{Discipline}

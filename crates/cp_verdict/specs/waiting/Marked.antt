@@ -1,5 +1,5 @@
 -- What a table says of some expectations together, where they may name who waits at an end.
-use Rattle.std.specs.Prelude.{◌≡◌, ◌≢◌, ◌⊎◌, ℕ, List, [], ◌∷◌, Bool, true, false, Option, None, Some}
+use Rattle.std.specs.Prelude.{◌≡◌, ◌≢◌, ◌⊎◌, ℕ, List, [], ◌∷◌, true, false, Option, None, Some}
 use Rattle.std.specs.List.{list_any}
 use Rattle.cp_walk.specs.Text.{Spellings}
 use Rattle.cp_run.specs.Table.{Line, IsAmong}

@@ -2,11 +2,7 @@
 
 ghost use Rattle.std.specs.Prelude.{◌≡◌, ◌≤◌, ◌⊎◌, IfOk, false, true};
 ghost use Rattle.cp_verdict.specs.endless.AtOnce as spec;
-ghost use Rattle.cp_verdict.specs.endless.Marked.{can_be_asked};
 ghost use Rattle.cp_verdict.specs.endless.Naming.{processes_of};
-ghost use Rattle.cp_verdict.specs.waiting.Asking.{name_who};
-ghost use Rattle.cp_verdict.specs.waiting.EndsMarked as who_spec;
-ghost use Rattle.cp_verdict.specs.declared.endless.verdict.EndsMark.TheVariants.{Misread};
 
 use crate::endless::knowing_at_once::knowledge_at_once;
 use crate::endless::marking::{MarkSubject, ask_waits, mark_list, tell};
@@ -28,10 +24,7 @@ pub fn mark_in_turn<O: ObserveProgress>(
     list: &[Expectation],
     observer: &mut O,
 ) -> Result<MarkedEnds, AllocError>
-    ensures mark { 1 ≤ subject.entry.most → can_be_asked subject.entry.limits.discipline list.now ≡ true → name_who list.now ≡ false → IfOk result (λ m. spec.IsMarkInTurn subject.entry.program.now (processes_of subject.entry.legend.now) subject.entry.limits.discipline subject.entry.limits.steps subject.entry.most list.now m.mark) }
-    ensures refused { can_be_asked subject.entry.limits.discipline list.now ≡ false → IfOk result (λ m. m.mark ≡ Misread) }
-    ensures who { 1 ≤ subject.entry.most → can_be_asked subject.entry.limits.discipline list.now ≡ true → name_who list.now ≡ true → IfOk result (λ m. who_spec.IsMarkOf subject.entry.program.now (processes_of subject.entry.legend.now) subject.entry.limits.discipline subject.entry.limits.steps subject.entry.most list.now m.mark) }
-    ensures who_meant { 1 ≤ subject.entry.most → can_be_asked subject.entry.limits.discipline list.now ≡ true → name_who list.now ≡ true → IfOk result (λ m. who_spec.IsMeantMark subject.entry.program.now (processes_of subject.entry.legend.now) subject.entry.limits.discipline subject.entry.limits.steps list.now m.mark) }
+    ensures { 1 ≤ subject.entry.most → IfOk result (λ m. spec.IsEndsMark subject.entry.program.now (processes_of subject.entry.legend.now) subject.entry.limits.discipline subject.entry.limits.steps subject.entry.most list.now m.mark) }
 {
     let marked = mark_list(alloc, subject, list, observer)?;
     match marked.mark {
@@ -52,7 +45,7 @@ fn mark_again<O: ObserveProgress>(
     ensures again { IfOk result (λ m. spec.IsAgain subject.entry.program.now (processes_of subject.entry.legend.now) subject.entry.limits.discipline subject.entry.limits.steps list.now marked.mark m.mark) }
 {
     if can_be_at_once(subject.limits.discipline, list) {
-        let again = mark_at_once(alloc, subject, list, observer)?;
+        let again = search_at_once(alloc, subject, list, observer)?;
         tell_again(alloc, subject, marked, again)
     } else {
         Ok(marked)
@@ -87,7 +80,8 @@ fn can_be_at_once(discipline: Discipline, list: &[Expectation]) -> bool
     discipline.is_of_the_book() && !ask_waits(list) && !name_who(list)
 }
 
-/// What schedules of any length say of some expectations, where kernel calls are made at once. An observer is told how far the search has come.
+/// What schedules of any length say of some expectations, where kernel calls are made at once; or, where these can't settle it, what all states say. An observer
+/// is told how far the search has come.
 pub fn mark_at_once<O: ObserveProgress>(
     alloc: Global,
     subject: MarkSubject<'_>,
@@ -95,11 +89,24 @@ pub fn mark_at_once<O: ObserveProgress>(
     observer: &mut O,
 ) -> Result<MarkedEnds, AllocError>
     ensures mark { spec.can_be_at_once subject.entry.limits.discipline list.now ≡ true → IfOk result (λ m. spec.IsMarkAtOnce subject.entry.program.now (processes_of subject.entry.legend.now) subject.entry.limits.steps list.now m.mark) }
-    ensures refused { spec.can_be_at_once subject.entry.limits.discipline list.now ≡ false → IfOk result (λ m. m.mark ≡ Misread) }
+    ensures states { 1 ≤ subject.entry.most → spec.can_be_at_once subject.entry.limits.discipline list.now ≡ false → IfOk result (λ m. spec.IsEndsMark subject.entry.program.now (processes_of subject.entry.legend.now) subject.entry.limits.discipline subject.entry.limits.steps subject.entry.most list.now m.mark) }
 {
-    if !can_be_at_once(subject.limits.discipline, list) {
-        return MarkedEnds::misread(alloc, "waiting can't be asked with --at-once\n");
+    if can_be_at_once(subject.limits.discipline, list) {
+        search_at_once(alloc, subject, list, observer)
+    } else {
+        mark_list(alloc, subject, list, observer)
     }
+}
+
+// The mark by the search that makes kernel calls at once.
+fn search_at_once<O: ObserveProgress>(
+    alloc: Global,
+    subject: MarkSubject<'_>,
+    list: &[Expectation],
+    observer: &mut O,
+) -> Result<MarkedEnds, AllocError>
+    ensures { spec.can_be_at_once subject.entry.limits.discipline list.now ≡ true → IfOk result (λ m. spec.IsMarkAtOnce subject.entry.program.now (processes_of subject.entry.legend.now) subject.entry.limits.steps list.now m.mark) }
+{
     let MarkSubject {
         program,
         limits,

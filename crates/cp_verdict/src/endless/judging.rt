@@ -18,6 +18,7 @@ ghost use Rattle.cp_verdict.specs.endless.Knowledge as known_spec;
 
 use crate::endless::known::{KnownEnd, KnownEnds, KnownValue, Witness};
 use crate::endless::matching::{is_cut, is_named, is_value_named, is_waiting_named};
+use crate::program::Stops;
 use cp_ends::found::MOST_VALUES;
 use cp_expectation::{Claim, Expectation, Topic};
 use cp_legend::Legend;
@@ -151,6 +152,17 @@ pub fn is_whole(known: &KnownEnds) -> bool
     ensures { result ≡ known_spec.is_whole known.now }
 {
     known.looked.is_none() && has_no_cut(&known.ends)
+}
+
+/// The limits that were met: there are more states, a stretch was cut, or more values can be displayed than are kept.
+pub fn stops_of(known: &KnownEnds) -> Stops
+    ensures { result ≡ known_spec.stops_of known.now }
+{
+    Stops {
+        choices: known.looked.is_some(),
+        steps: !has_no_cut(&known.ends),
+        output: known.values.len() > MOST_VALUES,
+    }
 }
 
 // Whether all is kept that a topic speaks of.

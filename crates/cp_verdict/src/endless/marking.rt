@@ -6,14 +6,14 @@ ghost use Rattle.cp_machine.specs.declared.discipline.Discipline as slot_discipl
 ghost use Rattle.cp_ends.specs.Whole.{IsAnswer};
 ghost use Rattle.cp_ends.specs.declared.found.Found.{Found};
 ghost use Rattle.cp_waits.specs.Named.{TellAsked};
-ghost use Rattle.cp_verdict.specs.endless.Knowledge.{IsKnown, KnowsWaits};
+ghost use Rattle.cp_verdict.specs.endless.Knowledge.{IsKnown, KnowsWaits, stops_of};
 ghost use Rattle.cp_verdict.specs.endless.Marked as spec;
 ghost use Rattle.cp_verdict.specs.endless.Naming.{processes_of};
 ghost use Rattle.cp_verdict.specs.waiting.Asking.{name_who};
 ghost use Rattle.cp_verdict.specs.waiting.EndsMarked as who_spec;
 ghost use Rattle.cp_verdict.specs.waiting.Known.{KnowsWho};
-ghost use Rattle.cp_verdict.specs.declared.endless.verdict.EndsMark.TheVariants.{Misread};
 
+use crate::endless::judging::stops_of;
 use crate::endless::knowing::knowledge_of;
 use crate::endless::known::KnownEnds;
 use crate::endless::saying::{MarkedEnds, note_on, open_words, sayings_of};
@@ -22,7 +22,6 @@ use crate::endless::waiting::waiting_ends;
 use crate::waiting::asking::name_who;
 use cp_expectation::{Expectation, Topic};
 use cp_legend::Legend;
-use cp_machine::{Discipline, Gates};
 use cp_progress::ObserveProgress;
 use cp_run::{Job, Limits};
 use cp_slots::Resolved;
@@ -46,25 +45,14 @@ pub fn mark_list<O: ObserveProgress>(
     list: &[Expectation],
     observer: &mut O,
 ) -> Result<MarkedEnds, AllocError>
-    ensures mark { 1 ≤ subject.entry.most → spec.can_be_asked subject.entry.limits.discipline list.now ≡ true → name_who list.now ≡ false → IfOk result (λ m. spec.IsMarkOf subject.entry.program.now (processes_of subject.entry.legend.now) subject.entry.limits.discipline subject.entry.limits.steps subject.entry.most list.now m.mark) }
-    ensures refused { spec.can_be_asked subject.entry.limits.discipline list.now ≡ false → IfOk result (λ m. m.mark ≡ Misread) }
-    ensures meaning { 1 ≤ subject.entry.most → spec.can_be_asked subject.entry.limits.discipline list.now ≡ true → name_who list.now ≡ false → IfOk result (λ m. spec.IsMeantMark subject.entry.program.now (processes_of subject.entry.legend.now) subject.entry.limits.discipline subject.entry.limits.steps list.now m.mark) }
-    ensures who { 1 ≤ subject.entry.most → spec.can_be_asked subject.entry.limits.discipline list.now ≡ true → IfOk result (λ m. who_spec.IsMarkOf subject.entry.program.now (processes_of subject.entry.legend.now) subject.entry.limits.discipline subject.entry.limits.steps subject.entry.most list.now m.mark) }
-    ensures who_meant { 1 ≤ subject.entry.most → spec.can_be_asked subject.entry.limits.discipline list.now ≡ true → IfOk result (λ m. who_spec.IsMeantMark subject.entry.program.now (processes_of subject.entry.legend.now) subject.entry.limits.discipline subject.entry.limits.steps list.now m.mark) }
+    ensures mark { 1 ≤ subject.entry.most → name_who list.now ≡ false → IfOk result (λ m. spec.IsMarkOf subject.entry.program.now (processes_of subject.entry.legend.now) subject.entry.limits.discipline subject.entry.limits.steps subject.entry.most list.now m.mark) }
+    ensures meaning { 1 ≤ subject.entry.most → name_who list.now ≡ false → IfOk result (λ m. spec.IsMeantMark subject.entry.program.now (processes_of subject.entry.legend.now) subject.entry.limits.discipline subject.entry.limits.steps list.now m.mark) }
+    ensures who { 1 ≤ subject.entry.most → IfOk result (λ m. who_spec.IsMarkOf subject.entry.program.now (processes_of subject.entry.legend.now) subject.entry.limits.discipline subject.entry.limits.steps subject.entry.most list.now m.mark) }
+    ensures who_meant { 1 ≤ subject.entry.most → IfOk result (λ m. who_spec.IsMeantMark subject.entry.program.now (processes_of subject.entry.legend.now) subject.entry.limits.discipline subject.entry.limits.steps list.now m.mark) }
 {
-    if ask_waits(list) && is_any(subject.limits.discipline) {
-        return MarkedEnds::misread(alloc, "waiting can't be asked with --gates any\n");
-    }
     let known = knowledge(alloc, subject, list, observer)?;
     let verdict = verdict_on(subject.legend, &known, list);
     tell(alloc, subject, &known, list, verdict, false)
-}
-
-/// Whether anybody in line may go into a monitor that becomes free.
-pub fn is_any(discipline: Discipline) -> bool
-    ensures { result ≡ spec.is_any discipline }
-{
-    matches!(discipline.gates, Gates::Any)
 }
 
 fn is_of_waiting(topic: &Topic) -> bool
@@ -73,13 +61,14 @@ fn is_of_waiting(topic: &Topic) -> bool
     matches!(topic, Topic::Waiting(_))
 }
 
-fn asks_waits(expectation: &Expectation) -> bool
+/// Whether an expectation asks who waits for ever.
+pub fn asks_waits(expectation: &Expectation) -> bool
     ensures { result ≡ spec.asks_waits expectation.now }
 {
     expectation.topics.iter().any(is_of_waiting)
 }
 
-/// Whether one of some expectations asks who waits.
+/// Whether one of some expectations does.
 pub fn ask_waits(list: &[Expectation]) -> bool
     ensures { result ≡ spec.ask_waits list.now }
 {
@@ -135,7 +124,8 @@ pub fn tell(
     verdict: EndsVerdict<'_>,
     at_once: bool,
 ) -> Result<MarkedEnds, AllocError>
-    ensures { IfOk result (λ m. m.mark ≡ spec.mark_of verdict.entry known.now.looked) }
+    ensures mark { IfOk result (λ m. m.mark ≡ spec.mark_of verdict.entry known.now.looked) }
+    ensures stops { IfOk result (λ m. m.stops ≡ stops_of known.now) }
 {
     let mark = mark_of(verdict, known);
     let note = note_on(alloc, subject.most, known, mark, at_once)?;
@@ -151,5 +141,6 @@ pub fn tell(
         note,
         each,
         last: String::new(alloc),
+        stops: stops_of(known),
     })
 }

@@ -1,7 +1,6 @@
 //! What is said with a mark.
 
 ghost use Rattle.std.specs.Prelude.{◌≡◌, IfOk};
-ghost use Rattle.cp_verdict.specs.declared.endless.verdict.EndsMark.TheVariants.{Misread};
 
 use crate::endless::judging::{EndsJudgement, is_whole};
 use crate::endless::known::{KnownEnd, KnownEnds, Witness};
@@ -9,6 +8,7 @@ use crate::endless::verdict::EndsMark;
 use crate::endless::waiting::judge_any;
 use crate::endless::words::{missing_words, push_witness};
 use crate::marking::Standing;
+use crate::program::Stops;
 use cp_expectation::{Expectation, push_expectation};
 use cp_legend::Legend;
 use std::alloc::{AllocError, Global};
@@ -19,10 +19,25 @@ pub struct Said {
     /// The expectation as it is written.
     pub expectation: String,
     pub standing: Standing,
-    /// Why it does not hold.
+    /// A line that says why it does not hold; none where it holds.
     pub reason: String,
-    /// The end that is against it, if it is one.
-    pub against: Option<KnownEnd>,
+    /// The schedule that is against it.
+    pub against: Option<Against>,
+}
+
+/// A schedule that is against an expectation.
+#[derive(Drop)]
+pub enum Against {
+    /// It ends so.
+    End(KnownEnd),
+    /// It displays a value.
+    Value(Vec<u8>),
+    /// The first word leads to a round, in which a process waits for ever; the second one goes it.
+    Round {
+        process: u8,
+        first: Vec<u8>,
+        again: Vec<u8>,
+    },
 }
 
 /// A mark, and what is said with it.
@@ -34,21 +49,11 @@ pub struct MarkedEnds {
     pub each: Vec<Said>,
     /// Lines on how the mark was found.
     pub last: String,
+    /// The limits that were met.
+    pub stops: Stops,
 }
 
 impl MarkedEnds {
-    /// That nothing can be said, and why.
-    pub fn misread(alloc: Global, why: &str) -> Result<MarkedEnds, AllocError>
-        ensures { IfOk result (λ m. m.mark ≡ Misread) }
-    {
-        Ok(MarkedEnds {
-            mark: EndsMark::Misread,
-            note: String::from_str(alloc, why)?,
-            each: Vec::new(alloc),
-            last: String::new(alloc),
-        })
-    }
-
     /// Adds a line on how the mark was found.
     pub fn with_line(mut self, line: &str) -> Result<MarkedEnds, AllocError>
         ensures { IfOk result (λ m. m.mark ≡ self.mark) }
@@ -89,7 +94,8 @@ fn saying_of(
         EndsJudgement::Against(witness) => {
             reason.push_str(before)?;
             push_witness(legend, &mut reason, witness)?;
-            against = end_of(alloc, witness)?;
+            reason.push('\n')?;
+            against = Some(against_by(alloc, witness)?);
             Standing::Fails
         }
         EndsJudgement::Missing => {
@@ -111,17 +117,26 @@ fn saying_of(
     })
 }
 
-// The end that a schedule shows, if it is one.
-fn end_of(alloc: Global, witness: Witness<'_>) -> Result<Option<KnownEnd>, AllocError> {
-    let Witness::End(known) = witness else {
-        return Ok(None);
-    };
-    let mut word = Vec::new(alloc);
-    word.extend_from_slice(&known.word)?;
-    Ok(Some(KnownEnd {
-        end: known.end,
-        word,
-    }))
+// What a schedule shows, apart from what is known.
+fn against_by(alloc: Global, witness: Witness<'_>) -> Result<Against, AllocError> {
+    match witness {
+        Witness::End(known) => Ok(Against::End(KnownEnd {
+            end: known.end,
+            word: copy_of(alloc, &known.word)?,
+        })),
+        Witness::Value(known) => Ok(Against::Value(copy_of(alloc, &known.word)?)),
+        Witness::Waiting(waiting) => Ok(Against::Round {
+            process: waiting.process,
+            first: copy_of(alloc, &waiting.first)?,
+            again: copy_of(alloc, &waiting.again)?,
+        }),
+    }
+}
+
+fn copy_of(alloc: Global, word: &[u8]) -> Result<Vec<u8>, AllocError> {
+    let mut copy = Vec::new(alloc);
+    copy.extend_from_slice(word)?;
+    Ok(copy)
 }
 
 /// What is said of all expectations: by what they hold, or that there are too many states.
@@ -157,15 +172,15 @@ pub fn open_words(alloc: Global, known: &KnownEnds, at_once: bool) -> Result<Str
     let words = match known.looked {
         Some(choices) if !at_once => {
             return format!(in alloc;
-                "no schedule of at most {choices} choices settles it (try greater --states)"
+                "no schedule of at most {choices} choices settles it (try greater --states)\n"
             );
         }
-        Some(_) => "no schedule that was found settles it (try greater --states)",
+        Some(_) => "no schedule that was found settles it (try greater --states)\n",
         None if is_whole(known) => {
-            "it is not known to hold, and no schedule is known to be against it"
+            "it is not known to hold, and no schedule is known to be against it\n"
         }
         None => {
-            "some schedules ended at step-limit, and none so far settles it (try greater --steps)"
+            "some schedules ended at step-limit, and none so far settles it (try greater --steps)\n"
         }
     };
     String::from_str(alloc, words)

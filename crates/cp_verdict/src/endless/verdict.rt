@@ -25,8 +25,6 @@ pub enum EndsMark {
     Open,
     /// The same, since there are too many states.
     TooMany,
-    /// There is no such expectation.
-    Misread,
 }
 
 /// Why the mark is so.

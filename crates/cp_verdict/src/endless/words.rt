@@ -76,12 +76,12 @@ fn missed_by(topics: &[Topic]) -> Missed {
 /// What is said where no schedule is as an expectation asks.
 pub fn missing_words(expectation: &Expectation) -> &'static str {
     match missed_by(&expectation.topics) {
-        Missed::Ends => "no schedule of any length ends so",
-        Missed::Values => "no schedule of any length displays it",
+        Missed::Ends => "no schedule of any length ends so\n",
+        Missed::Values => "no schedule of any length displays it\n",
         Missed::Waiting => match expectation.topics.first() {
-            Some(Topic::Waiting(None)) => "nobody may wait for ever",
-            _ => "it may not wait for ever",
+            Some(Topic::Waiting(None)) => "nobody may wait for ever\n",
+            _ => "it may not wait for ever\n",
         },
-        Missed::Any => "no schedule of any length is so",
+        Missed::Any => "no schedule of any length is so\n",
     }
 }

@@ -9,16 +9,15 @@ pub returns-in_ok-marked-clause-mark : goal.returns-in_ok-marked-clause-mark
 returns-in_ok-marked-clause-mark g c =
     let x = c.args.examinee in
     let marked = c.in_ok-marked in
-    IfOk-weaker c.ends_answer.result _ _ (λ a e. judged_at_once x.options.now c.longest_limits.result x.program.now (processes_of x.legend.now) c.args.list.now marked.marked.mark a.verdict c.longest_limits.ensures (sym c.is_at_once.ensures ∙ c.if-is_at_once.true) e marked.ensures.mark marked.ensures.refused) c.ends_answer.ensures.verdict
+    let some = x.options.now.some_state in
+    IfOk-weaker c.ends_answer.result _ _ (λ a e. judged_at_once x.options.now c.longest_limits.result x.program.now (processes_of x.legend.now) c.args.list.now marked.marked.mark a.verdict c.longest_limits.ensures e (sym c.is_at_once.ensures ∙ c.if-is_at_once.true) marked.ensures.mark (marked.ensures.states some)) c.ends_answer.ensures.verdict
 
 pub returns-in_ok-marked-2-clause-mark : goal.returns-in_ok-marked-2-clause-mark
 returns-in_ok-marked-2-clause-mark g c =
     let x = c.args.examinee in
     let marked = c.in_ok-marked-2 in
     let some = x.options.now.some_state in
-    IfOk-weaker c.ends_answer-else-is_at_once.result _ _
-    (λ a e. judged_in_turn x.options.now c.longest_limits.result x.program.now (processes_of x.legend.now) c.args.list.now marked.marked.mark a.verdict c.longest_limits.ensures (sym c.is_at_once.ensures ∙ c.if-is_at_once.false) e (λ can. (marked.ensures.mark some can, λ named. (marked.ensures.who some can named, marked.ensures.who_meant some can named))) marked.ensures.refused)
-    c.ends_answer-else-is_at_once.ensures.verdict
+    IfOk-weaker c.ends_answer-else-is_at_once.result _ _ (λ a e. judged_in_turn x.options.now c.longest_limits.result x.program.now (processes_of x.legend.now) c.args.list.now marked.marked.mark a.verdict c.longest_limits.ensures e (sym c.is_at_once.ensures ∙ c.if-is_at_once.false) (marked.ensures some)) c.ends_answer-else-is_at_once.ensures.verdict
 
 pub returns-in_ok-marked-clause-text : goal.returns-in_ok-marked-clause-text
 returns-in_ok-marked-clause-text g c = ok_both c.ends_answer.result _ _ _ c.ends_answer.ensures.verdict c.ends_answer.ensures.text (λ a v t. (c.in_ok-marked.marked, v, t))

@@ -2,7 +2,9 @@ use Rattle.std.proofs.Common.{◌∙◌, ℕ, List, map, string_bytes, subst, sy
 use Rattle.std.proofs.lemmas.Option.{none-some}
 use Rattle.std.proofs.lemmas.Result.{IfOk-weaker}
 use Rattle.cp_legend.specs.Names.{legend_seen}
-use Rattle.cpx_show.specs.Schedules.{IsStoryText}
+use Rattle.cp_show_mark.specs.Stories.{IsStoryOf}
+use Rattle.cp_story.specs.Round.{IsFirstOfRound}
+use Rattle.cpx_show.specs.Schedules.{IsWrittenAs}
 use Rattle.cpx_show.proofs.Tracing.{misread_only}
 use Rattle.cpx_show.proofs.schedules.schedule_part.Goals as goal
 
@@ -15,12 +17,16 @@ returns-in-Some-clause-drawn c = λ all. absurd (none-some _ (sym (c.missing_row
 pub returns-clause-told : goal.returns-clause-told
 returns-clause-told c =
     λ reported.
-    let text = c.in_ok-text.ensures in
-    let is : IsStoryText c.args.form c.args.asked.now.options c.args.program.now (legend_seen c.args.legend.now) (map string_bytes c.args.source.now) c.as_slice-word.result.now text.0 = record { story = c.in_ok-story.story; so = c.in_ok-story.ensures.so; written = text.1 } in
+    let is = c.as_slice-word.ensures.value in
+    let options = c.args.asked.now.options in
+    let r = c.args.program.now in
+    let l = legend_seen c.args.legend.now in
+    let story = c.in_ok-story.story in
+    let again = c.first_of_round-again.result in
     record {
-      told = text.0;
-      is = subst (λ (word : List ℕ). IsStoryText c.args.form c.args.asked.now.options c.args.program.now (legend_seen c.args.legend.now) (map string_bytes c.args.source.now) word text.0) c.as_slice-word.ensures.value is;
-      first = c.first_of_round-first.result;
-      once = λ round. c.first_of_round-first.ensures (c.in_ok-before.ensures round);
-      marked = text.2;
+      story = story;
+      so = subst (λ (word : List ℕ). IsStoryOf l r options.discipline options.choices options.steps word story) is c.in_ok-story.ensures.so;
+      again = again;
+      begins = subst (λ (word : List ℕ). IsFirstOfRound story.events.items word c.args.schedule.now.round again) is c.first_of_round-again.ensures;
+      written = subst (λ (word : List ℕ). IsWrittenAs c.args.form r l (map string_bytes c.args.source.now) word story again (string_bytes c.in_ok-text.text)) is c.in_ok-text.ensures;
     }

@@ -9,7 +9,7 @@ returns-in_ok-again-clause-same g c = λ cannot. (let said = c.can_be_at_once.en
 pub returns-in_ok-again-clause-again : goal.returns-in_ok-again-clause-again
 returns-in_ok-again-clause-again g c =
     let can = sym c.can_be_at_once.ensures ∙ c.if-can_be_at_once.true in
-    settles_more c.args.subject.program.now (processes_of c.args.subject.legend.now) c.args.subject.limits.discipline c.args.subject.limits.steps c.args.list.now c.args.marked.mark c.tell_again.result c.in_ok-again.again.mark can (c.in_ok-again.ensures.mark can) c.tell_again.ensures
+    settles_more c.args.subject.program.now (processes_of c.args.subject.legend.now) c.args.subject.limits.discipline c.args.subject.limits.steps c.args.list.now c.args.marked.mark c.tell_again.result c.in_ok-again.again.mark can (c.in_ok-again.ensures can) c.tell_again.ensures
 
 pub returns-else-can_be_at_once-clause-again : goal.returns-else-can_be_at_once-clause-again
 returns-else-can_be_at_once-clause-again g c = inl refl

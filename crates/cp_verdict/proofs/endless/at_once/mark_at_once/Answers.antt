@@ -1,14 +1,15 @@
-use Rattle.cp_verdict.proofs.any_length.Vocabulary.{subst, Discipline, IsKnownAtOnce}
-use Rattle.cp_at_once.specs.Whole.{IsAnswer}
 use Rattle.cp_verdict.specs.endless.Naming.{processes_of}
-use Rattle.cp_verdict.proofs.any_length.MeantAtOnce.{marked_at_once, of_the_book}
+use Rattle.cp_verdict.proofs.any_length.MeantAtOnce.{by_states}
 use Rattle.cp_verdict.proofs.endless.at_once.mark_at_once.Goals as goal
 
-pub returns-clause-mark : goal.returns-clause-mark
-returns-clause-mark g c = λ can.
-    let r = c.args.subject.program.now in
-    let steps = c.args.subject.limits.steps in
-    let k = c.in_ok-known.known in
-    let answer = subst (λ (g : Discipline). IsAnswer r g steps c.args.subject.most c.in_ok-found.found) (of_the_book c.args.subject.limits.discipline c.args.list.now can) c.in_ok-found.ensures in
-    let is_known : IsKnownAtOnce r steps k = c.in_ok-known.ensures steps c.args.subject.most answer in
-    marked_at_once r (processes_of c.args.subject.legend.now) c.args.subject.limits.discipline steps c.args.list.now k c.verdict_on-verdict.result can is_known (c.verdict_on-verdict.ensures.known r.names is_known.texts) c.tell.result c.tell.ensures
+pub returns-then-can_be_at_once-clause-states : goal.returns-then-can_be_at_once-clause-states
+returns-then-can_be_at_once-clause-states g c = λ some cannot. (let said = c.can_be_at_once.ensures in let can = c.if-can_be_at_once.true in absurd (cc (said, can, cannot)))
+
+pub returns-else-can_be_at_once-clause-mark : goal.returns-else-can_be_at_once-clause-mark
+returns-else-can_be_at_once-clause-mark g c = λ can. (let said = c.can_be_at_once.ensures in let cannot = c.if-can_be_at_once.false in absurd (cc (said, cannot, can)))
+
+pub returns-else-can_be_at_once-clause-states : goal.returns-else-can_be_at_once-clause-states
+returns-else-can_be_at_once-clause-states g c = λ some cannot.
+    let s = c.args.subject in
+    let marked = c.mark_list.ensures in
+    by_states s.program.now (processes_of s.legend.now) s.limits.discipline s.limits.steps c.args.list.now s.most c.mark_list.result (marked.mark some) (marked.meaning some) (marked.who some) (marked.who_meant some)

@@ -9,7 +9,7 @@ use Rattle.cp_verdict.proofs.who.EndsMeant.{marked_so, meant_so}
 use Rattle.cp_verdict.proofs.endless.marking.mark_list.Goals as goal
 
 pub returns-clause-mark : goal.returns-clause-mark
-returns-clause-mark g c = λ some can none.
+returns-clause-mark g c = λ some none.
     let r = c.args.subject.program.now in
     let ps = processes_of c.args.subject.legend.now in
     let discipline = c.args.subject.limits.discipline in
@@ -17,10 +17,10 @@ returns-clause-mark g c = λ some can none.
     let most = c.args.subject.most in
     let k = c.in_ok-known.known in
     let is_known : IsKnown r discipline steps most k = c.in_ok-known.ensures.known some in
-    by_first.marked_so r ps discipline steps most c.args.list.now k is_known c.verdict_on-verdict.result (by_firsts r ps discipline steps k c.args.list.now c.verdict_on-verdict.result none (c.verdict_on-verdict.ensures.slots r discipline steps most is_known)) c.tell.result c.tell.ensures
+    by_first.marked_so r ps discipline steps most c.args.list.now k is_known c.verdict_on-verdict.result (by_firsts r ps discipline steps k c.args.list.now c.verdict_on-verdict.result none (c.verdict_on-verdict.ensures.slots r discipline steps most is_known)) c.tell.result c.tell.ensures.mark
 
 pub returns-clause-meaning : goal.returns-clause-meaning
-returns-clause-meaning g c = λ some can none.
+returns-clause-meaning g c = λ some none.
     let r = c.args.subject.program.now in
     let ps = processes_of c.args.subject.legend.now in
     let discipline = c.args.subject.limits.discipline in
@@ -28,10 +28,10 @@ returns-clause-meaning g c = λ some can none.
     let most = c.args.subject.most in
     let k = c.in_ok-known.known in
     let is_known : IsKnown r discipline steps most k = c.in_ok-known.ensures.known some in
-    by_first.meant_so r ps discipline steps most c.args.list.now k is_known c.verdict_on-verdict.result (by_firsts r ps discipline steps k c.args.list.now c.verdict_on-verdict.result none (c.verdict_on-verdict.ensures.slots r discipline steps most is_known)) c.tell.result c.tell.ensures
+    by_first.meant_so r ps discipline steps most c.args.list.now k is_known c.verdict_on-verdict.result (by_firsts r ps discipline steps k c.args.list.now c.verdict_on-verdict.result none (c.verdict_on-verdict.ensures.slots r discipline steps most is_known)) c.tell.result c.tell.ensures.mark
 
 pub returns-clause-who : goal.returns-clause-who
-returns-clause-who g c = λ some can.
+returns-clause-who g c = λ some.
     let r = c.args.subject.program.now in
     let discipline = c.args.subject.limits.discipline in
     let steps = c.args.subject.limits.steps in
@@ -39,10 +39,10 @@ returns-clause-who g c = λ some can.
     let k = c.in_ok-known.known in
     let is_known : IsKnown r discipline steps most k = c.in_ok-known.ensures.known some in
     let who : name_who c.args.list.now ≡ true → KnowsWho r discipline steps k = c.in_ok-known.ensures.who some in
-    marked_so r (processes_of c.args.subject.legend.now) discipline steps most c.args.list.now k is_known who c.verdict_on-verdict.result (c.verdict_on-verdict.ensures.slots r discipline steps most is_known) c.tell.result c.tell.ensures
+    marked_so r (processes_of c.args.subject.legend.now) discipline steps most c.args.list.now k is_known who c.verdict_on-verdict.result (c.verdict_on-verdict.ensures.slots r discipline steps most is_known) c.tell.result c.tell.ensures.mark
 
 pub returns-clause-who_meant : goal.returns-clause-who_meant
-returns-clause-who_meant g c = λ some can.
+returns-clause-who_meant g c = λ some.
     let r = c.args.subject.program.now in
     let discipline = c.args.subject.limits.discipline in
     let steps = c.args.subject.limits.steps in
@@ -50,4 +50,4 @@ returns-clause-who_meant g c = λ some can.
     let k = c.in_ok-known.known in
     let is_known : IsKnown r discipline steps most k = c.in_ok-known.ensures.known some in
     let who : name_who c.args.list.now ≡ true → KnowsWho r discipline steps k = c.in_ok-known.ensures.who some in
-    meant_so r (processes_of c.args.subject.legend.now) discipline steps most c.args.list.now k is_known who c.verdict_on-verdict.result (c.verdict_on-verdict.ensures.slots r discipline steps most is_known) c.tell.result c.tell.ensures
+    meant_so r (processes_of c.args.subject.legend.now) discipline steps most c.args.list.now k is_known who c.verdict_on-verdict.result (c.verdict_on-verdict.ensures.slots r discipline steps most is_known) c.tell.result c.tell.ensures.mark

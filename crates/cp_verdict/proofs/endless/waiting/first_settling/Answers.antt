@@ -1,5 +1,5 @@
 use Rattle.std.proofs.Common.{◌∙◌, List, ap, sym}
-use Rattle.std.specs.Prelude.{find, option_map, string_bytes}
+use Rattle.std.specs.Prelude.{find, string_bytes}
 use Rattle.cp_expectation.specs.declared.expectation.Claim.{Claim}
 use Rattle.cp_expectation.specs.declared.expectation.Topic.{Topic}
 use Rattle.cp_verdict.specs.endless.Expectations.{is_value_named, is_waiting_named}

@@ -1,4 +1,3 @@
-use Rattle.std.proofs.Common.{◌∙◌, sym}
 use Rattle.cp_verdict.proofs.endless.waiting.judge_any.Goals as goal
 
 pub returns-then-names_who-clause-slots : goal.returns-then-names_who-clause-slots

@@ -1,5 +1,4 @@
 use Rattle.std.proofs.Common.{◌∙◌, ap, map, subst, sym}
-use Rattle.cp_merged.specs.Code.{tally_of}
 use Rattle.cp_verdict.specs.Judged.{line_of}
 use Rattle.cp_verdict.specs.Limits.{AreStopsOf}
 use Rattle.cp_verdict.specs.Marked.{mark_of}

@@ -1,4 +1,4 @@
-use Rattle.std.proofs.Common.{◌≡◌, ◌∙◌, ◌++◌, ℕ, List, ap, append-nil, map, subst, sym}
+use Rattle.std.proofs.Common.{◌∙◌, ℕ, List, ap, append-nil, map, subst, sym}
 use Rattle.std.specs.Prelude.{None, Some}
 use Rattle.cp_waiting_ends.specs.Waiting.{WaitsSo, end_seen}
 use Rattle.cp_verdict.specs.waiting.Rows.{HaveShortWords, row_seen}

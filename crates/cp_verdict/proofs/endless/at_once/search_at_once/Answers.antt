@@ -1,0 +1,14 @@
+use Rattle.cp_verdict.proofs.any_length.Vocabulary.{subst, Discipline, IsKnownAtOnce}
+use Rattle.cp_at_once.specs.Whole.{IsAnswer}
+use Rattle.cp_verdict.specs.endless.Naming.{processes_of}
+use Rattle.cp_verdict.proofs.any_length.MeantAtOnce.{marked_at_once, of_the_book}
+use Rattle.cp_verdict.proofs.endless.at_once.search_at_once.Goals as goal
+
+pub returns : goal.returns
+returns g c = λ can.
+    let r = c.args.subject.program.now in
+    let steps = c.args.subject.limits.steps in
+    let k = c.in_ok-known.known in
+    let answer = subst (λ (g : Discipline). IsAnswer r g steps c.args.subject.most c.in_ok-found.found) (of_the_book c.args.subject.limits.discipline c.args.list.now can) c.in_ok-found.ensures in
+    let is_known : IsKnownAtOnce r steps k = c.in_ok-known.ensures steps c.args.subject.most answer in
+    marked_at_once r (processes_of c.args.subject.legend.now) c.args.subject.limits.discipline steps c.args.list.now k c.verdict_on-verdict.result can is_known (c.verdict_on-verdict.ensures.known r.names is_known.texts) c.tell.result c.tell.ensures.mark
