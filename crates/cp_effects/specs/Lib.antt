@@ -1,0 +1,6 @@
+pub mod Noting
+pub mod Touching
+pub mod Watching
+pub mod Changes
+pub mod Remembered
+pub mod Known
