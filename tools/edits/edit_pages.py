@@ -103,7 +103,7 @@ def checksum(page):
 def promised_edits():
     """The names of the edits that tables of documents name beside a promise."""
     found = set()
-    for name in ("PROOFS", "LANGUAGE", "RULES", "SEMANTICS", "REPORT"):
+    for name in ("PROOFS", "LANGUAGE", "RULES", "SEMANTICS", "REPORT", "SHOW"):
         columns = []
         for line in (ROOT / f"docs/{name}.md").read_text(encoding="utf-8").splitlines():
             cells = [it.strip() for it in line.strip("|").split("|")] if line.startswith("|") else []
