@@ -1,5 +1,5 @@
 -- What is found of a program: its ends with their words, and who may wait for ever.
-use Rattle.std.specs.Prelude.{◌≡◌, ◌⊎◌, ℕ, List, [], ◌∷◌, Bool, true, false, Option, None, Some, length, map}
+use Rattle.std.specs.Prelude.{◌≡◌, ◌⊎◌, ℕ, List, [], ◌∷◌, Bool, true, false, not, Option, None, Some, length, map}
 use Rattle.cp_machine.specs.System.{Machine}
 use Rattle.cp_at_once.specs.Holds.{IsWordOf}
 use Rattle.cp_at_once.specs.Whole as at_once
@@ -11,10 +11,13 @@ use Rattle.cp_ends.specs.Whole.{IsAnswer}
 use Rattle.cp_ends.specs.declared.end.End.{End}
 use Rattle.cp_ends.specs.declared.found.Found.{Found}
 use Rattle.cp_waits.specs.Named.{TellAsked}
+use Rattle.cp_waits.specs.declared.waiting.Waits.{Waits}
+use Rattle.cp_waits.specs.declared.waiting.Waits.TheVariants.{NotSettled}
 use Rattle.cp_ends_story.specs.declared.subject.EndsSubject.{EndsSubject}
+use Rattle.cp_ends_story.specs.declared.subject.EndsSummary.{EndsSummary}
 use Rattle.cp_ends_story.specs.declared.subject.Findings.{Findings}
 use Rattle.cp_ends_story.specs.declared.subject.Reach.{Reach}
-use Rattle.cp_ends_story.specs.declared.subject.Reach.TheVariants.{States, Choices}
+use Rattle.cp_ends_story.specs.declared.subject.Reach.TheVariants.{States, StatesAtOnce, Choices}
 use Rattle.cp_ends_story.specs.declared.subject.ToldEnd.{ToldEnd}
 
 abbrev pub end_with_word : ToldEnd → End × List ℕ
@@ -74,3 +77,22 @@ AreFindingsBy false s x = AreFoundByStates s x ⊎ ((plain : Findings) × AreFou
 
 abbrev pub AreFindings : EndsSubject → Findings → Type 0
 AreFindings s x = AreFindingsBy s.at_once s x
+
+-- ---- whether these are all
+
+-- who may wait for ever is known, or was not asked
+abbrev pub is_settled : Option Waits → Bool
+is_settled (Some (NotSettled process)) = false
+is_settled _ = true
+
+-- All states were looked at, and who may wait for ever is known where that is asked.
+abbrev pub is_whole : Reach → (asked : Bool) → Option Waits → Bool
+is_whole (States n) asked waits = is_settled waits
+is_whole (StatesAtOnce n) asked waits = not asked
+is_whole _ asked waits = false
+
+-- something is found, and it is said whether that is all
+pub record TellsEnds (s : EndsSubject) (summary : EndsSummary) : Type 0 where
+  pub findings : Findings
+  pub found : AreFindings s findings
+  pub whole : summary.is_whole ≡ is_whole findings.reach s.waits findings.waits

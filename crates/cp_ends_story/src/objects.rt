@@ -87,13 +87,11 @@ fn end_object(telling: Telling<'_>, place: usize, end: &ToldEnd) -> Result<Value
 // What the error is of to which a word leads, if that is known.
 fn put_cause(telling: Telling<'_>, object: &mut Object, word: &[u8]) -> Result<(), AllocError> {
     let Telling { alloc, subject, .. } = telling;
-    match whole_story(telling, word)? {
-        Some(story) => {
-            put_error_cause(alloc, subject.legend, object, story.cause)?;
-            put_violation(alloc, subject.legend, object, &story.violation)
-        }
-        None => Ok(()),
-    }
+    let Some(story) = whole_story(telling, word)? else {
+        return Ok(());
+    };
+    put_error_cause(alloc, subject.legend, object, story.cause)?;
+    put_violation(alloc, subject.legend, object, &story.violation)
 }
 
 fn put_going(object: &mut Object, kind: &str, process: u8) -> Result<(), AllocError> {
@@ -104,13 +102,11 @@ fn put_going(object: &mut Object, kind: &str, process: u8) -> Result<(), AllocEr
 // Who waits where at the end of a word, and why.
 fn put_final(telling: Telling<'_>, object: &mut Object, word: &[u8]) -> Result<(), AllocError> {
     let Telling { alloc, subject, .. } = telling;
-    match whole_story(telling, word)? {
-        Some(story) => {
-            object.put("final", waits(alloc, subject.legend, &story.waits)?)?;
-            put_reasons(alloc, subject.legend, object, &story.reasons)
-        }
-        None => Ok(()),
-    }
+    let Some(story) = whole_story(telling, word)? else {
+        return Ok(());
+    };
+    object.put("final", waits(alloc, subject.legend, &story.waits)?)?;
+    put_reasons(alloc, subject.legend, object, &story.reasons)
 }
 
 fn put_values(telling: Telling<'_>, object: &mut Object) -> Result<(), AllocError> {

@@ -61,23 +61,20 @@ fn push_counted(text: &mut Prose, number: usize, one: &str, several: &str) {
     text.put(if number == 1 { one } else { several });
 }
 
-fn push_line(text: &mut Prose, line: &str) {
+// A line below an end.
+fn push_line(text: &mut Prose, line: Result<String, AllocError>) {
     text.put(INDENT);
-    text.put(line);
+    text.put_made(line);
     text.put_char('\n');
 }
 
 // A word, after what it is called.
 fn push_words(telling: Telling<'_>, text: &mut Prose, name: &str, word: &[u8]) {
-    text.put(INDENT);
-    text.put(name);
-    text.put_char(' ');
-    text.put_made(word_text(telling.alloc, word));
-    text.put_char('\n');
+    push_line(text, named_word(telling.alloc, name, word));
 }
 
-fn word_text(alloc: Global, word: &[u8]) -> Result<String, AllocError> {
-    let mut text = String::new(alloc);
+fn named_word(alloc: Global, name: &str, word: &[u8]) -> Result<String, AllocError> {
+    let mut text = format!(in alloc; "{name} ")?;
     push_word(&mut text, word)?;
     Ok(text)
 }
@@ -144,17 +141,18 @@ fn push_end(telling: Telling<'_>, text: &mut Prose, end: &ToldEnd) {
                 line,
             },
         ) => {
-            text.put(INDENT);
-            push_process(telling, text, process);
-            text.put(" at line ");
-            text.put_display(line);
-            text.put(": ");
-            text.put(line_of(telling.subject.source, line));
-            text.put_char('\n');
+            push_line(text, error_line(telling, process, line));
             push_cause(telling, text, name, &end.word);
         }
         _ => {}
     }
+}
+
+// The process that is in error, and the text of the line at which it is.
+fn error_line(telling: Telling<'_>, process: u8, line: u32) -> Result<String, AllocError> {
+    let name = telling.subject.legend.process_name(process);
+    let there = line_of(telling.subject.source, line);
+    format!(in telling.alloc; "{process} {name} at line {line}: {there}")
 }
 
 // What the error is of to which a word leads, if that is known.
@@ -164,7 +162,7 @@ fn push_cause(telling: Telling<'_>, text: &mut Prose, name: ErrorName, word: &[u
     };
     let legend = telling.subject.legend;
     match detail_line(telling.alloc, legend, name, story.cause, &story.violation) {
-        Ok(Some(line)) => push_line(text, line.as_str()),
+        Ok(Some(line)) => push_line(text, Ok(line)),
         Ok(None) => {}
         Err(_) => text.refuse(),
     }
@@ -212,18 +210,16 @@ fn push_all_waiting(telling: Telling<'_>, text: &mut Prose, word: &[u8]) {
             push_wait(telling, text, wait);
         }
         for reason in &story.reasons {
-            text.put(INDENT);
-            text.put_made(reason_text(telling.alloc, telling.subject.legend, reason));
-            text.put_char('\n');
+            let line = reason_text(telling.alloc, telling.subject.legend, reason);
+            push_line(text, line);
         }
     }
 }
 
 // Where a process waits.
 fn push_wait(telling: Telling<'_>, text: &mut Prose, wait: &Wait) {
-    text.put(INDENT);
-    text.put_made(wait_words(telling.alloc, telling.subject.legend, wait));
-    text.put_char('\n');
+    let line = wait_words(telling.alloc, telling.subject.legend, wait);
+    push_line(text, line);
 }
 
 /// The text of a line, counted from 1, without the spaces around it.
@@ -293,7 +289,8 @@ fn push_waiting(telling: Telling<'_>, text: &mut Prose, waiting: &Waiting) {
     push_place(telling, text, waiting);
     push_words(telling, text, "first", &waiting.first);
     if waiting.again.is_empty() {
-        push_line(text, "again and again without a choice");
+        text.put(INDENT);
+        text.put("again and again without a choice\n");
     } else {
         push_words(telling, text, "again", &waiting.again);
     }
