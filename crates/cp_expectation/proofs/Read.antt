@@ -1,4 +1,5 @@
 -- What words are read as is what they spell.
+use Rattle.std.specs.Option.{option_or}
 use Rattle.std.proofs.Common.{◌≡◌, ◌∙◌, ◌⊎◌, inl, inr, ℕ, Bool, true, false, ◌==◌, ◌&&◌, ◌||◌, not, List, [], ◌∷◌, ◌++◌, Option, Some, None, option_map, codes, if◌then◌else◌, refl, sym, ap, subst, arith}
 use Rattle.std.proofs.lemmas.Bool.{eqb-true}
 use Rattle.std.proofs.lemmas.List.{append_assoc, append-nil}
@@ -7,7 +8,7 @@ use Rattle.cp_store.specs.declared.error.ErrorName.{ErrorName}
 use Rattle.cp_walk.specs.Text.{error_text}
 use Rattle.cp_expectation.specs.Plain.{Item, Printed, Any, Who, End, Finished, AnyError, Error, AllWaiting, Alone, Spins, Topic, Ends, Displays, Waits, Expected}
 use Rattle.cp_expectation.specs.Spelling.{Words, SpellsProcess, SpellsProcesses, SpellsEnd, SpellsItem, SpellsItems, SpellsOutput, SpellsTopic, SpellsTopics, SpellsOne, SpellsJoined, Spells, ends_in_item, begins_as_value}
-use Rattle.cp_expectation.specs.Steps.{Place, AtClaim, AtTopic, AtOutput, AtShown, After, State, at, Addition, Name, Process, Others, Output, Another, claims, errors, meant_by, before_closing, checked, value_in, process_in, item_in, with_topic, beginnings, begun, end_addition, who_addition, addition, one_who, with_process, with_others, added, or_else, joint, next, expected_at, behind, step, ended, start}
+use Rattle.cp_expectation.specs.Steps.{Place, AtClaim, AtTopic, AtOutput, AtShown, After, State, at, Addition, Name, Process, Others, Output, Another, claims, errors, meant_by, before_closing, checked, value_in, process_in, item_in, with_topic, beginnings, begun, end_addition, who_addition, addition, one_who, with_process, with_others, added, joint, next, expected_at, behind, step, ended, start}
 use Rattle.cp_expectation.specs.Values.{is_value, is_character, is_name, reserved, SpellsValue}
 use Rattle.cp_expectation.specs.Written.{claim_text, is_doubtful, is_own, is_bare}
 use Rattle.cp_expectation.specs.declared.expectation.Claim.{Claim}
@@ -339,7 +340,7 @@ joint_sound e t xs w place p none k = split (bytes_eq w (codes "or")) refl k
     split true or l = subst (λ q. Partial q (xs ++ w ∷ [])) (some_same _ place l) (λ value. inr (xs, w ∷ [], spelled, inr (ap (λ x. x ∷ []) (same_words w (codes "or") or)), refl))
     split false or l = begun_sound (with_topic e t) xs w place (λ value is. inr (xs, [], spelled, inl (refl, parted value is), sym (append-nil xs))) l
 
-after_sound : (e : Expected) (t : Topic) (xs : Words) (w : List ℕ) (place : Place) → Partial (After e t) xs → (o : Option Addition) → addition t w ≡ o → or_else (option_map (added e t) o) (joint (with_topic e t) w) ≡ Some place → Partial place (xs ++ w ∷ [])
+after_sound : (e : Expected) (t : Topic) (xs : Words) (w : List ℕ) (place : Place) → Partial (After e t) xs → (o : Option Addition) → addition t w ≡ o → option_or (option_map (added e t) o) (joint (with_topic e t) w) ≡ Some place → Partial place (xs ++ w ∷ [])
 after_sound e t xs w place p (Some a) is k = subst (λ q. Partial q (xs ++ w ∷ [])) (some_same _ place k) (added_sound e t xs w a p is)
 after_sound e t xs w place p None is k = joint_sound e t xs w place p is k
 

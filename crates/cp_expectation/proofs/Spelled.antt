@@ -1,4 +1,5 @@
 -- Words that spell expectations are read as these.
+use Rattle.std.specs.Option.{option_or}
 use Rattle.std.proofs.Common.{◌≡◌, ◌∙◌, inl, inr, ℕ, Bool, true, false, ◌&&◌, List, [], ◌∷◌, ◌++◌, Option, Some, None, option_map, codes, if◌then◌else◌, refl, sym, ap}
 use Rattle.std.proofs.lemmas.List.{append_assoc, append-nil}
 use Rattle.std.specs.Str.{bytes_eq}
@@ -7,7 +8,7 @@ use Rattle.cp_store.specs.declared.error.ErrorName.TheVariants as error
 use Rattle.cp_walk.specs.Text.{error_text}
 use Rattle.cp_expectation.specs.Plain.{Item, Printed, Any, Who, End, Finished, AnyError, Error, AllWaiting, Alone, Spins, Topic, Ends, Displays, Waits, Expected}
 use Rattle.cp_expectation.specs.Spelling.{Words, SpellsProcess, SpellsProcesses, SpellsWho, SpellsEnd, SpellsItem, SpellsItems, SpellsOutput, SpellsTopic, SpellsTopics, SpellsOne, Spells, ends_in_item, begins_as_value}
-use Rattle.cp_expectation.specs.Steps.{Place, AtClaim, AtTopic, AtOutput, AtShown, After, State, at, Addition, Name, Process, Others, Output, Another, errors, meant_by, value_in, process_in, item_in, with_topic, begun, end_addition, who_addition, addition, added, or_else, joint, next, expected_at, behind, step, ended, start}
+use Rattle.cp_expectation.specs.Steps.{Place, AtClaim, AtTopic, AtOutput, AtShown, After, State, at, Addition, Name, Process, Others, Output, Another, errors, meant_by, value_in, process_in, item_in, with_topic, begun, end_addition, who_addition, addition, added, joint, next, expected_at, behind, step, ended, start}
 use Rattle.cp_expectation.specs.Written.{claim_text}
 use Rattle.cp_expectation.specs.declared.expectation.Claim.{Claim}
 use Rattle.cp_expectation.specs.declared.expectation.Claim.TheVariants.{Never, Sometimes, Only}
@@ -21,7 +22,7 @@ unfolding step
 step_on done place w h = ap (λ b. if b then behind done (expected_at place) else option_map (λ p. at done p) (next place w)) h
 
 added_read : (done : List Expected) (e : Expected) (t : Topic) (w : List ℕ) (a : Addition) → bytes_eq w (codes "and") ≡ false → addition t w ≡ Some a → step (at done (After e t)) w ≡ Some (at done (added e t a))
-added_read done e t w a and is = step_on done (After e t) w and ∙ ap (λ o. option_map (λ p. at done p) (or_else (option_map (added e t) o) (joint (with_topic e t) w))) is
+added_read done e t w a and is = step_on done (After e t) w and ∙ ap (λ o. option_map (λ p. at done p) (option_or (option_map (added e t) o) (joint (with_topic e t) w))) is
 
 process_read : (done : List Expected) (e : Expected) (t : Topic) (w n : List ℕ) → SpellsProcess w n → (IsOther w n → addition t w ≡ Some (Process n)) → run step (Some (at done (After e t))) (w ∷ []) ≡ Some (at done (added e t (Process n)))
 process_read done e t w n h is = let o = other_word w n h in ap (λ s. run step s []) (added_read done e t w (Process n) o.and (is o))
@@ -238,7 +239,7 @@ none_added (Waits None) w value q h = ap (option_map Process) q.process
 none_added (Waits (Some n)) w value q h = refl
 
 joint_read : (done : List Expected) (e : Expected) (t : Topic) (w : List ℕ) (value : Bool) → IsQuiet w value → (ends_in_item t && value) ≡ false → step (at done (After e t)) w ≡ option_map (λ p. at done p) (joint (with_topic e t) w)
-joint_read done e t w value q h = step_on done (After e t) w q.and ∙ ap (λ o. option_map (λ p. at done p) (or_else (option_map (added e t) o) (joint (with_topic e t) w))) (none_added t w value q h)
+joint_read done e t w value q h = step_on done (After e t) w q.and ∙ ap (λ o. option_map (λ p. at done p) (option_or (option_map (added e t) o) (joint (with_topic e t) w))) (none_added t w value q h)
 
 no_value_asked : (b : Bool) → (b && false) ≡ false
 no_value_asked true = refl

@@ -1,4 +1,5 @@
 -- How expectations are read word by word: what may come next, and what a word makes of it.
+use Rattle.std.specs.Option.{option_or}
 use Rattle.std.specs.Prelude.{ℕ, List, [], ◌∷◌, ◌++◌, ◌==◌, true, false, Option, Some, None, option_map, codes, if◌then◌else◌}
 use Rattle.std.specs.Str.{bytes_eq}
 use Rattle.cp_store.specs.declared.error.ErrorName.{ErrorName}
@@ -136,10 +137,6 @@ added e t a = After e t
 
 -- ---- a word
 
-abbrev pub or_else : {A : Type 0} → Option A → Option A → Option A
-or_else (Some x) other = Some x
-or_else None other = other
-
 -- `or`, or what begins another topic
 abbrev pub joint : Expected → List ℕ → Option Place
 joint e word = if bytes_eq word (codes "or") then Some (AtTopic e) else begun e word
@@ -150,7 +147,7 @@ next AtClaim word = option_map (λ c. AtTopic (record { claim = c; topics = [] }
 next (AtTopic e) word = begun e word
 next (AtOutput e end) word = if bytes_eq word (codes "-") then Some (After e (Ends end (Some []))) else option_map (λ i. After e (Ends end (Some (i ∷ [])))) (item_in word (value_in word))
 next (AtShown e) word = option_map (λ v. After e (Displays v)) (value_in word)
-next (After e t) word = or_else (option_map (added e t) (addition t word)) (joint (with_topic e t) word)
+next (After e t) word = option_or (option_map (added e t) (addition t word)) (joint (with_topic e t) word)
 
 -- the expectation that ends there
 abbrev pub expected_at : Place → Option Expected

@@ -29,8 +29,6 @@ pub enum Objection {
     WaitingByOnly,
     WaitingWithAnyGates,
     WaitingAtOnce,
-    /// Those who wait at an end are named, and calls are made at once.
-    NamesOfWaiting,
 }
 
 /// Why a topic can't be asked by this claim, if it can't.
@@ -41,7 +39,6 @@ pub fn topic_objection(question: Question, claim: Claim, topic: &Topic) -> Optio
         Topic::End { end, output } => match question {
             Question::Rows => row_objection(end),
             _ if output.is_some() => Some(Objection::OutputWithEnds),
-            Question::EndsAtOnce => at_once_objection(end),
             _ => None,
         },
         Topic::Shown(_) => shown_objection(question, claim),
@@ -55,16 +52,6 @@ fn row_objection(end: &EndPattern) -> Option<Objection>
     match end {
         EndPattern::Alone(_) => Some(Objection::AloneWithoutEnds),
         EndPattern::Spins(_) => Some(Objection::SpinsWithoutEnds),
-        _ => None,
-    }
-}
-
-// With calls made at once it is not kept apart who waits.
-fn at_once_objection(end: &EndPattern) -> Option<Objection>
-    ensures { result ≡ spec.at_once_objection end.now }
-{
-    match end {
-        EndPattern::AllWaiting(Some(_)) => Some(Objection::NamesOfWaiting),
         _ => None,
     }
 }
@@ -91,19 +78,14 @@ fn waiting_objection(question: Question, claim: Claim) -> Option<Objection>
     }
 }
 
-fn first_objection(question: Question, claim: Claim, topics: &[Topic]) -> Option<Objection>
-    ensures { result ≡ spec.first_objection question claim topics.now }
-{
-    let (first, others) = topics.split_first()?;
-    match topic_objection(question, claim, first) {
-        Some(objection) => Some(objection),
-        None => first_objection(question, claim, others),
-    }
-}
-
 /// Why an expectation can't be asked, if it can't: by the first of its topics that can't.
 pub fn objection_to(question: Question, expectation: &Expectation) -> Option<Objection>
     ensures { result ≡ spec.objection_to question expectation.now }
 {
-    first_objection(question, expectation.claim, &expectation.topics)
+    for topic in &expectation.topics {
+        if let Some(objection) = topic_objection(question, expectation.claim, topic) {
+            return Some(objection);
+        }
+    }
+    None
 }

@@ -47,7 +47,7 @@ pub struct Reader {
     pub doubtful: Option<&'static str>,
 }
 
-fn ended(expectation: Expectation, end: EndPattern) -> ReadPart
+fn with_end(expectation: Expectation, end: EndPattern) -> ReadPart
     ensures { place_of result ≡ steps.After (expected_of expectation) (Ends (end_of end) None) }
 {
     ReadPart::After(expectation, Topic::End { end, output: None })
@@ -58,12 +58,12 @@ fn begin(expectation: Expectation, word: &str) -> Option<ReadPart>
     ensures { option_map place_of result ≡ steps.begun (expected_of expectation) word.now }
 {
     match word {
-        "finished" => Some(ended(expectation, EndPattern::Finished)),
-        "all-waiting" => Some(ended(expectation, EndPattern::AllWaiting(None))),
-        "run-error" => Some(ended(expectation, EndPattern::AnyError)),
+        "finished" => Some(with_end(expectation, EndPattern::Finished)),
+        "all-waiting" => Some(with_end(expectation, EndPattern::AllWaiting(None))),
+        "run-error" => Some(with_end(expectation, EndPattern::AnyError)),
         "shown" => Some(ReadPart::Shown(expectation)),
-        "alone" => Some(ended(expectation, EndPattern::Alone(None))),
-        "spins" => Some(ended(expectation, EndPattern::Spins(None))),
+        "alone" => Some(with_end(expectation, EndPattern::Alone(None))),
+        "spins" => Some(with_end(expectation, EndPattern::Spins(None))),
         "waiting" => Some(ReadPart::After(expectation, Topic::Waiting(None))),
         _ => None,
     }
@@ -233,7 +233,7 @@ fn add_to_end(
 {
     match addition {
         Addition::Output => Ok(ReadPart::Output(expectation, end)),
-        addition => Ok(ended(expectation, longer_end(alloc, end, addition)?)),
+        addition => Ok(with_end(expectation, longer_end(alloc, end, addition)?)),
     }
 }
 
@@ -372,8 +372,8 @@ fn whole(part: ReadPart) -> Result<Option<Expectation>, AllocError>
     }
 }
 
-/// Whether the last word that was read is an item of an output.
-pub fn ends_in_item(part: &ReadPart) -> bool {
+// Whether the last word that was read is an item of an output.
+fn ends_in_item(part: &ReadPart) -> bool {
     match part {
         ReadPart::After(
             _,

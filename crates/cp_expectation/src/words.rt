@@ -271,6 +271,5 @@ pub fn objection_words(objection: Objection) -> &'static str {
         Objection::WaitingByOnly => "waiting is asked by never or some",
         Objection::WaitingWithAnyGates => "waiting can't be asked with --gates any",
         Objection::WaitingAtOnce => "waiting can't be asked with --at-once",
-        Objection::NamesOfWaiting => "all-waiting with names can't be asked with --at-once",
     }
 }
