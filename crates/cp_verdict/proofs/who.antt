@@ -9,6 +9,5 @@ pub mod Leading
 pub mod Lists
 pub mod Outcomes
 pub mod Rows
-pub mod Telling
 pub mod Tests
 pub mod Verdicts

@@ -3,7 +3,7 @@ use Rattle.std.proofs.Common.{◌≡◌, ◌∙◌, ℕ, zero, suc, ◌<◌, Boo
 use Rattle.std.specs.Prelude.{find, Option, None, Some, option_map, slice_get, ◌&&◌}
 use Rattle.cp_verdict.proofs.any_length.Vocabulary.{list_all, Bor}
 
-find_map : {A B : Type 0} (f : A → B) (t : B → Bool) (xs : List A) → find t (map f xs) ≡ option_map f (find (λ x. t (f x)) xs)
+pub find_map : {A B : Type 0} (f : A → B) (t : B → Bool) (xs : List A) → find t (map f xs) ≡ option_map f (find (λ x. t (f x)) xs)
 find_map f t [] = refl
 find_map {A} {B} f t (x ∷ xs) = split (t (f x)) (find_map f t xs)
   where
@@ -11,7 +11,7 @@ find_map {A} {B} f t (x ∷ xs) = split (t (f x)) (find_map f t xs)
     split true h = refl
     split false h = h
 
-map_twice : {A B C : Type 0} (f : A → B) (g : B → C) (o : Option A) → option_map (λ x. g (f x)) o ≡ option_map g (option_map f o)
+pub map_twice : {A B C : Type 0} (f : A → B) (g : B → C) (o : Option A) → option_map (λ x. g (f x)) o ≡ option_map g (option_map f o)
 map_twice f g None = refl
 map_twice f g (Some x) = refl
 

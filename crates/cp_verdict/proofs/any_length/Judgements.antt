@@ -17,7 +17,8 @@ use Rattle.cp_expectation.specs.declared.expectation.Topic.TheVariants as topic
 use Rattle.cp_verdict.specs.Outputs.{value_text}
 use Rattle.cp_verdict.specs.endless.Behaviour.{Behaviour, Finding, Ends, Shows, Waits, IsSo, is_same_sort, word_of, on_slots}
 use Rattle.cp_verdict.specs.endless.Expectations.{IsTrueIf, asks_some_by, is_about, is_against_only, is_cut, is_named, is_other, is_value_named, is_waiting_named, settles_by}
-use Rattle.cp_verdict.specs.endless.Judged.{IsJudged, earlier_of, found_about, found_by, found_settling, judgement_of, or_other}
+use Rattle.std.specs.Option.{option_or}
+use Rattle.cp_verdict.specs.endless.Judged.{IsJudged, earlier_of, found_about, found_by, found_end, found_settling, judgement_of}
 use Rattle.cp_verdict.specs.endless.Knowledge.{HasNoCut, IsKnown, KnowsWaits, Looked, ended, end_pair, finding_of, is_kept, is_settled, is_whole, shown, those_waiting, value_pair, waiting_for_ever}
 use Rattle.cp_verdict.specs.endless.Marked.{with_tables}
 use Rattle.cp_verdict.specs.endless.Naming.{Names, Processes}
@@ -82,7 +83,7 @@ earlier_none (Some x) (Some y) e = split (is_up_to (word_of x) (word_of y)) e
     split true l = absurd (cc)
     split false l = absurd (cc)
 
-pub other_none : (o p : Option Finding) → or_other o p ≡ None → (o ≡ None) × (p ≡ None)
+pub other_none : (o p : Option Finding) → option_or o p ≡ None → (o ≡ None) × (p ≡ None)
 other_none None p e = (refl, e)
 other_none (Some x) p e = absurd (cc)
 
@@ -241,17 +242,17 @@ module _ (r : Tables) (discipline : Discipline) (steps most : ℕ) (k : KnownEnd
       abbrev by_values : Option Finding
       by_values = find (is_about names ts) (map shown (map value_pair k.values.items))
 
-      about_first : (f : Finding) → found_about names ts k ≡ Some f → IsFirstBy (is_about names ts) f
+      about_first : (f : Finding) → found_about names ts k by_ends ≡ Some f → IsFirstBy (is_about names ts) f
       about_first f e = split by_waits refl e
         where
-          split : (o : Option Finding) → by_waits ≡ o → or_other o (earlier_of by_ends by_values) ≡ Some f → IsFirstBy (is_about names ts) f
+          split : (o : Option Finding) → by_waits ≡ o → option_or o (earlier_of by_ends by_values) ≡ Some f → IsFirstBy (is_about names ts) f
           split (Some g) here l =
               let same : g ≡ f = cc in
               let w = waits_first ts f (here ∙ ap Some same) in
               (w.0, w.1, λ x so is sort. ap (λ v. is_up_to v (word_of x)) w.2 ∙ up_to_empty (word_of x))
           split None here l = earlier_one (IsFirstBy (is_about names ts)) by_ends by_values f (ends_about (is_named ps ts) (is_about names ts) (λ x. refl)) (values_about (λ v. is_value_named ts (value_text r.names v)) (is_about names ts) (λ x. refl)) l
 
-      about_none : list_all (λ t. is_kept t k) ts ≡ true → is_whole k ≡ true → found_about names ts k ≡ None → NoneIs (is_about names ts)
+      about_none : list_all (λ t. is_kept t k) ts ≡ true → is_whole k ≡ true → found_about names ts k by_ends ≡ None → NoneIs (is_about names ts)
       about_none kept whole e = none
         where
           parts : (by_waits ≡ None) × (earlier_of by_ends by_values ≡ None)
@@ -272,12 +273,12 @@ module _ (r : Tables) (discipline : Discipline) (steps most : ℕ) (k : KnownEnd
 
       -- ---- expectations
 
-      settled_first : (c : Claim) (f : Finding) → found_by c names ts k ≡ Some f → IsFirstBy (settles_by c names ts) f
+      settled_first : (c : Claim) (f : Finding) → found_by c names ts k (found_end c names ts k) ≡ Some f → IsFirstBy (settles_by c names ts) f
       settled_first Never f e = about_first f e
       settled_first Sometimes f e = about_first f e
       settled_first Only f e = ends_about (is_other ps ts) (is_against_only names ts) (λ x. refl) f e
 
-      settled_none : (c : Claim) → list_all (λ t. is_kept t k) ts ≡ true → is_whole k ≡ true → found_by c names ts k ≡ None → NoneIs (settles_by c names ts)
+      settled_none : (c : Claim) → list_all (λ t. is_kept t k) ts ≡ true → is_whole k ≡ true → found_by c names ts k (found_end c names ts k) ≡ None → NoneIs (settles_by c names ts)
       settled_none Never kept whole e = about_none kept whole e
       settled_none Sometimes kept whole e = about_none kept whole e
       settled_none Only kept whole e = only_none whole e

@@ -27,7 +27,8 @@ use Rattle.cp_verdict.proofs.who.EndsMarks.{unnamed}
 use Rattle.cp_verdict.specs.endless.AtOnce.{IsAgain, IsEndsMark, IsKnownAtOnce, IsMarkAtOnce, IsMarkInTurn, at_any_limit, can_be_at_once, knows_end, knows_value}
 use Rattle.cp_verdict.specs.endless.Behaviour.{Behaviour, Finding, Ends, Shows, Waits, IsSo}
 use Rattle.cp_verdict.specs.endless.Expectations.{HasSettling, IsTrue, IsTrueIf, asks_some, is_about, is_against_only, is_value_named, is_waiting_named, settles_by}
-use Rattle.cp_verdict.specs.endless.Judged.{earlier_of, found_about, found_by, found_settling, or_other}
+use Rattle.std.specs.Option.{option_or}
+use Rattle.cp_verdict.specs.endless.Judged.{earlier_of, found_about, found_by, found_end, found_settling}
 use Rattle.cp_verdict.specs.endless.Knowledge.{end_pair, ended, finding_of, is_kept, is_settled, is_whole, shown, those_waiting, value_pair, waiting_for_ever}
 use Rattle.cp_verdict.specs.endless.Marked.{AreJudged, IsJudgedToFail, IsMarkOf, IsMeantMark, IsTrueMark, ask_waits, asks_waits, is_of_waiting, mark_of, open_mark, with_tables}
 use Rattle.cp_expectation.specs.declared.expectation.Claim.{Claim}
@@ -97,16 +98,16 @@ none_waits names ts [] h = refl
 none_waits names ts (w ∷ ws) h = ap (λ b. cond b (Some (waiting_for_ever w)) (find (is_about names ts) (map waiting_for_ever ws))) (no_waiting names.processes ts w.process h) ∙ none_waits names ts ws h
 
 -- where nobody asks who waits, it is found among ends and values
-about_there : (names : Names) (ts : List Topic) (k : KnownEnds) → list_any is_of_waiting ts ≡ false → found_about names ts k ≡ earlier_of (find (is_about names ts) (map ended (map end_pair k.ends.items))) (find (is_about names ts) (map shown (map value_pair k.values.items)))
-about_there names ts k h = ap (λ o. or_other o (earlier_of (find (is_about names ts) (map ended (map end_pair k.ends.items))) (find (is_about names ts) (map shown (map value_pair k.values.items))))) (none_waits names ts (those_waiting k.waits) h)
+about_there : (names : Names) (ts : List Topic) (k : KnownEnds) → list_any is_of_waiting ts ≡ false → found_about names ts k (find (is_about names ts) (map ended (map end_pair k.ends.items))) ≡ earlier_of (find (is_about names ts) (map ended (map end_pair k.ends.items))) (find (is_about names ts) (map shown (map value_pair k.values.items)))
+about_there names ts k h = ap (λ o. option_or o (earlier_of (find (is_about names ts) (map ended (map end_pair k.ends.items))) (find (is_about names ts) (map shown (map value_pair k.values.items))))) (none_waits names ts (those_waiting k.waits) h)
 
-no_end_found : (c : Claim) (names : Names) (ts : List Topic) (k : KnownEnds) → list_any is_of_waiting ts ≡ false → found_by c names ts k ≡ None → find (settles_by c names ts) (map ended (map end_pair k.ends.items)) ≡ None
+no_end_found : (c : Claim) (names : Names) (ts : List Topic) (k : KnownEnds) → list_any is_of_waiting ts ≡ false → found_by c names ts k (found_end c names ts k) ≡ None → find (settles_by c names ts) (map ended (map end_pair k.ends.items)) ≡ None
 no_end_found Never names ts k h e = (earlier_none _ _ (sym (about_there names ts k h) ∙ e)).0
 no_end_found Sometimes names ts k h e = (earlier_none _ _ (sym (about_there names ts k h) ∙ e)).0
 no_end_found Only names ts k h e = e
 
 -- a value that settles an expectation is asked by `never` or `some`
-no_value_found : (c : Claim) (names : Names) (ts : List Topic) (k : KnownEnds) (v : Shown) (word : List ℕ) → list_any is_of_waiting ts ≡ false → found_by c names ts k ≡ None → settles_by c names ts (Shows v word) ≡ true → (find (settles_by c names ts) (map shown (map value_pair k.values.items)) ≡ None) × (is_value_named ts (value_text names.values v) ≡ true)
+no_value_found : (c : Claim) (names : Names) (ts : List Topic) (k : KnownEnds) (v : Shown) (word : List ℕ) → list_any is_of_waiting ts ≡ false → found_by c names ts k (found_end c names ts k) ≡ None → settles_by c names ts (Shows v word) ≡ true → (find (settles_by c names ts) (map shown (map value_pair k.values.items)) ≡ None) × (is_value_named ts (value_text names.values v) ≡ true)
 no_value_found Never names ts k v word h e is = ((earlier_none _ _ (sym (about_there names ts k h) ∙ e)).1, is)
 no_value_found Sometimes names ts k v word h e is = ((earlier_none _ _ (sym (about_there names ts k h) ∙ e)).1, is)
 no_value_found Only names ts k v word h e is = absurd (cc)
@@ -147,7 +148,7 @@ module _ (ps : Processes) (t : Tree) (r : Tables) (read : IsRead t.program) (ok 
       subst (IsSo b) x.2 (shows_so x.0.0 x.0.1 (all_at (λ (y : Shown × List ℕ). ShowsSo (slots r by_the_book) without_output steps y.0 y.1) (map value_pair k.values.items) at x.0 h.values x.1))
 
   -- what is found is so
-  found_so : (c : Claim) (ts : List Topic) (f : Finding) → list_any is_of_waiting ts ≡ false → found_by c names ts k ≡ Some f → IsSo b f × (settles_by c names ts f ≡ true)
+  found_so : (c : Claim) (ts : List Topic) (f : Finding) → list_any is_of_waiting ts ≡ false → found_by c names ts k (found_end c names ts k) ≡ Some f → IsSo b f × (settles_by c names ts f ≡ true)
   found_so c ts f waits e = by_claim c e
     where
       end_found : (t : Finding → Bool) (g : Finding) → find t (map ended (map end_pair k.ends.items)) ≡ Some g → IsSo b g × (t g ≡ true)
@@ -156,10 +157,10 @@ module _ (ps : Processes) (t : Tree) (r : Tables) (read : IsRead t.program) (ok 
       value_found : (t : Finding → Bool) (g : Finding) → find t (map shown (map value_pair k.values.items)) ≡ Some g → IsSo b g × (t g ≡ true)
       value_found t g here = let x = found_at t (map shown (map value_pair k.values.items)) g here in (values_so x.place g x.at, x.passes)
 
-      about : found_about names ts k ≡ Some f → IsSo b f × (is_about names ts f ≡ true)
+      about : found_about names ts k (find (is_about names ts) (map ended (map end_pair k.ends.items))) ≡ Some f → IsSo b f × (is_about names ts f ≡ true)
       about l = earlier_one (λ g. IsSo b g × (is_about names ts g ≡ true)) _ _ f (end_found (is_about names ts)) (value_found (is_about names ts)) (sym (about_there names ts k waits) ∙ l)
 
-      by_claim : (d : Claim) → found_by d names ts k ≡ Some f → IsSo b f × (settles_by d names ts f ≡ true)
+      by_claim : (d : Claim) → found_by d names ts k (found_end d names ts k) ≡ Some f → IsSo b f × (settles_by d names ts f ≡ true)
       by_claim Never l = about l
       by_claim Sometimes l = about l
       by_claim Only l = end_found (is_against_only names ts) f l

@@ -1,5 +1,5 @@
 -- What is known of an expectation that names who waits at an end, by what the code finds.
-use Rattle.std.proofs.Common.{◌≡◌, inl, inr, ◌∙◌, ℕ, Bool, true, false, not, ◌&&◌, ◌||◌, List, [], ◌∷◌, ◌++◌, map, cond, refl, sym, ap, subst}
+use Rattle.std.proofs.Common.{◌≡◌, inl, inr, ◌∙◌, ℕ, Bool, true, false, not, ◌&&◌, ◌||◌, List, [], ◌∷◌, ◌++◌, map, cond, refl, sym, ap, subst, if◌then◌else◌}
 use Rattle.std.specs.Prelude.{find, Option, None, Some, option_map}
 use Rattle.std.specs.List.{list_any, list_all}
 use Rattle.cp_slots.specs.Tables.{Tables}
@@ -16,12 +16,15 @@ use Rattle.cp_verdict.specs.Outputs.{value_text}
 use Rattle.cp_verdict.specs.endless.Behaviour.{Behaviour, Finding, Ends, Shows, Waits, IsSo, on_slots}
 use Rattle.cp_verdict.specs.endless.Expectations as ends
 use Rattle.cp_verdict.specs.endless.Expectations.{asks_some, asks_some_by, is_about, is_value_named, is_waiting_named}
-use Rattle.cp_verdict.specs.endless.Judged.{earlier_of, judgement_of, or_other}
+use Rattle.std.specs.Option.{option_or}
+use Rattle.cp_verdict.specs.endless.Judged as by_first
+use Rattle.cp_verdict.specs.endless.Judged.{earlier_of, found_by, judgement_of}
 use Rattle.cp_verdict.specs.endless.Knowledge.{IsKnown, Looked, ended, end_pair, finding_of, is_kept, is_settled, is_whole, shown, those_waiting, value_pair, waiting_for_ever}
 use Rattle.cp_verdict.specs.endless.Marked.{with_tables}
 use Rattle.cp_verdict.specs.endless.Naming.{Names, Processes}
 use Rattle.cp_verdict.specs.waiting.Ends.{IsTrueIf, is_waiting, settles, settles_end}
-use Rattle.cp_verdict.specs.waiting.EndsJudged.{IsJudged, found_by, found_end, found_settling}
+use Rattle.cp_verdict.specs.waiting.Asking.{names_who}
+use Rattle.cp_verdict.specs.waiting.EndsJudged.{IsJudged, IsJudgedAny, found_by_who, found_settling}
 use Rattle.cp_verdict.specs.waiting.Known.{KnowsWho}
 use Rattle.cp_verdict.specs.waiting.Who.{who_on_slots}
 use Rattle.cp_verdict.specs.declared.endless.judging.EndsJudgement.{EndsJudgement}
@@ -30,6 +33,8 @@ use Rattle.cp_verdict.specs.declared.endless.known.KnownEnds.{KnownEnds}
 use Rattle.cp_verdict.specs.declared.endless.known.KnownWaitingEnd.{KnownWaitingEnd}
 use Rattle.cp_verdict.specs.declared.endless.known.Witness.{Witness}
 use Rattle.cp_verdict.proofs.any_length.Finding.{at_map, found_at, found_none, map_at, some_same}
+use Rattle.cp_verdict.proofs.any_length.Telling.{end_is}
+use Rattle.cp_verdict.proofs.any_length.Judgements as plainly
 use Rattle.cp_verdict.proofs.any_length.Judgements.{both, earlier_none, earlier_one, looked_none, other_none, value_kept, values_first, values_not, waiting_kept, waits_first, waits_none}
 use Rattle.cp_verdict.proofs.who.Tests.{any_same, end_aside}
 
@@ -137,7 +142,7 @@ module _ (r : Tables) (discipline : Discipline) (steps most : ℕ) (k : KnownEnd
       let so = w.each x (contains_at k.waiting.items f.place x f.at) in
       (subst (λ (end : End). b.ends end x.end.word.items) (sym so.0) so.1, ap (λ (v : List ℕ). settles_end ps e v x.end.end) (sym so.2) ∙ f.passes)
 
-  end_so : (f : Finding) → found_end ps e k ≡ Some f → IsRight f
+  end_so : (f : Finding) → found_by_who ps e k ≡ Some f → IsRight f
   end_so f is = earlier_one IsRight (option_map (λ x. ended (end_pair x)) (find is_other k.ends.items)) (option_map (λ x. ended (end_pair x.end)) (find is_one k.waiting.items)) f
       (λ g here. others g (find is_other k.ends.items) refl here) (λ g here. ones g (find is_one k.waiting.items) refl here) is
     where
@@ -150,7 +155,7 @@ module _ (r : Tables) (discipline : Discipline) (steps most : ℕ) (k : KnownEnd
       ones g (Some x) here at = subst IsRight (some_same (ended (end_pair x.end)) g at) (waiting_so x here)
 
   -- an end that was looked at does not settle it, where none that is known does
-  end_not : found_end ps e k ≡ None → (end : End) (word : List ℕ) → Looked k.looked b.ends end word → settles names who e (Ends end word) ≡ false
+  end_not : found_by_who ps e k ≡ None → (end : End) (word : List ℕ) → Looked k.looked b.ends end word → settles names who e (Ends end word) ≡ false
   end_not is end word so = by (is_waiting end) refl
     where
       parts : (option_map (λ x. ended (end_pair x)) (find is_other k.ends.items) ≡ None) × (option_map (λ x. ended (end_pair x.end)) (find is_one k.waiting.items) ≡ None)
@@ -198,19 +203,19 @@ module _ (r : Tables) (discipline : Discipline) (steps most : ℕ) (k : KnownEnd
         let so = waits_first r discipline steps most k h ps ts f here in
         subst IsRight x.2 (subst (IsSo b) (sym x.2) so.0, claimed (waiting_for_ever x.0) ∙ ap (is_about names ts) x.2 ∙ so.1)
 
-    some_so : (f : Finding) → or_other by_waits (earlier_of (found_end ps e k) by_values) ≡ Some f → IsRight f
+    some_so : (f : Finding) → option_or by_waits (earlier_of (found_by_who ps e k) by_values) ≡ Some f → IsRight f
     some_so f at = by by_waits refl at
       where
-        by : (o : Option Finding) → by_waits ≡ o → or_other o (earlier_of (found_end ps e k) by_values) ≡ Some f → IsRight f
+        by : (o : Option Finding) → by_waits ≡ o → option_or o (earlier_of (found_by_who ps e k) by_values) ≡ Some f → IsRight f
         by (Some g) here on = wait_so f (here ∙ on)
-        by None here on = earlier_one IsRight (found_end ps e k) by_values f (λ g x. end_so g x) (λ g x. value_so g x) on
+        by None here on = earlier_one IsRight (found_by_who ps e k) by_values f (λ g x. end_so g x) (λ g x. value_so g x) on
 
-    module _ (none : or_other by_waits (earlier_of (found_end ps e k) by_values) ≡ None) where
-      parts : (by_waits ≡ None) × (earlier_of (found_end ps e k) by_values ≡ None)
-      parts = other_none by_waits (earlier_of (found_end ps e k) by_values) none
+    module _ (none : option_or by_waits (earlier_of (found_by_who ps e k) by_values) ≡ None) where
+      parts : (by_waits ≡ None) × (earlier_of (found_by_who ps e k) by_values ≡ None)
+      parts = other_none by_waits (earlier_of (found_by_who ps e k) by_values) none
 
-      two : (found_end ps e k ≡ None) × (by_values ≡ None)
-      two = earlier_none (found_end ps e k) by_values parts.1
+      two : (found_by_who ps e k ≡ None) × (by_values ≡ None)
+      two = earlier_none (found_by_who ps e k) by_values parts.1
 
       none_so : list_all (λ t. is_kept t k) ts ≡ true → is_whole k ≡ true → NoneIs
       none_so kept whole (Ends end word) so it = not_false (settles names who e (Ends end word)) it (end_not two.0 end word (subst (λ (looked : Option ℕ). Looked looked b.ends end word) (sym (looked_none r discipline steps most k h whole)) so))
@@ -226,7 +231,7 @@ module _ (r : Tables) (discipline : Discipline) (steps most : ℕ) (k : KnownEnd
           (any_map waiting_for_ever (settles names who e) (those_waiting k.waits) ∙ any_same (λ x. settles names who e (waiting_for_ever x)) (λ x. is_about names ts (waiting_for_ever x)) (those_waiting k.waits) (λ x. claimed (waiting_for_ever x)) ∙ sym (any_map waiting_for_ever (is_about names ts) (those_waiting k.waits)) ∙ none_in (is_about names ts) (map waiting_for_ever (those_waiting k.waits)) parts.0)
           (any_map shown (settles names who e) (map value_pair k.values.items) ∙ any_same (λ x. settles names who e (shown x)) (λ x. is_about names ts (shown x)) (map value_pair k.values.items) (λ x. claimed (shown x)) ∙ sym (any_map shown (is_about names ts) (map value_pair k.values.items)) ∙ none_in (is_about names ts) (map shown (map value_pair k.values.items)) two.1)
 
-      ends_not : found_end ps e k ≡ None
+      ends_not : found_by_who ps e k ≡ None
       ends_not = two.0
 
   -- only ends are against `only`
@@ -234,7 +239,7 @@ module _ (r : Tables) (discipline : Discipline) (steps most : ℕ) (k : KnownEnd
     only_not : (f : Finding) → ends.settles_by Only names ts f ≡ false → ends.settles names e f ≡ false
     only_not f by_only = ap (λ (d : Claim). ends.settles_by d names ts f) is ∙ by_only
 
-    only_none : found_end ps e k ≡ None → is_whole k ≡ true → NoneIs
+    only_none : found_by_who ps e k ≡ None → is_whole k ≡ true → NoneIs
     only_none none whole (Ends end word) so it = not_false (settles names who e (Ends end word)) it (end_not none end word (subst (λ (looked : Option ℕ). Looked looked b.ends end word) (sym (looked_none r discipline steps most k h whole)) so))
     only_none none whole (Shows v word) so it = not_false (settles names who e (Shows v word)) it (only_not (Shows v word) refl)
     only_none none whole (Waits q) so it = not_false (settles names who e (Waits q)) it (only_not (Waits q) refl)
@@ -246,12 +251,12 @@ module _ (r : Tables) (discipline : Discipline) (steps most : ℕ) (k : KnownEnd
 
   -- ---- the judgement
 
-  right : (c : Claim) → e.claim ≡ c → (f : Finding) → found_by c names e k ≡ Some f → IsRight f
+  right : (c : Claim) → e.claim ≡ c → (f : Finding) → found_by c names ts k (found_by_who ps e k) ≡ Some f → IsRight f
   right Never is f at = some_so Never is (λ g. refl) f at
   right Sometimes is f at = some_so Sometimes is (λ g. refl) f at
   right Only is f at = end_so f at
 
-  nothing : (c : Claim) → e.claim ≡ c → found_by c names e k ≡ None → is_settled e k ≡ true → NoneIs
+  nothing : (c : Claim) → e.claim ≡ c → found_by c names ts k (found_by_who ps e k) ≡ None → is_settled e k ≡ true → NoneIs
   nothing Never is none s = let p = both (is_whole k) (list_all (λ t. is_kept t k) ts) s in none_so Never is (λ g. refl) none p.1 p.0
   nothing Sometimes is none s = let p = both (is_whole k) (list_all (λ t. is_kept t k) ts) s in none_so Sometimes is (λ g. refl) none p.1 p.0
   nothing Only is none s = only_none is none (both (is_whole k) (list_all (λ t. is_kept t k) ts) s).0
@@ -261,12 +266,12 @@ module _ (r : Tables) (discipline : Discipline) (steps most : ℕ) (k : KnownEnd
       ((end : End) (word : List ℕ) → Looked k.looked b.ends end word → settles names who e (Ends end word) ≡ false) ×
       (list_any (settles names who e) (map waiting_for_ever (those_waiting k.waits) ++ map shown (map value_pair k.values.items)) ≡ false)
 
-  unsettled : (c : Claim) → e.claim ≡ c → found_by c names e k ≡ None → Unsettled
+  unsettled : (c : Claim) → e.claim ≡ c → found_by c names ts k (found_by_who ps e k) ≡ None → Unsettled
   unsettled Never is none = (end_not (ends_not Never is (λ g. refl) none), others_not Never is (λ g. refl) none)
   unsettled Sometimes is none = (end_not (ends_not Sometimes is (λ g. refl) none), others_not Sometimes is (λ g. refl) none)
   unsettled Only is none = (end_not none, only_others is)
 
-  by : (asks : Bool) (found : Option Witness) (settled : Bool) → asks_some e ≡ asks → option_map finding_of found ≡ found_settling names e k → is_settled e k ≡ settled → IsJudged names who b k e (judgement_of asks found settled)
+  by : (asks : Bool) (found : Option Witness) (settled : Bool) → asks_some e ≡ asks → option_map finding_of found ≡ found_by e.claim names ts k (found_by_who ps e k) → is_settled e k ≡ settled → IsJudged names who b k e (judgement_of asks found settled)
   by true (Some x) settled a here s = let so = right e.claim refl (finding_of x) (sym here) in (subst (λ asks. IsTrueIf asks names who b e) (sym a) (finding_of x, so.0, so.1), inl a)
   by true None true a here s = (a, λ y. nothing e.claim refl (sym here) s y.0 y.1 y.2, s)
   by true None false a here s = let u = unsettled e.claim refl (sym here) in (u.0, u.1, s)
@@ -274,5 +279,20 @@ module _ (r : Tables) (discipline : Discipline) (steps most : ℕ) (k : KnownEnd
   by false None true a here s = (subst (λ asks. IsTrueIf asks names who b e) (sym a) (λ y. nothing e.claim refl (sym here) s y.0 y.1 y.2), inr s)
   by false None false a here s = let u = unsettled e.claim refl (sym here) in (u.0, u.1, s)
 
-  pub judged : (j : EndsJudgement) (found : Option Witness) (settled : Bool) → option_map finding_of found ≡ found_settling names e k → settled ≡ is_settled e k → j ≡ judgement_of (asks_some_by e.claim) found settled → IsJudged names who b k e j
+  pub judged : (j : EndsJudgement) (found : Option Witness) (settled : Bool) → option_map finding_of found ≡ found_by e.claim names ts k (found_by_who ps e k) → settled ≡ is_settled e k → j ≡ judgement_of (asks_some_by e.claim) found settled → IsJudged names who b k e j
   judged j found settled here s is = subst (IsJudged names who b k e) (sym is) (by (asks_some_by e.claim) found settled refl here (sym s))
+
+-- ---- whether it names somebody or not
+
+settling_is : (names : Names) (e : Expectation) (k : KnownEnds) (c : Bool) → names_who e ≡ c → found_settling names e k ≡ found_by e.claim names e.topics.items k (if c then found_by_who names.processes e k else by_first.found_end e.claim names e.topics.items k)
+settling_is names e k c is = ap (found_by e.claim names e.topics.items k) (end_is names e k c is)
+
+pub settling_plainly : (names : Names) (e : Expectation) (k : KnownEnds) → names_who e ≡ false → found_settling names e k ≡ by_first.found_settling names e k
+settling_plainly names e k none = settling_is names e k false none
+
+pub judged_any : (r : Tables) (discipline : Discipline) (steps most : ℕ) (k : KnownEnds) (h : IsKnown r discipline steps most k) (ps : Processes) (e : Expectation) (j : EndsJudgement) (found : Option Witness) (settled : Bool) →
+    option_map finding_of found ≡ found_settling (with_tables r ps) e k → settled ≡ is_settled e k → j ≡ judgement_of (asks_some_by e.claim) found settled → IsJudgedAny r ps discipline steps k e j
+judged_any r discipline steps most k h ps e j found settled here s is = (
+  λ none. plainly.judged r discipline steps most k h ps e j found settled (here ∙ settling_plainly (with_tables r ps) e k none) s is,
+  λ asks w. judged r discipline steps most k h w ps e j found settled (here ∙ settling_is (with_tables r ps) e k true asks) s is,
+)

@@ -28,7 +28,7 @@ use Rattle.cp_verdict.specs.declared.endless.known.KnownEnds.{KnownEnds}
 use Rattle.cp_verdict.specs.declared.endless.known.KnownWaitingEnd.{KnownWaitingEnd}
 use Rattle.cp_verdict.proofs.who.Leading.{stops_in}
 use Rattle.cp_verdict.proofs.who.Lists.{of_same_map}
-use Rattle.cp_verdict.proofs.who.Telling.{map_twice}
+use Rattle.cp_verdict.proofs.any_length.Finding.{map_twice}
 
 -- ---- one more end
 

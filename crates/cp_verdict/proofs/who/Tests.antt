@@ -90,7 +90,7 @@ pub named_aside : (ps : Processes) (who : List ℕ) (ts : List Topic) (end : End
 named_aside ps who ts end h = any_same (λ t. spec.names_end ps who t end) (λ t. ends.names_end ps t end) ts (λ t. names_aside ps who t end h)
 
 -- an expectation that names nobody is settled by the same
-end_unasked : (c : Claim) (names : Names) (who : List ℕ) (ts : List Topic) (end : End) (word : List ℕ) → list_any is_of_who ts ≡ false → spec.settles_end_by c names.processes ts who end ≡ ends.settles_by c names ts (Ends end word)
+pub end_unasked : (c : Claim) (names : Names) (who : List ℕ) (ts : List Topic) (end : End) (word : List ℕ) → list_any is_of_who ts ≡ false → spec.settles_end_by c names.processes ts who end ≡ ends.settles_by c names ts (Ends end word)
 end_unasked Never names who ts end word h = named_unasked names.processes who ts end h
 end_unasked Sometimes names who ts end word h = named_unasked names.processes who ts end h
 end_unasked Only names who ts end word h = ap (λ b. not b && not (is_cut end)) (named_unasked names.processes who ts end h)

@@ -1,12 +1,13 @@
 -- What is known of an expectation.
 use Rattle.std.specs.Prelude.{◌≡◌, ◌⊎◌, Bool, true, false, List, find, map, Option, None, Some, option_map, if◌then◌else◌}
+use Rattle.std.specs.Option.{option_or}
 use Rattle.cp_ends.specs.Firsts.{is_up_to}
 use Rattle.cp_expectation.specs.declared.expectation.Claim.{Claim}
 use Rattle.cp_expectation.specs.declared.expectation.Claim.TheVariants.{Only}
 use Rattle.cp_expectation.specs.declared.expectation.Expectation.{Expectation}
 use Rattle.cp_expectation.specs.declared.expectation.Topic.{Topic}
 use Rattle.cp_verdict.specs.endless.Behaviour.{Behaviour, Finding, IsSo, is_same_sort, word_of}
-use Rattle.cp_verdict.specs.endless.Expectations.{HasSettling, IsTrue, asks_some, is_about, is_against_only, settles}
+use Rattle.cp_verdict.specs.endless.Expectations.{HasSettling, IsTrue, asks_some, is_about, settles, settles_by}
 use Rattle.cp_verdict.specs.endless.Knowledge.{ended, end_pair, finding_of, is_settled, shown, those_waiting, value_pair, waiting_for_ever}
 use Rattle.cp_verdict.specs.endless.Naming.{Names}
 use Rattle.cp_verdict.specs.declared.endless.judging.EndsJudgement.{EndsJudgement}
@@ -28,22 +29,22 @@ earlier_of None other = other
 earlier_of (Some f) None = Some f
 earlier_of (Some f) (Some g) = if is_up_to (word_of f) (word_of g) then Some f else Some g
 
-abbrev pub or_other : Option Finding → Option Finding → Option Finding
-or_other (Some f) other = Some f
-or_other None other = other
+-- the first of which the topics speak, where this is the first end: who waits, or else the earlier one of ends and values
+abbrev pub found_about : Names → List Topic → KnownEnds → (end : Option Finding) → Option Finding
+found_about names ts k end = option_or (find (is_about names ts) (map waiting_for_ever (those_waiting k.waits))) (earlier_of end (find (is_about names ts) (map shown (map value_pair k.values.items))))
 
--- the first of which the topics speak: who waits, or else the earlier one of ends and values
-abbrev pub found_about : Names → List Topic → KnownEnds → Option Finding
-found_about names ts k =
-    or_other (find (is_about names ts) (map waiting_for_ever (those_waiting k.waits))) (earlier_of (find (is_about names ts) (map ended (map end_pair k.ends.items))) (find (is_about names ts) (map shown (map value_pair k.values.items))))
+-- only ends are against `only`
+abbrev pub found_by : Claim → Names → List Topic → KnownEnds → (end : Option Finding) → Option Finding
+found_by Only names ts k end = end
+found_by c names ts k end = found_about names ts k end
 
-abbrev pub found_by : Claim → Names → List Topic → KnownEnds → Option Finding
-found_by Only names ts k = find (is_against_only names ts) (map ended (map end_pair k.ends.items))
-found_by c names ts k = found_about names ts k
+-- the first end that settles an expectation
+abbrev pub found_end : Claim → Names → List Topic → KnownEnds → Option Finding
+found_end c names ts k = find (settles_by c names ts) (map ended (map end_pair k.ends.items))
 
 -- what is found to settle an expectation
 abbrev pub found_settling : Names → Expectation → KnownEnds → Option Finding
-found_settling names e k = found_by e.claim names e.topics.items k
+found_settling names e k = found_by e.claim names e.topics.items k (found_end e.claim names e.topics.items k)
 
 -- ---- judgements
 

@@ -1,16 +1,14 @@
 -- What is known of an expectation that may name who waits at an end.
-use Rattle.std.specs.Prelude.{◌≡◌, ◌⊎◌, ◌&&◌, ◌++◌, ℕ, List, [], true, false, not, Option, find, map, option_map}
+use Rattle.std.specs.Prelude.{◌≡◌, ◌⊎◌, ◌&&◌, ◌++◌, ℕ, List, [], true, false, not, Option, find, map, option_map, if◌then◌else◌}
 use Rattle.std.specs.List.{list_any}
 use Rattle.cp_slots.specs.Tables.{Tables}
 use Rattle.cp_machine.specs.declared.discipline.Discipline.{Discipline}
 use Rattle.cp_ends.specs.declared.end.End.{End}
-use Rattle.cp_expectation.specs.declared.expectation.Claim.{Claim}
-use Rattle.cp_expectation.specs.declared.expectation.Claim.TheVariants.{Only}
 use Rattle.cp_expectation.specs.declared.expectation.Expectation.{Expectation}
 use Rattle.cp_verdict.specs.endless.Behaviour.{Behaviour, Finding, Ends, IsSo, on_slots}
-use Rattle.cp_verdict.specs.endless.Expectations.{asks_some, is_about}
+use Rattle.cp_verdict.specs.endless.Expectations.{asks_some}
 use Rattle.cp_verdict.specs.endless.Judged as judged
-use Rattle.cp_verdict.specs.endless.Judged.{earlier_of, or_other}
+use Rattle.cp_verdict.specs.endless.Judged.{earlier_of}
 use Rattle.cp_verdict.specs.endless.Knowledge.{Looked, ended, end_pair, finding_of, is_settled, shown, those_waiting, value_pair, waiting_for_ever}
 use Rattle.cp_verdict.specs.endless.Marked.{with_tables}
 use Rattle.cp_verdict.specs.endless.Naming.{Names, Processes}
@@ -24,21 +22,18 @@ use Rattle.cp_verdict.specs.declared.endless.known.KnownEnds.{KnownEnds}
 
 -- ---- what is found among what is known
 
--- the first end that settles an expectation: of those at which not all wait, or of those at which all wait, the one with the earlier word
-abbrev pub found_end : Processes → Expectation → KnownEnds → Option Finding
-found_end ps e k =
+-- by who waits there: of those at which not all wait, or of those at which all wait, the one with the earlier word
+abbrev pub found_by_who : Processes → Expectation → KnownEnds → Option Finding
+found_by_who ps e k =
     earlier_of (option_map (λ x. ended (end_pair x)) (find (λ x. not (is_waiting x.end) && settles_end ps e [] x.end) k.ends.items))
     (option_map (λ x. ended (end_pair x.end)) (find (λ x. settles_end ps e x.who.items x.end.end) k.waiting.items))
 
--- only ends are against `only`; else who waits for ever comes first, and then the earlier one of ends and values
-abbrev pub found_by : Claim → Names → Expectation → KnownEnds → Option Finding
-found_by Only names e k = found_end names.processes e k
-found_by c names e k =
-    or_other (find (is_about names e.topics.items) (map waiting_for_ever (those_waiting k.waits)))
-    (earlier_of (found_end names.processes e k) (find (is_about names e.topics.items) (map shown (map value_pair k.values.items))))
+-- the first end that settles an expectation: by who waits there, where it names somebody
+abbrev pub found_end : Names → Expectation → KnownEnds → Option Finding
+found_end names e k = if names_who e then found_by_who names.processes e k else judged.found_end e.claim names e.topics.items k
 
 abbrev pub found_settling : Names → Expectation → KnownEnds → Option Finding
-found_settling names e k = found_by e.claim names e k
+found_settling names e k = judged.found_by e.claim names e.topics.items k (found_end names e k)
 
 -- ---- judgements
 

@@ -1,6 +1,8 @@
 //! What is known of the schedules of a program.
 
 ghost use Rattle.std.specs.Prelude.{◌≡◌};
+ghost use Rattle.cp_verdict.specs.endless.Behaviour.{word_of};
+ghost use Rattle.cp_verdict.specs.endless.Knowledge.{finding_of};
 
 use cp_ends::End;
 use cp_machine::Shown;
@@ -57,4 +59,17 @@ pub enum Witness<'a> {
     End(&'a KnownEnd),
     Value(&'a KnownValue),
     Waiting(&'a Waiting),
+}
+
+impl Witness<'_> {
+    /// Its schedule; that of who waits is not one word.
+    pub fn word(&self) -> &[u8]
+        ensures { result.now ≡ word_of (finding_of self.now) }
+    {
+        match self {
+            Witness::End(known) => &known.word,
+            Witness::Value(known) => &known.word,
+            Witness::Waiting(_) => &[],
+        }
+    }
 }

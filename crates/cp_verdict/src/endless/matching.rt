@@ -4,11 +4,13 @@ ghost use Rattle.std.specs.Prelude.{◌≡◌};
 ghost use Rattle.cp_ends.specs.declared.end.End.TheVariants.{Alone, Spins};
 ghost use Rattle.cp_verdict.specs.endless.Expectations as spec;
 ghost use Rattle.cp_verdict.specs.endless.Naming.{processes_of};
+ghost use Rattle.cp_verdict.specs.waiting.Ends as who_spec;
 
 use crate::endless::process::is_meant;
 use crate::matching::is_of_kind;
+use crate::waiting::matching::are_meant;
 use cp_ends::End;
-use cp_expectation::{EndPattern, Topic};
+use cp_expectation::{Claim, EndPattern, Expectation, Topic};
 use cp_legend::Legend;
 use cp_run::OutcomeKind;
 
@@ -42,8 +44,8 @@ fn names_spinning(legend: &Legend, pattern: &EndPattern, process: u8) -> bool
     }
 }
 
-/// Whether a topic speaks of an end.
-pub fn names_end(legend: &Legend, topic: &Topic, end: End) -> bool
+// Whether a topic speaks of an end, whoever waits there.
+fn names_end_of(legend: &Legend, topic: &Topic, end: End) -> bool
     ensures { result ≡ spec.names_end (processes_of legend.now) topic.now end }
 {
     match topic {
@@ -52,11 +54,43 @@ pub fn names_end(legend: &Legend, topic: &Topic, end: End) -> bool
     }
 }
 
-/// Whether one of the topics speaks of an end.
-pub fn is_named(legend: &Legend, topics: &[Topic], end: End) -> bool
-    ensures { result ≡ spec.is_named (processes_of legend.now) topics.now end }
+/// Whether all wait at an end.
+pub fn is_waiting(end: End) -> bool
+    ensures { result ≡ who_spec.is_waiting end }
 {
-    topics.iter().any(|topic| names_end(legend, topic, end))
+    matches!(end, End::Over(OutcomeKind::AllWaiting))
+}
+
+// Whether a topic speaks of an end; if all wait there, these do.
+fn names_end(legend: &Legend, topic: &Topic, who: &[u8], end: End) -> bool
+    ensures { result ≡ who_spec.names_end (processes_of legend.now) who.now topic.now end }
+{
+    match topic {
+        Topic::End {
+            end: EndPattern::AllWaiting(Some(pattern)),
+            ..
+        } => is_waiting(end) && are_meant(legend, pattern, who),
+        _ => names_end_of(legend, topic, end),
+    }
+}
+
+fn is_named(legend: &Legend, topics: &[Topic], who: &[u8], end: End) -> bool
+    ensures { result ≡ who_spec.is_named (processes_of legend.now) topics.now who.now end }
+{
+    topics
+        .iter()
+        .any(|topic| names_end(legend, topic, who, end))
+}
+
+/// Whether an end settles an expectation; if all wait there, these do.
+pub fn settles(legend: &Legend, expectation: &Expectation, who: &[u8], end: End) -> bool
+    ensures { result ≡ who_spec.settles_end (processes_of legend.now) expectation.now who.now end }
+{
+    let is_named = is_named(legend, &expectation.topics, who, end);
+    match expectation.claim {
+        Claim::Only => !is_named && !is_cut(end),
+        _ => is_named,
+    }
 }
 
 fn names_value(topic: &Topic, text: &str) -> bool

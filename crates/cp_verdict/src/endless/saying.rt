@@ -2,10 +2,9 @@
 
 ghost use Rattle.std.specs.Prelude.{◌≡◌, IfOk};
 
-use crate::endless::judging::{EndsJudgement, is_whole};
+use crate::endless::judging::{EndsJudgement, is_whole, judge};
 use crate::endless::known::{KnownEnd, KnownEnds, Witness};
 use crate::endless::verdict::EndsMark;
-use crate::endless::waiting::judge_any;
 use crate::endless::words::{missing_words, push_witness};
 use crate::marking::Standing;
 use crate::program::Stops;
@@ -89,7 +88,7 @@ fn saying_of(
 ) -> Result<Said, AllocError> {
     let mut reason = String::new(alloc);
     let mut against = None;
-    let standing = match judge_any(legend, known, expectation) {
+    let standing = match judge(legend, known, expectation) {
         EndsJudgement::Holds => Standing::Holds,
         EndsJudgement::Against(witness) => {
             reason.push_str(before)?;

@@ -9,9 +9,8 @@ ghost use Rattle.cp_verdict.specs.endless.Marked as spec;
 ghost use Rattle.cp_verdict.specs.endless.Naming.{processes_of};
 ghost use Rattle.cp_verdict.specs.waiting.EndsJudged.{IsJudgedAny, IsJudgedByAny};
 
-use crate::endless::judging::EndsJudgement;
+use crate::endless::judging::{EndsJudgement, judge};
 use crate::endless::known::{KnownEnds, Witness};
-use crate::endless::waiting::judge_any;
 use cp_expectation::Expectation;
 use cp_legend::Legend;
 
@@ -76,7 +75,7 @@ pub fn verdict_on<'a>(
 {
     let mut verdict = EndsVerdict::Holds;
     for expectation in list {
-        verdict = join(verdict, expectation, judge_any(legend, known, expectation));
+        verdict = join(verdict, expectation, judge(legend, known, expectation));
     }
     verdict
 }

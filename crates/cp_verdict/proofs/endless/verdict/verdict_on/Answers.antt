@@ -14,11 +14,11 @@ pub loop-expectation-preserved : goal.loop-expectation-preserved
 loop-expectation-preserved c =
     record {
       slots = λ r discipline steps most h.
-          verdict_more (IsJudgedAny r (processes_of c.args.legend.now) discipline steps c.args.known.now) c.args.list.now c.loop-expectation.expectation-index _ c.loop-expectation.verdict c.join-verdict.result c.judge_any.result
-          c.loop-expectation-test.true c.expectation-item.is c.join-verdict.ensures (c.loop-expectation.invariant.slots r discipline steps most h) (c.judge_any.ensures.slots r discipline steps most h);
+          verdict_more (IsJudgedAny r (processes_of c.args.legend.now) discipline steps c.args.known.now) c.args.list.now c.loop-expectation.expectation-index _ c.loop-expectation.verdict c.join-verdict.result c.judge.result
+          c.loop-expectation-test.true c.expectation-item.is c.join-verdict.ensures (c.loop-expectation.invariant.slots r discipline steps most h) (c.judge.ensures.slots r discipline steps most h);
       known = λ names h.
-          verdict_more (IsJudgedByAny (record { values = names; processes = processes_of c.args.legend.now }) c.args.known.now) c.args.list.now c.loop-expectation.expectation-index _ c.loop-expectation.verdict c.join-verdict.result c.judge_any.result
-          c.loop-expectation-test.true c.expectation-item.is c.join-verdict.ensures (c.loop-expectation.invariant.known names h) (c.judge_any.ensures.known names h);
+          verdict_more (IsJudgedByAny (record { values = names; processes = processes_of c.args.legend.now }) c.args.known.now) c.args.list.now c.loop-expectation.expectation-index _ c.loop-expectation.verdict c.join-verdict.result c.judge.result
+          c.loop-expectation-test.true c.expectation-item.is c.join-verdict.ensures (c.loop-expectation.invariant.known names h) (c.judge.ensures.known names h);
     }
 
 pub returns-clause-slots : goal.returns-clause-slots
