@@ -62,8 +62,8 @@ never_reported : (choice : ScheduleChoice) (o : Options) (r : Tables) (answer : 
 never_reported (choice.Given round) o r answer h reported = h
 never_reported (choice.First number) o r answer (job, is, chosen, first, of) reported = of_outcome chosen answer of reported
 never_reported (choice.Simplest number) o r answer (job, is, chosen, schedule, of) reported = of_outcome chosen answer of reported
-never_reported (choice.End number) o r answer (subject, is, (found, schedule, of)) reported = of_number found answer of reported
-never_reported (choice.Wait number) o r answer (subject, is, (found, schedule, of)) reported = of_number found answer of reported
+never_reported (choice.End number) o r answer (subject, is, found, schedule, of) reported = of_number found answer of reported
+never_reported (choice.Wait number) o r answer (subject, is, found, schedule, of) reported = of_number found answer of reported
 
 pub without_traced : (f : ScheduleForm) (Is : ChosenSchedule → List ℕ → Type 0) (a : Asked) (r : Tables) (answer : ShowAnswer) → IsAskedFor a r (Without answer) → IsTracedAs f Is a r answer.verdict (string_bytes answer.text)
 without_traced f Is a r answer h = record { given = λ given all. absurd (not_given a.schedule a.options r answer h given); told = λ reported. absurd (never_reported a.schedule a.options r answer h reported) }

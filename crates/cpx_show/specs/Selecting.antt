@@ -72,12 +72,12 @@ IsOfNumber (numbered.None count) s = IsWithout Misread s
 IsOfNumber numbered.NotKnown s = IsWithout TooMany s
 
 -- the schedule of the end with this number
-abbrev pub IsEndOf : EndsSubject → (number : ℕ) → Selection → Type 0
-IsEndOf subject number s = (found : NumberedSchedule) × IsScheduleOfEnd subject number found × IsOfNumber found s
+abbrev pub IsEndOf : Options → Tables → (number : ℕ) → Selection → Type 0
+IsEndOf o r number s = (subject : EndsSubject) × IsEndsSubjectOf subject o r × (found : NumberedSchedule) × IsScheduleOfEnd subject number found × IsOfNumber found s
 
 -- the schedule of the process with this number that may wait for ever
-abbrev pub IsWaitOf : EndsSubject → (number : ℕ) → Selection → Type 0
-IsWaitOf subject number s = (found : NumberedSchedule) × IsScheduleOfWait subject number found × IsOfNumber found s
+abbrev pub IsWaitOf : Options → Tables → (number : ℕ) → Selection → Type 0
+IsWaitOf o r number s = (subject : EndsSubject) × IsEndsSubjectOf subject o r × (found : NumberedSchedule) × IsScheduleOfWait subject number found × IsOfNumber found s
 
 -- ---- what is asked for
 
@@ -86,8 +86,8 @@ abbrev pub IsChoiceOf : ScheduleChoice → Options → Tables → Selection → 
 IsChoiceOf (choice.Given round) o r s = IsSelected (word_given o) round s
 IsChoiceOf (choice.First number) o r s = IsFirstOf o r number s
 IsChoiceOf (choice.Simplest number) o r s = IsSimplestOf o r number s
-IsChoiceOf (choice.End number) o r s = (subject : EndsSubject) × IsEndsSubjectOf subject o r × IsEndOf subject number s
-IsChoiceOf (choice.Wait number) o r s = (subject : EndsSubject) × IsEndsSubjectOf subject o r × IsWaitOf subject number s
+IsChoiceOf (choice.End number) o r s = IsEndOf o r number s
+IsChoiceOf (choice.Wait number) o r s = IsWaitOf o r number s
 
 abbrev pub IsAskedFor : Asked → Tables → Selection → Type 0
 IsAskedFor a r s = IsChoiceOf a.schedule a.options r s

@@ -39,7 +39,7 @@ use Rattle.cp_show_options.specs.declared.parts.ShowPart.{ShowPart}
 use Rattle.cp_show_options.specs.declared.parts.ShowPart.TheVariants as part
 use Rattle.cpx_show.specs.Schedules.{DrawsAll, IsStoryText, IsTracedAs, trace_form}
 use Rattle.cpx_show.specs.Selecting.{GivesSchedule}
-use Rattle.cpx_show.specs.Summaries.{AreOutcomesOf, IsCovered, form_of}
+use Rattle.cpx_show.specs.Summaries.{AreEndsOf, AreOutcomesOf, IsCovered, form_of}
 use Rattle.cpx_show.specs.declared.schedules.ScheduleForm.{ScheduleForm}
 use Rattle.cpx_show.specs.declared.schedules.ScheduleForm.TheVariants as schedule_form
 use Rattle.cpx_show.specs.declared.selecting.ChosenSchedule.{ChosenSchedule}
@@ -90,12 +90,12 @@ IsGivenMark json o t r l words with_own bytes source verdict text =
 
 -- ---- the parts
 
--- One schedule in names; all outcomes; the mark of what is expected; or that a program is accepted. Of the other parts no more is said than this.
+-- One schedule in names; all outcomes; whether all ends are found; the mark of what is expected; or that a program is accepted. Of the other parts no more is said than this.
 abbrev pub IsShown : ShowPart → Asked → Tree → Tables → code_legend.Legend → (bytes : List ℕ) → (source : List (List ℕ)) → ShowVerdict → List ℕ → Type 0
 IsShown (part.Trace json) a t r l bytes source verdict text = IsTracedAs (trace_form json) (IsTraceInNames (trace_form json) a.options t r l source) a r verdict text
 IsShown (part.Lanes view) a t r l bytes source verdict text = GivesSchedule a.schedule → DrawsAll (schedule_form.Picture view) → verdict ≡ Reported
 IsShown (part.Page states) a t r l bytes source verdict text = Unit {0}
 IsShown (part.Outcomes json cover) a t r l bytes source verdict text = AreOutcomesShown json cover a.options t r l verdict text
-IsShown (part.Ends json) a t r l bytes source verdict text = Unit {0}
+IsShown (part.Ends json) a t r l bytes source verdict text = AreEndsOf a.options r verdict
 IsShown (part.Mark words own json) a t r l bytes source verdict text = IsGivenMark json a.options t r l (string_bytes words) own bytes source verdict text
 IsShown (part.Refusal json file) a t r l bytes source verdict text = (verdict ≡ Reported) × (json ≡ false → BeginsWith (codes "accepted\n") text)

@@ -13,6 +13,7 @@ ghost use Rattle.cp_show_mark.specs.declared.answer.ShowVerdict.{ShowVerdict};
 ghost use Rattle.cp_show_mark.specs.declared.answer.ShowVerdict.TheVariants.{Refused};
 ghost use Rattle.cpx_show.specs.Told.{IsOfSource, IsOfTree, IsRefusedAs, IsSilent, IsWritten, Tells};
 
+use crate::inquiry::Inquiry;
 use crate::parts::show_part;
 use crate::refusals::explanation_text;
 use cp_front::{
@@ -166,5 +167,13 @@ fn show_loaded<O: ObserveProgress>(
 {
     let legend = legend_of(alloc, &loaded.program, symbols)?;
     let lines = lines_of(alloc, source)?;
-    show_part(alloc, asked, observer, loaded, &legend, &lines, source)
+    let inquiry = Inquiry {
+        alloc,
+        asked,
+        loaded,
+        legend: &legend,
+        source,
+        lines: &lines,
+    };
+    show_part(inquiry, observer)
 }

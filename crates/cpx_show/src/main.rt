@@ -1,8 +1,10 @@
 //! `cpx_show`: a schedule of a Concurrent Pascal program in names and pictures.
 #![tactic(auto)]
 
+mod answer;
 mod answering;
 mod covering;
+mod inquiry;
 mod missing;
 mod parts;
 mod refusals;

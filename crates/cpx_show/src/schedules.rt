@@ -6,14 +6,13 @@ ghost use Rattle.cp_walk.specs.Rows.{UsedWithin};
 ghost use Rattle.cp_show_mark.specs.declared.answer.ShowVerdict.TheVariants.{Reported};
 ghost use Rattle.cpx_show.specs.Schedules as spec;
 
+use crate::answer::answer_with;
+use crate::inquiry::Inquiry;
 use crate::missing::rows_beyond;
 use crate::selecting::{ChosenSchedule, Selection, select_schedule};
 use cp_lanes::{PictureView, Scene, SheetExtent, picture, row_count};
-use cp_legend::Legend;
 use cp_progress::ObserveProgress;
 use cp_show_mark::{ShowAnswer, ShowVerdict, story_of};
-use cp_show_options::Asked;
-use cp_slots::Resolved;
 use cp_story::{Story, first_of_round, json, text};
 use cp_walk::text::push_word;
 use cp_walk::trace_report;
@@ -43,56 +42,43 @@ pub fn trace_form(as_json: bool) -> ScheduleForm
 
 /// One schedule in a form.
 pub fn one_schedule<O: ObserveProgress>(
-    alloc: Global,
-    asked: &Asked,
+    inquiry: Inquiry<'_>,
     observer: &mut O,
-    program: &Resolved,
-    legend: &Legend,
-    source: &[String],
     form: ScheduleForm,
 ) -> Result<ShowAnswer, AllocError>
-    ensures { IfOk result (λ a. spec.IsTracedAs form (spec.IsStoryText form asked.now.options program.now (legend_seen legend.now) (map string_bytes source.now)) asked.now program.now a.verdict (string_bytes a.text)) }
+    ensures { IfOk result (λ a. spec.IsTracedAs form (spec.IsStoryText form inquiry.entry.asked.now.options inquiry.entry.loaded.now.program (legend_seen inquiry.entry.legend.now) (map string_bytes inquiry.entry.lines.now)) inquiry.entry.asked.now inquiry.entry.loaded.now.program a.verdict (string_bytes a.text)) }
 {
-    let selection = select_schedule(alloc, asked, observer, program, legend, source)?;
+    let selection = select_schedule(inquiry, observer)?;
     match selection {
-        Selection::Schedule(schedule) => {
-            schedule_part(alloc, asked, program, legend, source, &schedule, form)
-        }
+        Selection::Schedule(schedule) => schedule_part(inquiry, &schedule, form),
         Selection::Without(answer) => Ok(answer),
     }
 }
 
-/// A text that tells what was asked for.
-pub fn report_answer(text: Result<String, AllocError>) -> Result<ShowAnswer, AllocError>
-    ensures verdict { IfOk result (λ a. a.verdict ≡ Reported) }
-    ensures text { IfOk result (λ a. text ≡ Ok a.text) }
-{
-    Ok(ShowAnswer {
-        verdict: ShowVerdict::Reported,
-        text: text?,
-    })
-}
-
 // A schedule in a form, unless the rows that are to be drawn of it are none of its rows.
 fn schedule_part(
-    alloc: Global,
-    asked: &Asked,
-    program: &Resolved,
-    legend: &Legend,
-    source: &[String],
+    inquiry: Inquiry<'_>,
     schedule: &ChosenSchedule,
     form: ScheduleForm,
 ) -> Result<ShowAnswer, AllocError>
-    ensures told { IfOk result (λ a. a.verdict ≡ Reported → spec.IsStoryText form asked.now.options program.now (legend_seen legend.now) (map string_bytes source.now) schedule.now (string_bytes a.text)) }
+    ensures told { IfOk result (λ a. a.verdict ≡ Reported → spec.IsStoryText form inquiry.entry.asked.now.options inquiry.entry.loaded.now.program (legend_seen inquiry.entry.legend.now) (map string_bytes inquiry.entry.lines.now) schedule.now (string_bytes a.text)) }
     ensures drawn { spec.DrawsAll form → IfOk result (λ a. a.verdict ≡ Reported) }
 {
+    let Inquiry {
+        alloc,
+        asked,
+        loaded,
+        legend,
+        ..
+    } = inquiry;
     let word = schedule.word.as_slice();
-    let story = story_of(alloc, &asked.options, program, legend, word)?;
+    let story = story_of(alloc, &asked.options, &loaded.program, legend, word)?;
     if let Some(row) = missing_row(form, &story) {
-        return rows_beyond(alloc, row, row_count(&story));
+        let text = rows_beyond(alloc, row, row_count(&story));
+        return answer_with(ShowVerdict::Misread, text);
     }
     let again = first_of_round(&story, word, schedule.round);
-    let text = story_in(alloc, program, legend, &story, source, word, again, form)?;
+    let text = story_in(inquiry, &story, word, again, form)?;
     Ok(ShowAnswer {
         verdict: ShowVerdict::Reported,
         text,
@@ -114,22 +100,26 @@ fn missing_row(form: ScheduleForm, story: &Story) -> Option<usize>
 
 // A story in a form, with the event with which a round begins.
 fn story_in(
-    alloc: Global,
-    program: &Resolved,
-    legend: &Legend,
+    inquiry: Inquiry<'_>,
     story: &Story,
-    source: &[String],
     word: &[u8],
     again: Option<usize>,
     form: ScheduleForm,
 ) -> Result<String, AllocError>
     requires { UsedWithin story.now.end (length word.now) }
-    ensures { IfOk result (λ text. spec.IsWrittenAs form program.now (legend_seen legend.now) (map string_bytes source.now) word.now story.now again (string_bytes text)) }
+    ensures { IfOk result (λ text. spec.IsWrittenAs form inquiry.entry.loaded.now.program (legend_seen inquiry.entry.legend.now) (map string_bytes inquiry.entry.lines.now) word.now story.now again (string_bytes text)) }
 {
-    let end = trace_report(alloc, program, &[], &story.end, word)?;
+    let Inquiry {
+        alloc,
+        loaded,
+        legend,
+        lines,
+        ..
+    } = inquiry;
+    let end = trace_report(alloc, &loaded.program, &[], &story.end, word)?;
     match form {
         ScheduleForm::Lines => text(alloc, legend, story, again, end.text.as_str()),
-        ScheduleForm::Json => json(alloc, legend, story, again, word, source),
+        ScheduleForm::Json => json(alloc, legend, story, again, word, lines),
         ScheduleForm::Picture(view) => {
             let schedule = schedule_text(alloc, word)?;
             picture(Scene {
@@ -138,7 +128,7 @@ fn story_in(
                 story,
                 schedule: schedule.as_str(),
                 end: end.text.as_str(),
-                source,
+                source: lines,
                 again,
                 extent: view.extent,
                 is_plain: view.is_plain,

@@ -3,20 +3,18 @@
 ghost use Rattle.std.specs.Prelude.{◌≡◌, ◌≤◌, IfOk, length};
 ghost use Rattle.cpx_show.specs.Selecting as spec;
 
+use crate::answer::answer_with;
+use crate::inquiry::Inquiry;
 use crate::missing::{no_end, no_outcome, not_searched, too_long, unknown_waits};
-use crate::summaries::ends_subject;
-use cp_ends_story::{EndsSubject, NumberedSchedule, schedule_of_end, schedule_of_wait};
-use cp_legend::Legend;
+use cp_ends_story::{NumberedSchedule, schedule_of_end, schedule_of_wait};
 use cp_merged::word::{Word, word_of};
 use cp_outcomes::{First, first_of_outcome, simplest_of_outcome};
 use cp_progress::ObserveProgress;
 use cp_run::MOST_CHOICES;
-use cp_show_mark::ShowAnswer;
-use cp_show_options::{Asked, ScheduleChoice};
-use cp_slots::Resolved;
+use cp_show_mark::{ShowAnswer, ShowVerdict};
+use cp_show_options::ScheduleChoice;
 use cp_tool::Options;
-use cp_walk::Job;
-use std::alloc::{AllocError, Global};
+use std::alloc::AllocError;
 
 /// A schedule that is shown.
 #[derive(Drop)]
@@ -35,95 +33,66 @@ pub enum Selection {
 
 /// The schedule that is given, or that of the outcome, of the end or of the wait that is.
 pub fn select_schedule<O: ObserveProgress>(
-    alloc: Global,
-    asked: &Asked,
+    inquiry: Inquiry<'_>,
     observer: &mut O,
-    program: &Resolved,
-    legend: &Legend,
-    source: &[String],
 ) -> Result<Selection, AllocError>
-    ensures { IfOk result (spec.IsAskedFor asked.now program.now) }
+    ensures { IfOk result (spec.IsAskedFor inquiry.entry.asked.now inquiry.entry.loaded.now.program) }
 {
-    let options = &asked.options;
-    match asked.schedule {
-        ScheduleChoice::Given(round) => Ok(select_word(word_given(options), round)),
-        ScheduleChoice::First(number) => select_first(alloc, options, program, number, observer),
-        ScheduleChoice::Simplest(number) => {
-            select_simplest(alloc, options, program, number, observer)
+    match inquiry.asked.schedule {
+        ScheduleChoice::Given(round) => {
+            Ok(select_word(word_given(&inquiry.asked.options), round))
         }
-        ScheduleChoice::End(number) => {
-            let subject = ends_subject(options, program, legend, source);
-            select_end(alloc, options, subject, number, observer)
-        }
-        ScheduleChoice::Wait(number) => {
-            let subject = ends_subject(options, program, legend, source);
-            select_wait(alloc, options, subject, number, observer)
-        }
+        ScheduleChoice::First(number) => select_first(inquiry, number, observer),
+        ScheduleChoice::Simplest(number) => select_simplest(inquiry, number, observer),
+        ScheduleChoice::End(number) => select_end(inquiry, number, observer),
+        ScheduleChoice::Wait(number) => select_wait(inquiry, number, observer),
     }
 }
 
 fn select_first<O: ObserveProgress>(
-    alloc: Global,
-    options: &Options,
-    program: &Resolved,
+    inquiry: Inquiry<'_>,
     number: usize,
     observer: &mut O,
 ) -> Result<Selection, AllocError>
-    ensures { IfOk result (spec.IsFirstOf options.now program.now number) }
+    ensures { IfOk result (spec.IsFirstOf inquiry.entry.asked.now.options inquiry.entry.loaded.now.program number) }
 {
-    let job = job_of(options, program);
-    let first = first_of_outcome(alloc, job, options.states, number, observer)?;
-    select_of_outcome(alloc, options, first)
+    let states = inquiry.asked.options.states;
+    let first = first_of_outcome(inquiry.alloc, inquiry.job(), states, number, observer)?;
+    select_of_outcome(inquiry, first)
 }
 
 fn select_simplest<O: ObserveProgress>(
-    alloc: Global,
-    options: &Options,
-    program: &Resolved,
+    inquiry: Inquiry<'_>,
     number: usize,
     observer: &mut O,
 ) -> Result<Selection, AllocError>
-    ensures { IfOk result (spec.IsSimplestOf options.now program.now number) }
+    ensures { IfOk result (spec.IsSimplestOf inquiry.entry.asked.now.options inquiry.entry.loaded.now.program number) }
 {
-    let job = job_of(options, program);
-    let first = simplest_of_outcome(alloc, job, options.states, number, observer)?;
-    select_of_outcome(alloc, options, first)
+    let states = inquiry.asked.options.states;
+    let first = simplest_of_outcome(inquiry.alloc, inquiry.job(), states, number, observer)?;
+    select_of_outcome(inquiry, first)
 }
 
 fn select_end<O: ObserveProgress>(
-    alloc: Global,
-    options: &Options,
-    subject: EndsSubject<'_>,
+    inquiry: Inquiry<'_>,
     number: usize,
     observer: &mut O,
 ) -> Result<Selection, AllocError>
-    ensures { IfOk result (spec.IsEndOf subject.entry number) }
+    ensures { IfOk result (spec.IsEndOf inquiry.entry.asked.now.options inquiry.entry.loaded.now.program number) }
 {
-    let numbered = schedule_of_end(alloc, subject, number, observer)?;
-    select_numbered(alloc, options, "end", numbered)
+    let numbered = schedule_of_end(inquiry.alloc, inquiry.ends_subject(), number, observer)?;
+    select_numbered(inquiry, "end", numbered)
 }
 
 fn select_wait<O: ObserveProgress>(
-    alloc: Global,
-    options: &Options,
-    subject: EndsSubject<'_>,
+    inquiry: Inquiry<'_>,
     number: usize,
     observer: &mut O,
 ) -> Result<Selection, AllocError>
-    ensures { IfOk result (spec.IsWaitOf subject.entry number) }
+    ensures { IfOk result (spec.IsWaitOf inquiry.entry.asked.now.options inquiry.entry.loaded.now.program number) }
 {
-    let numbered = schedule_of_wait(alloc, subject, number, observer)?;
-    select_numbered(alloc, options, "wait", numbered)
-}
-
-// All schedules within the limits of the options.
-fn job_of<'a>(options: &Options, program: &'a Resolved) -> Job<'a>
-    ensures { spec.IsJobOf result options.now program.now }
-{
-    Job {
-        program,
-        limits: options.limits(),
-    }
+    let numbered = schedule_of_wait(inquiry.alloc, inquiry.ends_subject(), number, observer)?;
+    select_numbered(inquiry, "wait", numbered)
 }
 
 fn word_given(options: &Options) -> &[u8]
@@ -148,37 +117,42 @@ fn select_word(word: &[u8], round: usize) -> Selection
 }
 
 // What is shown of the schedule of an outcome.
-fn select_of_outcome(
-    alloc: Global,
-    options: &Options,
-    first: First,
-) -> Result<Selection, AllocError>
+fn select_of_outcome(inquiry: Inquiry<'_>, first: First) -> Result<Selection, AllocError>
     ensures { IfOk result (spec.IsOfOutcome first) }
 {
     match first {
         First::Word(word) => Ok(Selection::Schedule(ChosenSchedule { word, round: 0 })),
-        First::None(known) => Ok(Selection::Without(no_outcome(alloc, options, known)?)),
-        First::NotSearched => Ok(Selection::Without(not_searched(alloc, options)?)),
+        First::None(known) => without(ShowVerdict::Misread, no_outcome(inquiry, known)),
+        First::NotSearched => without(ShowVerdict::TooMany, not_searched(inquiry)),
     }
 }
 
 // What is shown of the schedule of an end or of a wait: one of more numbers than a schedule may have is not shown.
 fn select_numbered(
-    alloc: Global,
-    options: &Options,
+    inquiry: Inquiry<'_>,
     called: &str,
     numbered: NumberedSchedule,
 ) -> Result<Selection, AllocError>
     ensures { IfOk result (spec.IsOfNumber numbered) }
 {
+    let alloc = inquiry.alloc;
     match numbered {
         NumberedSchedule::Word(word, round) => {
             if word.len() > usize::from(MOST_CHOICES) {
-                return Ok(Selection::Without(too_long(alloc, called, word.len())?));
+                return without(ShowVerdict::TooMany, too_long(alloc, called, word.len()));
             }
             Ok(select_word(word.as_slice(), round))
         }
-        NumberedSchedule::None(count) => { Ok(Selection::Without(no_end(alloc, called, count)?)) }
-        NumberedSchedule::NotKnown => { Ok(Selection::Without(unknown_waits(alloc, options)?)) }
+        NumberedSchedule::None(count) => {
+            without(ShowVerdict::Misread, no_end(alloc, called, count))
+        }
+        NumberedSchedule::NotKnown => without(ShowVerdict::TooMany, unknown_waits(inquiry)),
     }
+}
+
+// No schedule is shown, and this is told.
+fn without(verdict: ShowVerdict, text: Result<String, AllocError>) -> Result<Selection, AllocError>
+    ensures { IfOk result (spec.IsWithout verdict) }
+{
+    Ok(Selection::Without(answer_with(verdict, text)?))
 }

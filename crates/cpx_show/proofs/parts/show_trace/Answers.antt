@@ -9,10 +9,10 @@ use Rattle.cpx_show.proofs.parts.show_trace.Goals as goal
 
 pub returns : goal.returns
 returns g c =
-    let l = c.args.loaded.now in
-    let asked = c.args.asked.now in
-    let source = map string_bytes c.args.lines.now in
+    let l = c.args.inquiry.loaded.now in
+    let asked = c.args.inquiry.asked.now in
+    let source = map string_bytes c.args.inquiry.lines.now in
     IfOk-weaker c.one_schedule.result _ _
-    (λ a h. traced (tree_view l.checked.tree) l.program c.args.legend.now asked (trace_form c.args.as_json) source a.verdict (string_bytes a.text) l.checked.tree.read c.requires.accepted c.requires.named
-    (subst (λ (f : ScheduleForm). IsTracedAs f (IsStoryText f asked.options l.program (legend_seen c.args.legend.now) source) asked l.program a.verdict (string_bytes a.text)) c.trace_form-form.ensures h))
+    (λ a h. traced (tree_view l.checked.tree) l.program c.args.inquiry.legend.now asked (trace_form c.args.as_json) source a.verdict (string_bytes a.text) l.checked.tree.read c.requires.accepted c.requires.named
+    (subst (λ (f : ScheduleForm). IsTracedAs f (IsStoryText f asked.options l.program (legend_seen c.args.inquiry.legend.now) source) asked l.program a.verdict (string_bytes a.text)) c.trace_form.ensures h))
     c.one_schedule.ensures
