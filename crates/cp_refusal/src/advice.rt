@@ -1,15 +1,18 @@
 //! What may have been meant by a token that can't stand in its place.
 
-use crate::extent::{closing, is_adding, is_multiplying, is_relation};
-use crate::foreign::{foreign_advice, is_start, is_type};
-use crate::further_up::{
-    CLOSING, OPENING, is_last_semicolon, is_real, is_statement, last_branch, open_before,
-    open_parenthesis,
+use crate::extent::{
+    closing, is_adding, is_multiplying, is_relation, open_before, open_parenthesis,
 };
+use crate::foreign::{foreign_advice, is_declared, is_operation, is_start, is_type};
+use crate::further_up::{CLOSING, OPENING, is_before_else, is_real, is_statement, last_branch};
+use crate::page::are_on_one_line;
 use crate::place::{end, has_comment_before};
 use crate::rules::{is_mark_of, mark_before};
+use crate::separators::{
+    colon_advice, comma_advice, is_behind_declared, is_behind_defined, semicolon_advice,
+};
 use crate::teller::Teller;
-use cp_text::Mark;
+use cp_text::{Mark, Tokens};
 
 /// What may have been meant; empty where nothing is known of it. `Teller::put_about` says what the signs in it stand for.
 pub fn advice(teller: &mut Teller) -> &'static str {
@@ -20,6 +23,10 @@ pub fn advice(teller: &mut Teller) -> &'static str {
         return ": # stands twice";
     }
     let said = sign_advice(teller);
+    if !said.is_empty() {
+        return said;
+    }
+    let said = behind_end_advice(teller);
     if !said.is_empty() {
         return said;
     }
@@ -46,9 +53,42 @@ fn is_after_string(teller: &mut Teller) -> bool {
         && teller.takes_one_of(&["not", "1"])
 }
 
+// Of a word or a name behind `end`, by which other languages say what it closes.
+fn behind_end_advice(teller: &Teller) -> &'static str {
+    let is_followed = matches!(
+        teller.ahead(1),
+        Some(Mark::Semicolon | Mark::End | Mark::Else)
+    ) || is_last(teller.tokens, teller.at.saturating_add(1));
+    let is_alone = teller.back(1) == Some(Mark::End)
+        && is_followed
+        && are_on_one_line(teller.tokens, teller.at.saturating_sub(1));
+    if is_alone && !teller.name().is_empty() {
+        ": end stands without a name, or a semicolon is missing before #"
+    } else if is_alone && is_word(teller) {
+        ": end stands without a word for what it closes"
+    } else {
+        ""
+    }
+}
+
+// Whether a token is the last one of the source, or none.
+fn is_last(tokens: &Tokens, at: usize) -> bool {
+    at.saturating_add(1) >= tokens.count()
+}
+
 // Of signs that other languages have.
 fn sign_advice(teller: &mut Teller) -> &'static str {
     match (teller.back(1), teller.mark(), teller.ahead(1)) {
+        (Some(Mark::Equal), Some(Mark::Greater), _) if teller.takes("not") => ": write >=",
+        (Some(Mark::Equal), Some(Mark::Less), _) if teller.takes("not") => ": write <=",
+        (_, Some(Mark::Equal), Some(Mark::Greater)) => implication_advice(teller),
+        (Some(Mark::For), Some(Mark::Var), _) => ": the variable of a for is declared before begin",
+        (Some(Mark::Init), Some(Mark::OpenParenthesis), _) =>
+            ": what init starts stands in no parentheses, as in init a, b(a)",
+        (Some(Mark::Array), Some(Mark::OpenParenthesis), _) =>
+            ": the indices of an array stand in brackets, as in array [1..10] of integer",
+        (Some(Mark::DoublePeriod), Some(Mark::Period), _) =>
+            ": two periods stand between the bounds, as in 1..10",
         (_, Some(Mark::OpenParenthesis), Some(Mark::Times))
         | (Some(Mark::OpenParenthesis), Some(Mark::Times), _) =>
             ": comments stand between double quotes",
@@ -61,7 +101,7 @@ fn sign_advice(teller: &mut Teller) -> &'static str {
         (_, Some(Mark::Plus | Mark::Minus), next) if teller.takes(":=") => step_advice(
             teller, next,
         ),
-        (_, Some(Mark::Minus), Some(Mark::Minus)) if teller.takes("while") =>
+        (_, Some(Mark::Minus), Some(Mark::Minus)) if teller.takes_one_of(&["while", "begin"]) =>
             ": comments stand between double quotes",
         (Some(Mark::OpenParenthesis), Some(Mark::CloseParenthesis), _) => parentheses_advice(
             teller,
@@ -69,6 +109,17 @@ fn sign_advice(teller: &mut Teller) -> &'static str {
         (Some(Mark::For), Some(Mark::OpenParenthesis), _) =>
             ": a for has no parentheses, as in for i := 1 to 5 do",
         _ => "",
+    }
+}
+
+// Of an equality sign before a sign for greater.
+fn implication_advice(teller: &mut Teller) -> &'static str {
+    if teller.is_in_annotation() {
+        ": there is no sign for implies: that a implies b is written (not a) or b"
+    } else if teller.takes(":") {
+        ": write a colon"
+    } else {
+        ""
     }
 }
 
@@ -188,16 +239,6 @@ fn assertion_advice(teller: &mut Teller) -> &'static str {
     }
 }
 
-// Whether `else` follows the annotation that begins at the token.
-fn is_before_else(teller: &Teller) -> bool {
-    for place in teller.at..teller.tokens.count() {
-        if teller.mark_at(place) == Some(Mark::Closes) {
-            return teller.mark_at(place.saturating_add(1)) == Some(Mark::Else);
-        }
-    }
-    false
-}
-
 // Of what stands in an annotation.
 fn inner_advice(teller: &Teller, mark: Mark) -> &'static str {
     match (teller.back(1), mark) {
@@ -226,12 +267,13 @@ fn place_advice(teller: &mut Teller, mark: Mark) -> &'static str {
         Mark::Var if is_in_parentheses(teller) => ": a function has no var parameters",
         Mark::Const | Mark::Type | Mark::Var if teller.back(1) == Some(Mark::Closes) =>
             ": constants, types and variables are declared before the invariants",
+        Mark::Const | Mark::Type | Mark::Var if is_behind_declared(teller) =>
+            ": the declaration of % is not complete",
         Mark::Const | Mark::Type | Mark::Var =>
             ": constants, types and variables are declared before the routines, or an end is missing further up, or begin and end before it",
         Mark::Invariant =>
             ": invariants stand in a class or a monitor, behind its declarations and before its routines",
-        Mark::Array | Mark::Record | Mark::Set if is_type_of_parameter(teller) =>
-            ": the type of a parameter or a result is a name that a type part defines",
+        Mark::Array | Mark::Record | Mark::Set if is_type_of_parameter(teller) => TYPE_OF_PARAMETER,
         Mark::Period if is_real(teller) => ": there are no real numbers",
         Mark::Period
             if teller.back(1) == Some(Mark::CloseParenthesis) && teller.takes_one_of(&["*", ";"]) =>
@@ -239,7 +281,8 @@ fn place_advice(teller: &mut Teller, mark: Mark) -> &'static str {
         Mark::Procedure | Mark::Function if teller.takes("var") =>
             ": a routine stands in the program or in a system type, and not in another routine",
         Mark::Class | Mark::Monitor | Mark::Process
-            if teller.ahead(1).is_none() && teller.takes("begin") =>
+            if teller.ahead(1).is_none()
+                && (teller.takes("begin") || teller.back(1) == Some(Mark::Type)) =>
             ": a system type is defined in a type part, as in type ~ = #",
         Mark::Class | Mark::Monitor | Mark::Process =>
             ": a system type is defined in a type part of the program alone, and used by its name",
@@ -253,36 +296,28 @@ fn further_place_advice(teller: &mut Teller, mark: Mark) -> &'static str {
         Mark::OpenParenthesis if teller.back(2) == Some(Mark::Colon) && teller.takes("..") =>
             ": a component is given its arguments by init",
         Mark::Until if teller.takes("end") => until_advice(teller),
-        Mark::Entry if teller.takes("procedure") =>
-            ": entry stands behind procedure or function, as in procedure entry p",
-        Mark::Entry if matches!(teller.back(2), Some(Mark::Procedure | Mark::Function)) =>
-            ": entry stands before %",
+        Mark::Entry => entry_advice(teller),
         Mark::Set if teller.takes("while") && teller.ahead(1).is_none() =>
             ": an assignment is written as in x := 2",
-        Mark::End if teller.takes("begin") =>
-            ": begin is missing before it, also where there is no statement",
+        Mark::End | Mark::Period | Mark::While if !block_advice(teller, mark).is_empty() =>
+            block_advice(teller, mark),
         Mark::Semicolon => semicolon_advice(teller),
         Mark::Colon => colon_advice(teller),
         Mark::Comma => comma_advice(teller),
-        Mark::OpenBracket | Mark::CloseBracket | Mark::Array if teller.takes("..") =>
-            ": an array has a first and a last index, as in array [1..10] of integer",
-        Mark::CloseParenthesis if is_in_parentheses(teller) && teller.takes(":") =>
-            ": the type is missing before it, as in x: integer",
-        Mark::CloseParenthesis if teller.takes("]") => ": ] is missing before it",
-        Mark::CloseBracket if teller.takes(")") => ": ) is missing before it",
-        Mark::CloseParenthesis if !is_in_parentheses(teller) => ": no ( is open before it",
         Mark::Minus if teller.takes(",") && teller.takes(":") =>
             ": a name has letters, digits and _ alone",
         Mark::Becomes if teller.back(1) == Some(Mark::CloseParenthesis) =>
             ": a call can't be assigned; an element of an array is written with brackets, as in a[1]",
-        Mark::End | Mark::While if teller.takes("until") =>
-            ": a repeat ends in until and a condition",
-        Mark::DoublePeriod if teller.takes("]") && teller.takes(",") =>
-            ": a set names its elements one by one, as in [1, 2]",
-        Mark::DoublePeriod if teller.takes("]") => ": an index is one value, as in a[1]",
-        Mark::Becomes if teller.takes("=") => ": = stands behind the name of a constant or a type",
-        Mark::DoublePeriod if is_in_case(teller) && teller.takes(":") =>
-            ": a label is one constant, and labels stand one by one, as in 0, 1, 2:",
+        Mark::Becomes if is_behind_defined(teller) =>
+            ": = stands behind the name of a constant or a type",
+        Mark::Becomes | Mark::OpenParenthesis | Mark::OpenBracket | Mark::Period
+            if is_in_case(teller) && teller.takes(":") =>
+            ": each arm of a case has one statement, and several stand between begin and end; or the end of the case is missing before %",
+        Mark::OpenBracket
+        | Mark::CloseBracket
+        | Mark::CloseParenthesis
+        | Mark::Array
+        | Mark::DoublePeriod => bracket_advice(teller, mark),
         Mark::Begin => missing_word(teller),
         _ if is_statement(teller.tokens, teller.at) && teller.takes("begin") =>
             ": begin is missing before #",
@@ -292,6 +327,65 @@ fn further_place_advice(teller: &mut Teller, mark: Mark) -> &'static str {
         },
         _ => "",
     }
+}
+
+// Of an `entry` that stands at a wrong place.
+fn entry_advice(teller: &Teller) -> &'static str {
+    match teller.back(2) {
+        Some(Mark::Procedure | Mark::Function) => ": entry stands before %",
+        _ => ": entry stands behind procedure or function, as in procedure entry p",
+    }
+}
+
+// Of an `end` that closes nothing, and of a period behind one.
+fn block_advice(teller: &mut Teller, mark: Mark) -> &'static str {
+    match mark {
+        Mark::End if teller.takes("var") && is_behind_body(teller) =>
+            ": nothing is open that it closes: an end is too many or a begin is missing",
+        Mark::End if teller.takes("begin") =>
+            ": begin is missing before it, also where there is no statement",
+        Mark::End | Mark::While if teller.takes("until") =>
+            ": a repeat ends in until and a condition",
+        Mark::Period if teller.back(1) != Some(Mark::End) => "",
+        Mark::Period if is_last(teller.tokens, teller.at) =>
+            ": the end before it closes no program, whose own begin and end are missing",
+        Mark::Period if teller.takes(";") => ": a period stands at the end of the program alone",
+        _ => "",
+    }
+}
+
+// Of brackets and of what stands in them.
+fn bracket_advice(teller: &mut Teller, mark: Mark) -> &'static str {
+    match mark {
+        Mark::OpenBracket | Mark::CloseBracket | Mark::Array if teller.takes("..") =>
+            ": an array has a first and a last index, as in array [1..10] of integer",
+        Mark::OpenBracket if teller.takes("(") && !teller.takes("x") =>
+            ": parameters stand in parentheses",
+        Mark::OpenBracket if teller.takes(":") && teller.takes(",") =>
+            ": an array is declared as in a: array [1..10] of integer",
+        Mark::CloseParenthesis if is_in_parentheses(teller) && teller.takes(":") =>
+            ": the type is missing before it, as in x: integer",
+        Mark::CloseParenthesis if teller.takes("]") => ": ] is missing before it",
+        Mark::CloseBracket if teller.takes(")") => ": ) is missing before it",
+        Mark::CloseParenthesis if !is_in_parentheses(teller) => ": no ( is open before it",
+        Mark::DoublePeriod if teller.takes("]") && teller.takes(",") =>
+            ": a set names its elements one by one, as in [1, 2]",
+        Mark::DoublePeriod if teller.takes("]") => ": an index is one value, as in a[1]",
+        Mark::DoublePeriod if is_in_case(teller) && teller.takes(":") =>
+            ": a label is one constant, and labels stand one by one, as in 0, 1, 2:",
+        _ => "",
+    }
+}
+
+// Whether a semicolon stands before the token, and a body before that.
+fn is_behind_body(teller: &Teller) -> bool {
+    let before = teller.at.saturating_sub(2);
+    teller.back(1) == Some(Mark::Semicolon)
+        && teller.mark_at(before) == Some(Mark::End)
+        && match open_before(teller.tokens, before, &OPENING, &CLOSING) {
+            Some(open) => teller.mark_at(open) != Some(Mark::Record),
+            None => false,
+        }
 }
 
 // Whether the name before the token stands behind an `end` after which another one closes nothing.
@@ -311,8 +405,8 @@ fn until_advice(teller: &Teller) -> &'static str {
     }
 }
 
-// Whether a word behind which statements stand is before the token.
-fn is_behind_word(teller: &Teller) -> bool {
+/// Whether a word behind which statements stand is before the token.
+pub fn is_behind_word(teller: &Teller) -> bool {
     matches!(
         teller.back(1),
         Some(
@@ -321,95 +415,8 @@ fn is_behind_word(teller: &Teller) -> bool {
     )
 }
 
-// Whether the heading of a procedure ends before the token.
-fn is_behind_procedure(teller: &mut Teller) -> bool {
-    let is_heading = teller.back(1) == Some(Mark::CloseParenthesis)
-        || matches!(teller.back(2), Some(Mark::Procedure | Mark::Entry));
-    is_heading
-        && teller.ahead(2) == Some(Mark::Semicolon)
-        && teller.takes(";")
-        && !teller.takes("end")
-}
-
-// Of a colon that stands at a wrong place.
-fn colon_advice(teller: &mut Teller) -> &'static str {
-    if teller.ahead(1) == Some(Mark::Equal) && teller.takes(":=") {
-        ": := is one sign, without a blank in it"
-    } else if is_adding(teller.ahead(1)) && teller.takes(":=") {
-        ": an assignment is written with :="
-    } else if is_behind_word(teller) {
-        ": no colon stands behind %"
-    } else if is_behind_procedure(teller) {
-        ": a procedure has no type; what has a result is a function"
-    } else if teller.takes("then") {
-        ": write then"
-    } else if teller.takes("do") {
-        ": write do"
-    } else if teller.takes(":=") && teller.ahead(1).is_none() {
-        ": variables are declared before begin, as in var %: ~"
-    } else if teller.takes("=") {
-        ": = stands behind the name of a constant or a type"
-    } else {
-        ""
-    }
-}
-
-// Of a comma that stands at a wrong place.
-fn comma_advice(teller: &mut Teller) -> &'static str {
-    if is_behind_in(teller) {
-        ": a set stands in brackets, as in [1, 2]"
-    } else if !teller.takes(";") {
-        ""
-    } else if teller.ahead(2) == Some(Mark::Colon) {
-        ": a semicolon is wanted here"
-    } else if teller.takes("..") {
-        ": the constants of an enumeration stand in parentheses, as in (red, green)"
-    } else if teller.takes("else") || teller.takes("until") || is_in_body(teller) {
-        ": statements are separated by semicolons, and only what one init starts by commas"
-    } else if is_in_parentheses(teller) {
-        ": the type of parameters is one name, and a semicolon stands behind it"
-    } else {
-        ": a semicolon is wanted here"
-    }
-}
-
-// Whether `in` stands before the parenthesis in which the token stands.
-fn is_behind_in(teller: &Teller) -> bool {
-    match open_parenthesis(teller.tokens, teller.at) {
-        Some(open) => mark_before(teller.tokens, open) == Some(Mark::In),
-        None => false,
-    }
-}
-
-// Whether the innermost word that is open has statements in it.
-fn is_in_body(teller: &Teller) -> bool {
-    match open_before(teller.tokens, teller.at, &OPENING, &CLOSING) {
-        Some(open) => teller.mark_at(open) != Some(Mark::Record),
-        None => false,
-    }
-}
-
-// Of a semicolon that stands at a wrong place.
-fn semicolon_advice(teller: &mut Teller) -> &'static str {
-    if teller.back(1) == Some(Mark::Semicolon) {
-        ": one semicolon is enough"
-    } else if teller.takes(":") && !teller.takes(",") {
-        ": a function has the type of its result behind its parameters, as in function f(n: integer): integer"
-    } else if teller.takes(":") && !is_in_case(teller) {
-        ": the type is missing before it, as in x: integer"
-    } else if teller.ahead(1) == Some(Mark::CloseParenthesis) && teller.takes(")") {
-        ": ) stands before a semicolon"
-    } else if teller.takes(",") {
-        ": a comma is wanted here"
-    } else if is_last_semicolon(teller) && teller.takes(".") {
-        ": a program ends in a period"
-    } else {
-        ""
-    }
-}
-
-// Whether the innermost word that is open is `case`.
-fn is_in_case(teller: &Teller) -> bool {
+/// Whether the innermost word that is open is `case`.
+pub fn is_in_case(teller: &Teller) -> bool {
     match open_before(teller.tokens, teller.at, &OPENING, &CLOSING) {
         Some(open) => teller.mark_at(open) == Some(Mark::Case),
         None => false,
@@ -424,10 +431,11 @@ fn else_advice(teller: &Teller) -> &'static str {
         .saturating_sub(if is_behind_semicolon { 1 } else { 0 });
     match last_branch(teller.tokens, end) {
         Some(Mark::Else) => ": the if before it has an else already",
-        Some(_) if is_behind_semicolon => ": no semicolon stands before else",
+        Some(_) if is_behind_semicolon => ": a semicolon can't stand before else",
         Some(_) => "",
         None if is_in_case(teller) => ": a case has no else: each value that may come has a label",
         None if is_in_branch(teller) => ": end is missing before it",
+        None if is_behind_word(teller) => ": no if stands before it",
         None =>
             ": the statement before it is no if; several statements behind then stand between begin and end",
     }
@@ -440,6 +448,9 @@ fn is_in_branch(teller: &Teller) -> bool {
         None => false,
     }
 }
+
+const TYPE_OF_PARAMETER: &str =
+    ": the type of a parameter or a result is a name that a type part defines";
 
 // Whether it is an operator after the value of a constant's declaration.
 fn is_constant_operator(teller: &mut Teller, mark: Mark) -> bool {
@@ -486,8 +497,8 @@ fn is_initial_value(teller: &mut Teller, mark: Mark) -> bool {
         && !teller.takes(":=")
 }
 
-// Whether a parenthesis is open at the token.
-fn is_in_parentheses(teller: &Teller) -> bool {
+/// Whether a parenthesis is open at the token.
+pub fn is_in_parentheses(teller: &Teller) -> bool {
     open_parenthesis(teller.tokens, teller.at).is_some()
 }
 
@@ -524,11 +535,27 @@ fn word_advice(teller: &mut Teller) -> &'static str {
     if !teller.name().is_empty() && is_start(teller.name_before()) {
         return ": processes are started by init";
     }
+    if teller.back(1) == Some(Mark::Colon) && is_in_parentheses(teller) && teller.takes("x") {
+        return TYPE_OF_PARAMETER;
+    }
+    if teller.name() == "is" && teller.takes_one_of(&["of", "="]) {
+        return if teller.takes("of") {
+            ": write of"
+        } else {
+            ": write ="
+        };
+    }
     if teller.takes(":") {
         return untyped_advice(teller);
     }
     if teller.takes(":=") {
         return bare_advice(teller);
+    }
+    if is_operation(teller.name_before())
+        && teller.takes("(")
+        && !is_declared(teller, teller.name_before())
+    {
+        return ": what % takes stands in parentheses, as in %(x)";
     }
     match missing_word(teller) {
         "" => missing_sign(teller),
@@ -586,6 +613,8 @@ fn bare_advice(teller: &Teller) -> &'static str {
         "" if teller.back(1) == Some(Mark::CloseBracket) =>
             ": := or a period may be missing before it",
         "" => "",
+        _ if !teller.name().is_empty() && teller.back(2) != Some(Mark::Period) =>
+            ": a period, := or a parenthesis may be missing before it",
         _ => ": := or a parenthesis may be missing before it",
     }
 }

@@ -41,7 +41,7 @@ impl<'a> Declared<'a> {
     }
 
     /// Whether a system type sees it where it is the program's.
-    fn is_open(self) -> bool {
+    pub fn is_open(self) -> bool {
         !matches!(self, Declared::Variable(_) | Declared::Routine(_))
     }
 }
@@ -392,16 +392,6 @@ impl<'a> Declarations<'a> {
         None
     }
 
-    /// Whether a name is declared in some block, be it visible or not.
-    pub fn has(&self, name: &str) -> bool {
-        for one in &self.all {
-            if one.name == name {
-                return true;
-            }
-        }
-        false
-    }
-
     /// The name of the system type of which an entry has this name; empty where there is none, or the name is also declared otherwise.
     pub fn owner_of_entry(&self, name: &str) -> &'a str {
         let mut owner = "";
@@ -507,7 +497,7 @@ impl<'a> Declarations<'a> {
     }
 
     /// The name of the system type that a token is in; empty in the program.
-    fn owner_at(&self, at: usize) -> &'a str {
+    pub fn owner_at(&self, at: usize) -> &'a str {
         for one in &self.all {
             if matches!(one.what, Declared::System(_)) && one.at <= at && at < one.seen.from {
                 return one.name;

@@ -293,8 +293,8 @@ fn put_found(teller: &mut Teller) {
     }
 }
 
-// The number of the line of a token.
-fn put_line(teller: &mut Teller, at: usize) {
+/// The number of the line of a token.
+pub fn put_line(teller: &mut Teller, at: usize) {
     let line = teller.tokens.line(at.min(teller.tokens.count()));
     teller.text.put_display(line);
 }

@@ -44,6 +44,37 @@ pub fn closing(tokens: &Tokens, at: usize, opening: &[Mark], closing: &[Mark]) -
     tokens.count()
 }
 
+/// The innermost word before a token that is open there, of those that open something.
+pub fn open_before(
+    tokens: &Tokens,
+    at: usize,
+    opening: &[Mark],
+    closing: &[Mark],
+) -> Option<usize> {
+    let mut closed: usize = 0;
+    for place in (0..at).rev() {
+        if is_mark_of(tokens, place, closing) {
+            closed = closed.saturating_add(1);
+        } else if is_mark_of(tokens, place, opening) {
+            if closed == 0 {
+                return Some(place);
+            }
+            closed = closed.saturating_sub(1);
+        }
+    }
+    None
+}
+
+/// The parenthesis in which a token stands.
+pub fn open_parenthesis(tokens: &Tokens, at: usize) -> Option<usize> {
+    open_before(
+        tokens,
+        at,
+        &[Mark::OpenParenthesis],
+        &[Mark::CloseParenthesis],
+    )
+}
+
 /// Whether a sign or word stands between the factors of a term.
 pub fn is_multiplying(mark: Option<Mark>) -> bool {
     matches!(mark, Some(Mark::Times | Mark::Div | Mark::Mod | Mark::And))
@@ -143,4 +174,20 @@ pub fn definition_end(tokens: &Tokens, at: usize) -> usize {
 pub fn body_end(tokens: &Tokens, body: &Body) -> usize {
     let opening = [Mark::Begin, Mark::Case, Mark::Cycle];
     closing(tokens, body.at, &opening, &[Mark::End])
+}
+
+/// The record in whose type a token stands.
+pub fn record_around(tokens: &Tokens, at: usize) -> Option<usize> {
+    open_before(tokens, at, &[Mark::Record], &[Mark::End])
+}
+
+/// Whether the name at a token is declared as a field of the record that is written at another.
+pub fn is_field(tokens: &Tokens, record: usize, at: usize) -> bool {
+    is_mark_of(tokens, at.saturating_add(1), &[Mark::Comma, Mark::Colon])
+        && open_before(
+            tokens,
+            at,
+            &[Mark::OpenParenthesis, Mark::Record],
+            &[Mark::CloseParenthesis, Mark::End],
+        ) == Some(record)
 }

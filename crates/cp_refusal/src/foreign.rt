@@ -5,7 +5,7 @@ use crate::teller::Teller;
 use cp_text::Mark;
 
 /// Words of other languages, in lower case, and what stands for them here.
-static WORDS: [(&[&str], &str); 26] = [
+static WORDS: [(&[&str], &str); 27] = [
     (
         &["condition", "cond"],
         ": a condition is a queue, as in q: queue",
@@ -50,11 +50,11 @@ static WORDS: [(&[&str], &str); 26] = [
     ),
     (
         &["exit", "break", "halt"],
-        ": nothing leaves a loop or a routine before its end",
+        ": there is none: a while or a repeat has the condition that ends it",
     ),
     (
         &["return"],
-        ": nothing leaves a routine before its end, and a function gives its result by an assignment to its own name",
+        ": there is none: a function gives its result by an assignment to its own name",
     ),
     (
         &["default", "otherwise", "others"],
@@ -80,13 +80,17 @@ static WORDS: [(&[&str], &str); 26] = [
     ),
     (&["nil", "null"], ": there are no pointers"),
     (
+        &["self", "this"],
+        ": a routine names the variables of its own type without a word before them",
+    ),
+    (
         &["cobegin", "parbegin", "fork", "start"],
         ": a process is a variable of a process type, and is started by init in the body",
     ),
 ];
 
 /// Words of other languages where the parser stops at them or behind them, and what is said of them.
-static STOPS: [(&[&str], &str); 18] = [
+static STOPS: [(&[&str], &str); 20] = [
     (&["elsif", "elif", "elseif"], ": write else if"),
     (
         &["loop", "forever"],
@@ -126,6 +130,11 @@ static STOPS: [(&[&str], &str); 18] = [
         ": a case has no else: each value that may come has a label",
     ),
     (&["down"], ": write downto"),
+    (&["upto", "till"], ": write to"),
+    (
+        &["out", "inout", "ref"],
+        ": a parameter that the routine may change has var, as in var x: integer",
+    ),
     (&["let"], ": an assignment is written as in x := 2"),
     (
         &["step", "by"],
@@ -164,16 +173,20 @@ pub fn foreign_advice(teller: &Teller) -> &'static str {
         }
     }
     let before = teller.name_before();
-    let is_called = teller.mark() == Some(Mark::OpenParenthesis) && is_type(before);
-    if is_called || is_declared(teller, before) || teller.back(2) == Some(Mark::Period) {
+    let is_named = match teller.mark() {
+        Some(Mark::OpenParenthesis) => is_type(before),
+        Some(Mark::Colon | Mark::Comma | Mark::Equal | Mark::Becomes) => true,
+        _ => false,
+    };
+    if is_named || is_declared(teller, before) || teller.back(2) == Some(Mark::Period) {
         ""
     } else {
         instead_of(before)
     }
 }
 
-// Whether a name seems to be declared before the token that the parser refuses.
-fn is_declared(teller: &Teller, name: &str) -> bool {
+/// Whether a name seems to be declared before the token that the parser refuses.
+pub fn is_declared(teller: &Teller, name: &str) -> bool {
     for place in 0..teller.at {
         let next = place.saturating_add(1);
         let is_listed = next < teller.at
@@ -201,6 +214,11 @@ pub fn is_type(name: &str) -> bool {
     )
 }
 
+/// Whether a name is that of a function of the language itself.
+pub fn is_operation(name: &str) -> bool {
+    matches!(name, "empty" | "succ" | "pred" | "chr" | "ord" | "abs")
+}
+
 /// Fields of a component that are meant to start it.
 const STARTS: [&str; 3] = ["start", "run", "fork"];
 
@@ -215,14 +233,16 @@ pub fn sign_sentence(text: &[u8]) -> &'static str {
         [0xEF, 0xBB, 0xBF, ..] =>
             "the file begins with a byte order mark, which is no part of a program: save it without one",
         [b'{' | b'}', ..] =>
-            "this sign is none of the language: a block stands between begin and end, and a comment between double quotes",
+            "this sign is none of the language: a block stands between begin and end, a comment between double quotes, a set in brackets",
         [b'/', b'/' | b'*', ..] =>
             "this sign is none of the language: comments stand between double quotes",
         [b'/', ..] =>
             "this sign is none of the language: integers are divided by div, and there are no real numbers",
         [b'?', ..] => "this sign is none of the language: write if .. then .. else",
         [b'!', b'=', ..] => "this sign is none of the language: write <> in place of !=",
-        [b'!', ..] => "this sign is none of the language: write not",
+        [b'!' | b'~', ..] => "this sign is none of the language: write not",
+        [b'#', ..] =>
+            "this sign is none of the language: comments stand between double quotes, and unequal is <>",
         [b'|', ..] => "this sign is none of the language: write or",
         [b'%', ..] => "this sign is none of the language: write mod",
         [b'^', ..] => "this sign is none of the language: there are no pointers",

@@ -1,6 +1,6 @@
 //! What is missing, or misspelt, further up than where the parser notices it.
 
-use crate::extent::closing;
+use crate::extent::{closing, open_before};
 use crate::foreign::foreign_advice;
 use crate::layout::open_by_layout;
 use crate::page::are_on_one_line;
@@ -181,32 +181,28 @@ fn line_without_semicolon(teller: &mut Teller) -> Option<usize> {
         || is_statement(tokens, at);
     let is_torn = is_ending && is_beginning && !are_on_one_line(tokens, before);
     // Words of other languages end no line.
-    if is_torn && foreign_advice(teller).is_empty() && teller.takes(";") {
+    if is_torn
+        && !is_before_else(teller)
+        && foreign_advice(teller).is_empty()
+        && teller.takes(";")
+    {
         Some(before)
     } else {
         None
     }
 }
 
-/// The innermost word before a token that is open there, of those that open something.
-pub fn open_before(
-    tokens: &Tokens,
-    at: usize,
-    opening: &[Mark],
-    closing: &[Mark],
-) -> Option<usize> {
-    let mut closed: usize = 0;
-    for place in (0..at).rev() {
-        if is_mark_of(tokens, place, closing) {
-            closed = closed.saturating_add(1);
-        } else if is_mark_of(tokens, place, opening) {
-            if closed == 0 {
-                return Some(place);
-            }
-            closed = closed.saturating_sub(1);
+/// Whether `else` follows the annotation that begins at the token.
+pub fn is_before_else(teller: &Teller) -> bool {
+    if teller.mark() != Some(Mark::Assert) {
+        return false;
+    }
+    for place in teller.at..teller.tokens.count() {
+        if teller.mark_at(place) == Some(Mark::Closes) {
+            return teller.mark_at(place.saturating_add(1)) == Some(Mark::Else);
         }
     }
-    None
+    false
 }
 
 /// What the last branch of the statement before a token begins with: `then` or `else`; none where it is no `if`.
@@ -224,16 +220,6 @@ pub fn last_branch(tokens: &Tokens, at: usize) -> Option<Mark> {
         }
     }
     None
-}
-
-/// The parenthesis in which a token stands.
-pub fn open_parenthesis(tokens: &Tokens, at: usize) -> Option<usize> {
-    open_before(
-        tokens,
-        at,
-        &[Mark::OpenParenthesis],
-        &[Mark::CloseParenthesis],
-    )
 }
 
 /// What stands in no brackets, be it in those of parameters or others.

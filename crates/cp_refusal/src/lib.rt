@@ -5,6 +5,7 @@ mod advice;
 mod candidates;
 mod characters;
 mod declared;
+mod elsewhere;
 mod explain;
 mod extent;
 mod foreign;
@@ -17,6 +18,7 @@ mod place;
 mod report;
 mod rules;
 mod saying;
+mod separators;
 mod spelling;
 mod teller;
 

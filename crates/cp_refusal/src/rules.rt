@@ -4,15 +4,16 @@ ghost use Rattle.std.specs.Prelude.{◌≡◌};
 ghost use Rattle.cp_refusal.specs.Explaining.{rule_code};
 
 use crate::declared::Declarations;
-use crate::extent::{Extent, between, single};
+use crate::elsewhere::Elsewhere;
+use crate::explain::put_line;
+use crate::extent::{Extent, between, is_field, open_parenthesis, record_around, single};
 use crate::foreign::{instead_of, is_start};
-use crate::further_up::open_parenthesis;
 use crate::saying::Saying;
 use crate::spelling::{Known, similar_declaration, similar_standard_name};
 use crate::teller::Teller;
-use cp_scope::Rule;
+use cp_scope::{Rule, ValueType};
 use cp_text::{Kind, Mark, Tokens};
-use cp_tree::Tree;
+use cp_tree::{RoutineKind, Tree};
 use std::alloc::{AllocError, Global};
 
 /// The reserved word or sign at this number, where there is one.
@@ -80,10 +81,16 @@ fn wrong_entry(tokens: &Tokens, at: usize) -> &'static str {
 fn wrong_wait(declarations: &Declarations, at: usize) -> &'static str {
     if declarations.is_standard(at, "delay") {
         " stands only in the routines of a monitor"
-    } else if declarations.is_standard(at, "continue") {
-        " stands only in the body of an entry procedure of a monitor"
-    } else {
+    } else if !declarations.is_standard(at, "continue") {
         " leads to a delay, and an initial statement may not wait: nobody could come in to wake it"
+    } else {
+        match declarations.routine_at(at) {
+            Some(one) if !matches!(one.kind, RoutineKind::Procedure(_)) =>
+                " stands only in the body of an entry procedure of a monitor, and not in a function",
+            Some(one) if !one.is_entry =>
+                " stands only in the body of an entry procedure of a monitor, and the heading of this procedure has no entry",
+            _ => " stands only in the body of an entry procedure of a monitor",
+        }
     }
 }
 
@@ -96,19 +103,32 @@ fn too_large(tokens: &Tokens, at: usize) -> &'static str {
     }
 }
 
-fn misplaced_component(tokens: &Tokens, at: usize) -> &'static str {
-    match open_parenthesis(tokens, at) {
-        Some(open) if !name_at(tokens, open.saturating_sub(1)).is_empty() =>
-            " is a system type, and a routine has no components as parameters: a system type is given them",
+fn misplaced_component(declarations: &Declarations, at: usize) -> &'static str {
+    let tokens = declarations.tokens;
+    match (open_parenthesis(tokens, at), declarations.type_named_at(at)) {
+        (Some(open), _) if !name_at(tokens, open.saturating_sub(1)).is_empty() =>
+            " is a type of components, and a routine has none as parameters: a system type is given them",
+        (Some(_), Some(ValueType::Array(_))) =>
+            " is an array of components, and no parameter is one: a system type is given components one by one",
         _ =>
             " can't stand here: a component is declared only among permanent variables, a monitor in the program, a process or a monitor, a process in the program, a class in any of these",
+    }
+}
+
+fn wrong_parameter(declarations: &Declarations, at: usize) -> &'static str {
+    match declarations.type_named_at(at) {
+        Some(ValueType::Queue) =>
+            " can't be the type of a parameter: nobody waits in the queue of another monitor",
+        Some(ValueType::Component(..)) =>
+            " is a process, and can't be a parameter: nobody calls a process",
+        _ => " is a process or a queue, and can't be a parameter",
     }
 }
 
 /// What is wrong with a token where a rule is broken, in the order of `Rule`; empty where that hangs on the token.
 const COMPLAINTS: [&str; 22] = [
     " is not declared here",
-    " is declared twice in one block",
+    "",
     " is no constant, and its value has to be known before the program runs",
     " is not the name of a type",
     "",
@@ -121,7 +141,7 @@ const COMPLAINTS: [&str; 22] = [
     "",
     "",
     " is a class, and a monitor or a process can't be given a class: what is shared has to be a monitor",
-    " is a process or a queue, and can't be a parameter",
+    "",
     " stands only in the initial statement of the program or of a system type",
     " is no component variable of this block, so that init can't start it",
     " begins a subrange whose upper bound is below its lower bound",
@@ -138,7 +158,8 @@ fn complaint(declarations: &Declarations, at: usize, rule: Rule) -> &'static str
         Rule::C5 => disagreement(tokens, at),
         Rule::C9 => wrong_entry(tokens, at),
         Rule::C12 => wrong_wait(declarations, at),
-        Rule::C13 => misplaced_component(tokens, at),
+        Rule::C13 => misplaced_component(declarations, at),
+        Rule::C15 => wrong_parameter(declarations, at),
         Rule::C20 => too_large(tokens, at),
         _ => COMPLAINTS[rule as usize],
     }
@@ -215,7 +236,8 @@ fn put_particular(saying: &mut Saying, rule: Rule) -> bool {
             );
             true
         }
-        Rule::C9 | Rule::C10 | Rule::C22 => put_own_name(&mut saying.teller),
+        Rule::C2 => put_twice(&mut saying.teller, &saying.declarations),
+        Rule::C9 | Rule::C10 | Rule::C22 => put_own_name(&mut saying.teller, &saying.declarations),
         Rule::C1 | Rule::C5 | Rule::C6 | Rule::C7 | Rule::C8 | Rule::C17 | Rule::C21 => {
             match saying.declarations.scopes.detail() {
                 Some(detail) => {
@@ -229,6 +251,34 @@ fn put_particular(saying: &mut Saying, rule: Rule) -> bool {
     }
 }
 
+/// Says in which line a name was declared that is declared again.
+fn put_twice(teller: &mut Teller, declarations: &Declarations) -> bool {
+    let (words, first) = match declarations.declared_at(teller.at) {
+        Some(one) => (
+            "# is declared twice in one block",
+            declarations.first_as(one),
+        ),
+        None => ("# is declared twice in one record", first_field(teller)),
+    };
+    teller.put_about(words);
+    if let Some(first) = first {
+        teller.put(", first in line ");
+        put_line(teller, first);
+    }
+    true
+}
+
+/// The first field with the name of the one that is declared at the token, in the same record.
+fn first_field(teller: &Teller) -> Option<usize> {
+    let record = record_around(teller.tokens, teller.at)?;
+    for place in record..teller.at {
+        if teller.name_at(place) == teller.name() && is_field(teller.tokens, record, place) {
+            return Some(place);
+        }
+    }
+    None
+}
+
 fn is_behind_period(teller: &Teller) -> bool {
     teller.back(1) == Some(Mark::Period)
 }
@@ -237,11 +287,13 @@ fn is_behind_period(teller: &Teller) -> bool {
 fn put_undeclared(teller: &mut Teller, declarations: &Declarations) -> bool {
     teller.put_about("# is not declared here");
     let owner = declarations.owner_of_entry(teller.name());
-    let known = what_is_known(declarations, teller.name());
+    let known = instead_of(teller.name());
     if !owner.is_empty() {
         teller.put(": it is an entry of ");
         teller.put(owner);
         teller.put(", and called with a component and a period before it");
+    } else if let Some(there) = declarations.elsewhere(teller.name(), teller.at) {
+        put_elsewhere(teller, there);
     } else if !known.is_empty() {
         teller.put(known);
     } else if let Some(other) = similar_declaration(teller, declarations, Known::Visible) {
@@ -250,52 +302,70 @@ fn put_undeclared(teller: &mut Teller, declarations: &Declarations) -> bool {
         teller.put(": ");
         teller.put(other);
         teller.put(" may be meant");
+    } else if teller.back(1) == Some(Mark::For) {
+        teller.put_about(
+            ": for counts in a variable, which is declared before begin, as in var #: integer",
+        );
     }
     true
 }
 
-/// What is known of a name that is not declared where it stands; empty where nothing is.
-fn what_is_known(declarations: &Declarations, name: &str) -> &'static str {
-    if declarations.has(name) {
-        ELSEWHERE
-    } else {
-        instead_of(name)
+/// Says where a name is declared that is not visible at the token, and why it is not.
+fn put_elsewhere(teller: &mut Teller, there: Elsewhere) {
+    let (before, at, behind) = match there {
+        Elsewhere::Around => (
+            ": this stands in that type itself, and there its variables and routines are named without it",
+            None,
+            "",
+        ),
+        Elsewhere::Unfinished => (
+            ": it is visible only from the end of its declaration on",
+            None,
+            "",
+        ),
+        Elsewhere::Below(at) => (": it is declared only further down, in line ", Some(at), ""),
+        Elsewhere::Variable(at) => (
+            ": line ",
+            Some(at),
+            " declares it as a variable of the program, and a system type sees none: what it needs is given to it as a parameter",
+        ),
+        Elsewhere::Routine(at) => (
+            ": line ",
+            Some(at),
+            " declares it as a routine of the program, and a system type sees none",
+        ),
+        Elsewhere::Inside(at) => (
+            ": line ",
+            Some(at),
+            " declares it in another block, which alone sees it",
+        ),
+    };
+    teller.put(before);
+    if let Some(at) = at {
+        put_line(teller, at);
     }
+    teller.put(behind);
 }
-
-const ELSEWHERE: &str =
-    ": it is declared elsewhere, and a block sees only what is declared before it and around it; a system type sees no variable and no routine of the program";
 
 /// Says in which line the name at a token is declared.
 pub fn put_declared(teller: &mut Teller, at: usize) {
     teller.put(": ");
     teller.put_tokens(single(at));
     teller.put(" is declared in line ");
-    let line = teller.tokens.line(at.min(teller.tokens.count()));
-    teller.text.put_display(line);
+    put_line(teller, at);
 }
 
-/// Says that an annotation in a function can't speak of its result, where it names the function.
-fn put_own_name(teller: &mut Teller) -> bool {
-    if !teller.is_in_annotation() || !is_own_name(teller) {
-        return false;
-    }
-    teller.put_about("# is the function itself: an annotation can't speak of its result");
-    true
-}
-
-/// Whether the token is the name of the function in which it stands.
-fn is_own_name(teller: &Teller) -> bool {
-    for place in (0..teller.at).rev() {
-        let next = place.saturating_add(1);
-        match teller.mark_at(place) {
-            Some(Mark::Procedure) => return false,
-            Some(Mark::Function) if teller.mark_at(next) == Some(Mark::Entry) => {
-                return teller.name_at(next.saturating_add(1)) == teller.name();
-            }
-            Some(Mark::Function) => return teller.name_at(next) == teller.name(),
-            _ => {}
-        }
-    }
-    false
+/// Says that a function names itself, where an annotation can't speak of its result or where that is a call.
+fn put_own_name(teller: &mut Teller, declarations: &Declarations) -> bool {
+    let words = if !declarations.is_function_itself(teller.at) {
+        ""
+    } else if teller.is_in_annotation() {
+        "# is the function itself: an annotation can't speak of its result"
+    } else if teller.ahead(1) != Some(Mark::OpenParenthesis) {
+        "# calls the function itself here, and no routine may: what is read again is put into a local variable"
+    } else {
+        ""
+    };
+    teller.put_about(words);
+    !words.is_empty()
 }

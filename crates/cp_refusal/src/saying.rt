@@ -6,13 +6,29 @@ use crate::extent::{
 };
 use crate::operands::{
     ANY_ORDINAL, Operands, Value, about_sets, about_unnamed, about_waiting, are_alike, argument_of,
-    phrase, taker, why_not_compared,
+    is_set, phrase, taker, why_not_compared,
 };
-use crate::rules::{mark_at, mark_before, name_at, put_declared};
+use crate::rules::{is_mark_of, mark_at, mark_before, name_at, put_declared};
 use crate::spelling::{Known, similar_declaration};
 use crate::teller::Teller;
 use cp_scope::{Base, Detail, FoundValue, Meaning, Parameter, Role, ValueType, values_of};
 use cp_text::Mark;
+
+/// The most fields or entries that are told.
+const MOST_MEMBERS: usize = 6;
+
+/// What stands behind the last of so many fields or entries that are told, of so many in all.
+fn behind_member(told: usize, number: usize) -> &'static str {
+    if told >= number {
+        ""
+    } else if told >= MOST_MEMBERS {
+        ", .."
+    } else if told.saturating_add(1) == number {
+        " and "
+    } else {
+        ", "
+    }
+}
 
 /// A source that is refused where a rule is broken, and what has been told of it.
 #[derive(Drop)]
@@ -78,13 +94,6 @@ impl<'a> Saying<'a> {
     /// What stands before the selector that begins at a token.
     fn name_before(&self, selector: usize) -> Extent {
         between(self.teller.at, selector)
-    }
-
-    /// What the name at a token stands for.
-    fn meaning(&self, at: usize) -> Option<Meaning> {
-        self.declarations
-            .scopes
-            .look(self.teller.whole_name_at(at)?)
     }
 
     /// The parameters of the routine or the system type that is written at a token.
@@ -159,7 +168,7 @@ impl<'a> Saying<'a> {
                 "an element"
             }
             Role::Value(_) if whole.is_long() => "a field",
-            Role::Value(_) => match self.meaning(whole.from) {
+            Role::Value(_) => match self.declarations.meaning_at(whole.from) {
                 Some(Meaning::Constant(..)) => "a constant",
                 Some(Meaning::Parameter(_)) => "a parameter",
                 _ => "a variable",
@@ -264,6 +273,10 @@ impl<'a> Saying<'a> {
     /// Says why no such relation stands between two values.
     fn put_relation(&mut self, relation: Option<Mark>, left: Value, right: Value) {
         self.teller.put(why_not_compared(relation, left.value_type, right.value_type));
+        if relation == Some(Mark::In) && !is_set(right.value_type) {
+            self.put_is(right);
+            return;
+        }
         self.put_both(left, " and ", right);
         if left.value_type.is_ordinal() && are_alike(left.value_type, right.value_type) {
             self.put_own_type(right);
@@ -425,10 +438,11 @@ impl<'a> Saying<'a> {
             Role::Value(_) => true,
             Role::Function | Role::Procedure => false,
         };
-        let words = if is_called {
-            ", and can't be called"
-        } else {
-            ", and has no value"
+        let words = match role {
+            Role::Value(ValueType::Array(_)) =>
+                ", and can't be called: an element of an array is written with brackets, as in a[1]",
+            _ if is_called => ", and can't be called",
+            _ => ", and has no value",
         };
         self.put_role(whole, role, words);
     }
@@ -436,7 +450,10 @@ impl<'a> Saying<'a> {
     /// Says that a statement calls no procedure.
     fn put_no_call(&mut self, role: Role) {
         let whole = self.name();
-        let is_parameter = matches!(self.meaning(whole.from), Some(Meaning::Parameter(_)));
+        let is_parameter = matches!(
+            self.declarations.meaning_at(whole.from),
+            Some(Meaning::Parameter(_))
+        );
         let words = match role {
             Role::Value(ValueType::Component(..)) if !is_parameter =>
                 ", and can't be called: init starts it",
@@ -453,6 +470,14 @@ impl<'a> Saying<'a> {
             Role::Kind => " is a type, and init starts a variable of it",
             Role::Value(ValueType::Array(at)) if self.has_fixed_elements(at) => {
                 " is an array, and init takes its elements one by one"
+            }
+            Role::Value(ValueType::Component(..)) =>
+                " is a parameter, and is initialised where it is declared as a variable",
+            Role::Value(value_type) => {
+                let extent = self.name();
+                self.put_is(Value { extent, value_type });
+                self.teller.put(", and init starts components alone");
+                return;
             }
             _ => " is no component variable of this block, so that init can't start it",
         };
@@ -499,6 +524,8 @@ impl<'a> Saying<'a> {
                     value_type,
                 });
                 self.teller.put(match value_type {
+                    ValueType::Array(_) =>
+                        ": one of its elements is named by an index before the period, as in a[1]",
                     ValueType::Queue =>
                         ": a process waits by delay(q), is let go on by continue(q), and empty(q) asks whether none waits",
                     _ => ", and no record: it has no fields",
@@ -528,9 +555,35 @@ impl<'a> Saying<'a> {
             }
             _ => return,
         };
-        if let Some(other) = similar_declaration(&self.teller, &self.declarations, known) {
-            put_declared(&mut self.teller, other);
+        match similar_declaration(&self.teller, &self.declarations, known) {
+            Some(other) => put_declared(&mut self.teller, other),
+            None => self.put_members(known),
         }
+    }
+
+    /// Says which fields or entries there are, or the first of them.
+    fn put_members(&mut self, known: Known) {
+        let places = known.places(self.teller.tokens);
+        let number = self.number_of_members(known, places);
+        self.teller.put(known.heading(number));
+        let mut told: usize = 0;
+        for place in places.from..places.to {
+            if told < MOST_MEMBERS && known.is_declared_at(&self.declarations, place) {
+                told = told.saturating_add(1);
+                self.teller.put_tokens(single(place));
+                self.teller.put(behind_member(told, number));
+            }
+        }
+    }
+
+    fn number_of_members(&self, known: Known, places: Extent) -> usize {
+        let mut number: usize = 0;
+        for place in places.from..places.to {
+            if known.is_declared_at(&self.declarations, place) {
+                number = number.saturating_add(1);
+            }
+        }
+        number
     }
 
     /// Says why a name with its selectors can't be assigned, or that an argument is no name.
@@ -550,7 +603,14 @@ impl<'a> Saying<'a> {
     }
 
     fn why_unchangeable(&self, whole: Extent, found: Option<ValueType>) -> &'static str {
-        match (self.meaning(whole.from), found) {
+        let is_argument = is_mark_of(
+            self.teller.tokens,
+            whole.from.saturating_sub(1),
+            &[Mark::OpenParenthesis, Mark::Comma],
+        );
+        match (self.declarations.meaning_at(whole.from), found) {
+            (Some(Meaning::Constant(..)), _) if is_argument =>
+                " is a constant, and a var parameter takes a variable",
             (Some(Meaning::Constant(..)), _) => " is a constant, and keeps its value",
             (Some(Meaning::Predeclared(_)), _) => {
                 " is a function of the language itself, and can't be assigned"

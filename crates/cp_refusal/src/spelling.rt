@@ -1,10 +1,11 @@
 //! Words that are written nearly alike.
 
 use crate::declared::Declarations;
-use crate::extent::definition_end;
+use crate::extent::{Extent, between, closing, is_field};
 use crate::foreign::instead_of;
+use crate::rules::{mark_before, name_at};
 use crate::teller::Teller;
-use cp_text::Name;
+use cp_text::{Mark, Tokens};
 use std::alloc::AllocError;
 
 // What is left of two words where they first differ.
@@ -65,23 +66,50 @@ pub enum Known {
 }
 
 impl Known {
+    /// What is said before so many of them.
+    pub fn heading(self, number: usize) -> &'static str {
+        match (self, number) {
+            (Known::EntryOf(_), 0) => ": it has no entries",
+            (Known::EntryOf(_), 1) => ": its only entry is ",
+            (Known::EntryOf(_), _) => ": its entries are ",
+            (_, 1) => ": its only field is ",
+            _ => ": its fields are ",
+        }
+    }
+
+    /// The tokens among which they are declared.
+    pub fn places(self, tokens: &Tokens) -> Extent {
+        match self {
+            Known::FieldOf(record) => between(
+                record,
+                closing(tokens, record, &[Mark::Record], &[Mark::End]),
+            ),
+            _ => between(0, tokens.count()),
+        }
+    }
+
+    /// Whether the name at a token is declared there, and is one of these fields or entries.
+    pub fn is_declared_at(self, declarations: &Declarations, place: usize) -> bool {
+        let name = name_at(declarations.tokens, place);
+        let is_entry = mark_before(declarations.tokens, place) == Some(Mark::Entry);
+        !name.is_empty()
+            && (is_entry || matches!(self, Known::FieldOf(_)))
+            && self.declared(declarations, name, place, place) == Some(place)
+    }
+
     // The token at which a name is declared that is one of these.
     fn declared(
         self,
         declarations: &Declarations,
-        name: &Name,
+        name: &str,
         place: usize,
         at: usize,
     ) -> Option<usize> {
         match self {
-            Known::Visible => Some(declarations.find(name.as_str(), at)?.at),
-            Known::FieldOf(record) => {
-                declarations.scopes.shapes().field(record, name)?;
-                let is_written = record < place
-                    && place < definition_end(declarations.tokens, record);
-                if is_written { Some(place) } else { None }
-            }
-            Known::EntryOf(system) => declarations.entry(system, name.as_str()),
+            Known::Visible => Some(declarations.find(name, at)?.at),
+            Known::FieldOf(record) if is_field(declarations.tokens, record, place) => Some(place),
+            Known::FieldOf(_) => None,
+            Known::EntryOf(system) => declarations.entry(system, name),
         }
     }
 }
@@ -94,9 +122,9 @@ pub fn similar_declaration(
 ) -> Option<usize> {
     for letters in [1, 2] {
         for place in (0..teller.at).rev() {
-            if let Some(other) = teller.whole_name_at(place)
-                && other.as_str() != teller.name()
-                && is_alike(teller.name(), other.as_str(), letters)
+            let other = teller.name_at(place);
+            if other != teller.name()
+                && is_alike(teller.name(), other, letters)
                 && let Some(found) = known.declared(declarations, other, place, teller.at)
             {
                 return Some(found);

@@ -6,7 +6,7 @@ use crate::place::{end, text_in};
 use crate::rules::{mark_at, name_at};
 use cp_drops::drop_tree;
 use cp_prose::Prose;
-use cp_text::{Kind, Mark, Name, ScanCause, Tokens, scan};
+use cp_text::{Mark, ScanCause, Tokens, scan};
 use cp_tree::{ParseFault, parse};
 use std::alloc::{AllocError, Global};
 
@@ -73,14 +73,6 @@ impl<'a> Teller<'a> {
     /// The name at this number; an empty text where there is none.
     pub fn name_at(&self, at: usize) -> &'a str {
         name_at(self.tokens, at)
-    }
-
-    /// The name at this number, where there is one.
-    pub fn whole_name_at(&self, at: usize) -> Option<&'a Name> {
-        match self.tokens.get(at) {
-            Some(Kind::Name(name)) => Some(name),
-            _ => None,
-        }
     }
 
     /// The name before the token that is refused; an empty text where there is none.

@@ -1,0 +1,2 @@
+var x, y: integer;
+begin x : y end.

@@ -1,0 +1,4 @@
+var n: integer;
+begin
+  else n := 1
+end.

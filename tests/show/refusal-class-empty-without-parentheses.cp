@@ -1,0 +1,4 @@
+type m = monitor; var q: queue;
+  procedure entry wake; begin if not empty q then continue(q) end;
+begin end;
+begin end.

@@ -1,0 +1,2 @@
+var n: integer;
+begin if n => 1 then display(n) end.

@@ -1,0 +1,3 @@
+type one = process; begin display(1) end;
+var a, b: one;
+begin init(a, b) end.

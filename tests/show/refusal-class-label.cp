@@ -1,0 +1,3 @@
+type one = process; begin display(1) end;
+var o: one;
+begin start: init o end.

@@ -1,0 +1,3 @@
+var count
+var total: integer;
+begin total := 0 end.

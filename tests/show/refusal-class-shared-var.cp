@@ -1,0 +1,3 @@
+type m = monitor; begin end;
+shared var x: m;
+begin init x end.

@@ -1,0 +1,2 @@
+var busy: boolean;
+begin if ~busy then display(1) end.

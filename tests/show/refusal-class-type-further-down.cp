@@ -1,0 +1,10 @@
+type
+worker = process(c: counter);
+begin c.add end;
+counter = monitor;
+  var n: integer;
+  procedure entry add;
+  begin n := n + 1 end;
+begin n := 0 end;
+var c: counter; w: worker;
+begin init c, w(c) end.

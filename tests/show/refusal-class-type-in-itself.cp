@@ -1,0 +1,2 @@
+type list = record head: integer; tail: list end;
+begin end.

@@ -1,0 +1,2 @@
+type person is record age: integer end;
+begin end.

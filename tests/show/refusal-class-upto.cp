@@ -1,0 +1,2 @@
+var i: integer;
+begin for i := 1 upto 3 do display(i) end.

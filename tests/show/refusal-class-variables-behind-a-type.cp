@@ -1,0 +1,3 @@
+type small = 1..3;
+  n, m: integer;
+begin n := 1 end.
