@@ -17,13 +17,15 @@ ghost use Rattle.cp_ends.specs.Whole.{IsAnswer};
 ghost use Rattle.cp_ends.specs.declared.found.Arrived.TheVariants.{At};
 
 use crate::choosing::{choose, open};
+use crate::end::End;
 use crate::found::{Arrived, Found};
 use crate::origin::Origin;
+use crate::rows::search_rows;
 use crate::sight::{Sight, Unseen};
 use crate::told::Told;
 use cp_machine::State;
 use cp_progress::{ObserveProgress, Progress, Unobserved};
-use cp_run::Job;
+use cp_run::{Halt, Job};
 use cp_search::{SearchJob, Visit, visit_all};
 use std::alloc::{AllocError, Global};
 
@@ -60,33 +62,19 @@ pub fn search_ends_with<O: ObserveProgress>(
         run: *job,
         most: states,
     };
-    search_with(&job, observer)
-}
-
-fn search_with<O: ObserveProgress>(
-    job: &SearchJob<'_>,
-    observer: &mut O,
-) -> Result<Found, AllocError>
-    requires most { 1 ≤ job.now.most }
-    ensures { IfOk result (λ found. IsSearch job.now.run.program.now (slot_graph job.now.run.program.now job.now.run.limits.discipline job.now.run.limits.steps) job.now.most found found.stopped) }
-{
-    let mut visit: EndsVisit<Unseen> = EndsVisit::new(job.alloc, Unseen);
-    let mut state = State::start(job.alloc, job.run.program, job.run.limits.discipline)?;
-    visit.open(job, &mut state)?;
-    let mut next = state.copy(job.alloc)?;
-    visit.found.stopped = visit_all(job, &mut visit, &mut state, &mut next, observer)?;
-    Ok(visit.found)
+    search_rows(&job, observer)
 }
 
 impl<P: Sight> EndsVisit<P> {
     /// Nothing is found.
-    pub fn new(alloc: Global, seen: P) -> EndsVisit<P>
-        ensures { (r : Tables) → Holds r result.found nothing }
+    pub fn new(job: &SearchJob<'_>, seen: P) -> Result<EndsVisit<P>, AllocError>
+        ensures nothing { IfOk result (λ visit. Holds job.now.run.program.now visit.found nothing) }
+        ensures ruled { IfOk result (λ visit. visit.found.states.discipline ≡ job.now.run.limits.discipline) }
     {
-        EndsVisit {
-            found: Found::new(alloc),
-            told: Told::new(alloc, seen),
-        }
+        Ok(EndsVisit {
+            found: Found::new(job.alloc, &job.run)?,
+            told: Told::new(job.alloc, seen),
+        })
     }
 
     /// Follows the opening stretch, and notes where it arrives. Before it nothing is found.
@@ -95,6 +83,7 @@ impl<P: Sight> EndsVisit<P> {
         requires start { machine_of state.old ≡ opening job.now.run.program.now job.now.run.limits.discipline }
         requires most { 1 ≤ job.now.most }
         requires nothing { Holds job.now.run.program.now self.old.found nothing }
+        requires ruled { self.old.found.states.discipline ≡ job.now.run.limits.discipline }
         ensures own { IsStateOf job.now.run.program.now state.new }
         ensures begun { IfOk result (λ _. HoldsFew job.now.run.program.now job.now.most self.new.found (searched (slot_graph job.now.run.program.now job.now.run.limits.discipline job.now.run.limits.steps) ends_tests 0)) }
         ensures leg { IfOk result (λ arrived. ComesTo (silent_slots job.now.run.program.now job.now.run.limits.discipline) (λ w. P.sees w job.now.run.program.now job.now.run.limits.discipline) job.now.run.limits.steps (first_leg (silent_slots job.now.run.program.now job.now.run.limits.discipline) job.now.run.limits.steps) [] self.new.told.seen (with_round self.new.told.again (halt_of arrived)) (machine_of state.new)) }
@@ -102,9 +91,7 @@ impl<P: Sight> EndsVisit<P> {
         self.told.values.clear();
         let halt = open(job.alloc, &job.run, state, &mut self.told)?;
         let values = self.told.values.as_slice();
-        let moved = &self.told.moved;
-        self.found
-            .arrive(job, state, halt, values, Origin::Start, state, moved)
+        self.found.arrive_first(job, state, halt, values)
     }
 
     /// Takes a choice in a copy of the state of this number, and notes where it arrives.
@@ -135,10 +122,24 @@ impl<P: Sight> EndsVisit<P> {
             state: at,
             number: process,
         };
+        let row = self.row_after(job, at, process, next, halt)?;
         let values = self.told.values.as_slice();
-        let moved = &self.told.moved;
-        self.found
-            .arrive(job, next, halt, values, origin, state, moved)
+        self.found.arrive(job, row.as_slice(), halt, values, origin)
+    }
+
+    // The row of the state to which a choice led, where a choice is due there.
+    fn row_after(
+        &mut self,
+        job: &SearchJob<'_>,
+        at: u32,
+        process: u8,
+        state: &State,
+        halt: Halt<End>,
+    ) -> Result<Vec<u32>, AllocError> {
+        match halt {
+            Halt::Ended(_) => Ok(Vec::new(job.alloc)),
+            Halt::Choice => self.found.row_after(job, at, process, state),
+        }
     }
 
     /// After a choice was taken in a copy of a state, it is one again.

@@ -143,7 +143,7 @@ fn mark_asked<O: ObserveProgress>(
     ensures mark { IfOk result (λ a. given.TellsAsked examinee.entry.options.now (with_tables examinee.entry.program.now (processes_of examinee.entry.legend.now)) reading.now.expectations.items (λ es. spec.TellsSlotMark examinee.entry.program.now (processes_of examinee.entry.legend.now) examinee.entry.options.now.discipline examinee.entry.options.now.choices examinee.entry.options.now.steps es a.verdict) (λ es. given.TellsEnds examinee.entry.program.now (processes_of examinee.entry.legend.now) examinee.entry.options.now es a.verdict) a.verdict) }
     ensures meaning { (t : Tree) → ∥ IsRead t.program ∥₁ → IsAccepted t → IsProgramOf t examinee.entry.program.now → IfOk result (λ a. given.TellsAsked examinee.entry.options.now (given.names_with t (processes_of examinee.entry.legend.now)) reading.now.expectations.items (λ es. spec.TellsNamedMark t (processes_of examinee.entry.legend.now) examinee.entry.options.now.discipline examinee.entry.options.now.choices examinee.entry.options.now.steps es a.verdict) (λ es. given.MeansEnds t (processes_of examinee.entry.legend.now) examinee.entry.options.now es a.verdict) a.verdict) }
     ensures text { is_endless examinee.entry.options.now.analysis ≡ false → IfOk result (λ a. given.TellsIf (given.are_asked examinee.entry.options.now (with_tables examinee.entry.program.now (processes_of examinee.entry.legend.now)) reading.now.expectations.items) (TellsText (setting_of examinee.entry) reading.now.expectations.items (option_map (λ w. w.now) reading.now.doubtful) a.verdict (string_bytes a.text)) a.verdict) }
-    ensures ends_text { is_endless examinee.entry.options.now.analysis ≡ true → IfOk result (λ a. given.TellsIf (given.are_asked examinee.entry.options.now (with_tables examinee.entry.program.now (processes_of examinee.entry.legend.now)) reading.now.expectations.items) (TellsEndsText (setting_of examinee.entry) a.verdict (string_bytes a.text)) a.verdict) }
+    ensures ends_text { is_endless examinee.entry.options.now.analysis ≡ true → IfOk result (λ a. given.TellsIf (given.are_asked examinee.entry.options.now (with_tables examinee.entry.program.now (processes_of examinee.entry.legend.now)) reading.now.expectations.items) (TellsEndsText (setting_of examinee.entry) reading.now.expectations.items a.verdict (string_bytes a.text)) a.verdict) }
 {
     let list = reading.expectations.as_slice();
     if let Some(said) = refusal(alloc, examinee, list)? {
@@ -164,7 +164,7 @@ fn judge_ends<O: ObserveProgress>(
     list: &[Expectation],
 ) -> Result<ShowAnswer, AllocError>
     ensures mark { IfOk result (λ a. given.TellsEnds examinee.entry.program.now (processes_of examinee.entry.legend.now) examinee.entry.options.now list.now a.verdict) }
-    ensures text { IfOk result (λ a. TellsEndsText (setting_of examinee.entry) a.verdict (string_bytes a.text)) }
+    ensures text { IfOk result (λ a. TellsEndsText (setting_of examinee.entry) list.now a.verdict (string_bytes a.text)) }
 {
     let Examinee {
         options,

@@ -1,6 +1,6 @@
 //! The mark of a program, also where expectations name who waits.
 
-ghost use Rattle.std.specs.Prelude.{◌≡◌, ℕ, List, false, map, IfOk};
+ghost use Rattle.std.specs.Prelude.{◌≡◌, ℕ, List, false, true, map, IfOk};
 ghost use Rattle.cp_machine.specs.declared.discipline.Discipline.{Discipline};
 ghost use Rattle.cp_run.specs.Slots.{slots};
 ghost use Rattle.cp_run.specs.Table.{Line, table};
@@ -9,6 +9,7 @@ ghost use Rattle.cp_endless_laws.specs.Silent.{waits_on_slots};
 ghost use Rattle.cp_merged.specs.Code.{tally_of};
 ghost use Rattle.cp_merged.specs.Tallies.{tally};
 ghost use Rattle.cp_verdict.specs.Judged.{line_of};
+ghost use Rattle.cp_verdict.specs.Limits.{AreStopsOf};
 ghost use Rattle.cp_verdict.specs.Marked as by_rows;
 ghost use Rattle.cp_verdict.specs.Meant as meant_by_rows;
 ghost use Rattle.cp_verdict.specs.endless.Naming.{processes_of};
@@ -16,16 +17,15 @@ ghost use Rattle.cp_verdict.specs.waiting.Asking as asking;
 ghost use Rattle.cp_verdict.specs.waiting.Judged.{IsJudgedAny};
 ghost use Rattle.cp_verdict.specs.waiting.Marked as spec;
 ghost use Rattle.cp_verdict.specs.waiting.Meant.{IsMeantMark, IsSlotMark};
-ghost use Rattle.cp_verdict.specs.waiting.Rows.{AreEndsIn, AreRowsOf, HaveShortEnds, HaveShortWords};
+ghost use Rattle.cp_verdict.specs.waiting.Rows.{AreEndsIn, AreRowsOf, HaveShortEnds, HaveShortWords, waiting_line};
 ghost use Rattle.cp_verdict.specs.waiting.Who.{who_at};
 
-use crate::judging::{self, Judgement};
+use crate::judging::{Judgement, judge};
 use crate::marking::mark_of;
-use crate::program::{MarkFault, Marked, mark_tallies, outcomes_of, seen_of, stops_of};
+use crate::program::{MarkFault, Marked, outcomes_of, seen_of, stops_of};
 use crate::seen::Seen;
 use crate::waiting::asking::{name_who, names_who};
-use crate::waiting::judging::judge;
-use crate::waiting::rows::{SeenWaiting, rows_of};
+use crate::waiting::rows::{SeenWaiting, first_rows, rows_of};
 use cp_expectation::Expectation;
 use cp_legend::Legend;
 use cp_merged::Tally;
@@ -74,12 +74,18 @@ pub fn mark_known<O: ObserveProgress>(
     ensures mark { IfOk result (λ m. map tally_of tallies.now ≡ tally same_outcome (table (slots job.entry.program.now job.entry.limits.discipline) job.entry.limits.choices job.entry.limits.steps) → IsSlotMark job.entry.program.now (processes_of legend.now) job.entry.limits.discipline job.entry.limits.choices job.entry.limits.steps expectations.now m) }
     ensures rows { asking.name_who expectations.now ≡ false → IfOk result (λ m. (lines : List Line) → map tally_of tallies.now ≡ tally same_outcome lines → by_rows.IsMarked job.entry.program.now.names expectations.now lines m) }
 {
+    let outcomes = seen_of(alloc, tallies)?;
+    let seen = outcomes.as_slice();
+    let firsts = first_rows(alloc, seen)?;
+    let first = firsts.as_slice();
     if name_who(expectations) {
         let ends = ends_of(alloc, job, states, observer)?;
-        let marked = mark_rows(alloc, job.program, legend, expectations, tallies, &ends)?;
+        let rows = rows_of(alloc, seen, &ends)?;
+        let rows = rows.as_slice();
+        let marked = mark_rows(alloc, job.program, legend, expectations, seen, first, rows)?;
         Ok(marked)
     } else {
-        let marked = mark_tallies(alloc, job.program, expectations, tallies)?;
+        let marked = mark_rows(alloc, job.program, legend, expectations, seen, first, first)?;
         Ok(marked)
     }
 }
@@ -101,23 +107,25 @@ fn ends_of<O: ObserveProgress>(
     Ok(noted.note)
 }
 
-// What the table with these outcomes, and with these ends at which all wait, says of some expectations.
+// What the table with these outcomes says of some expectations: of one that names somebody by the rows with who waits at their ends, of another by the first rows.
 fn mark_rows(
     alloc: Global,
     program: &Resolved,
     legend: &Legend,
     expectations: &[Expectation],
-    tallies: &[Tally],
-    ends: &WaitingEnds,
+    seen: &[Seen],
+    first: &[SeenWaiting],
+    rows: &[SeenWaiting],
 ) -> Result<Marked, AllocError>
-    requires { HaveShortEnds ends.now }
-    ensures { IfOk result (λ m. (who : List ℕ → List ℕ) (lines : List Line) → map tally_of tallies.now ≡ tally same_outcome lines → AreEndsIn who lines ends.now → spec.IsMarked program.now.names (processes_of legend.now) who expectations.now lines m) }
+    requires first { HaveShortWords first.now }
+    requires rows { HaveShortWords rows.now }
+    ensures judged { map waiting_line first.now ≡ map line_of seen.now → IfOk result (λ m. (who : List ℕ → List ℕ) (lines : List Line) → map line_of seen.now ≡ outcomes_of lines → (asking.name_who expectations.now ≡ true → AreRowsOf who lines rows.now) → spec.AreJudged (IsJudgedAny program.now.names (processes_of legend.now) who lines) expectations.now m.judgements.items) }
+    ensures mark { IfOk result (λ m. m.mark ≡ by_rows.mark_of m.judgements.items) }
+    ensures stops { IfOk result (λ m. AreStopsOf (map line_of seen.now) m.stops) }
 {
-    let seen = seen_of(alloc, tallies)?;
-    let rows = rows_of(alloc, &seen, ends)?;
-    let judgements = judge_each(alloc, program, legend, expectations, &seen, &rows)?;
+    let judgements = judge_each(alloc, program, legend, expectations, seen, first, rows)?;
     let mark = mark_of(&judgements);
-    let stops = stops_of(&seen);
+    let stops = stops_of(seen);
     Ok(Marked {
         judgements,
         mark,
@@ -125,21 +133,23 @@ fn mark_rows(
     })
 }
 
-// What the table with these outcomes and rows says of each expectation.
+// What it says of each expectation.
 fn judge_each(
     alloc: Global,
     program: &Resolved,
     legend: &Legend,
     expectations: &[Expectation],
     seen: &[Seen],
+    first: &[SeenWaiting],
     rows: &[SeenWaiting],
 ) -> Result<Vec<Judgement>, AllocError>
-    requires { HaveShortWords rows.now }
-    ensures { IfOk result (λ js. (who : List ℕ → List ℕ) (lines : List Line) → map line_of seen.now ≡ outcomes_of lines → AreRowsOf who lines rows.now → spec.AreJudged (IsJudgedAny program.now.names (processes_of legend.now) who lines) expectations.now js.items) }
+    requires first { HaveShortWords first.now }
+    requires rows { HaveShortWords rows.now }
+    ensures { map waiting_line first.now ≡ map line_of seen.now → IfOk result (λ js. (who : List ℕ → List ℕ) (lines : List Line) → map line_of seen.now ≡ outcomes_of lines → (asking.name_who expectations.now ≡ true → AreRowsOf who lines rows.now) → spec.AreJudged (IsJudgedAny program.now.names (processes_of legend.now) who lines) expectations.now js.items) }
 {
     let mut judgements = Vec::new(alloc);
     for expectation in expectations {
-        let judgement = judge_any(alloc, program, legend, expectation, seen, rows)?;
+        let judgement = judge_any(alloc, program, legend, expectation, seen, first, rows)?;
         judgements.push(judgement)?;
     }
     Ok(judgements)
@@ -151,14 +161,16 @@ fn judge_any(
     legend: &Legend,
     expectation: &Expectation,
     seen: &[Seen],
+    first: &[SeenWaiting],
     rows: &[SeenWaiting],
 ) -> Result<Judgement, AllocError>
-    requires { HaveShortWords rows.now }
-    ensures { IfOk result (λ j. (who : List ℕ → List ℕ) (lines : List Line) → map line_of seen.now ≡ outcomes_of lines → AreRowsOf who lines rows.now → IsJudgedAny program.now.names (processes_of legend.now) who lines expectation.now j) }
+    requires first { HaveShortWords first.now }
+    requires rows { HaveShortWords rows.now }
+    ensures { map waiting_line first.now ≡ map line_of seen.now → IfOk result (λ j. (who : List ℕ → List ℕ) (lines : List Line) → map line_of seen.now ≡ outcomes_of lines → (asking.names_who expectation.now ≡ true → AreRowsOf who lines rows.now) → IsJudgedAny program.now.names (processes_of legend.now) who lines expectation.now j) }
 {
     if names_who(expectation) {
         judge(alloc, program, legend, expectation, seen, rows)
     } else {
-        judging::judge(alloc, program, expectation, seen)
+        judge(alloc, program, legend, expectation, seen, first)
     }
 }

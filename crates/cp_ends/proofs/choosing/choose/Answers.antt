@@ -1,4 +1,4 @@
-use Rattle.cp_ends.proofs.Vocabulary.{◌∙◌, [], refl, ap, subst, sym, List, Bool, Machine, Moment, Shown, machine_of, slots, silent_slots, without_output, same_key, goal_at}
+use Rattle.cp_ends.proofs.Vocabulary.{◌∙◌, [], refl, ap, subst, sym, List, Bool, Machine, Moment, Shown, machine_of, slots, silent_slots, without_output, same_key, goal_at, Discipline, Turn}
 use Rattle.std.proofs.lemmas.List.Elements.{All-head}
 use Rattle.std.specs.Prelude.{◌∷◌}
 use Rattle.cp_machine.specs.Bodies.{KeepBodies, has_moved}
@@ -10,6 +10,7 @@ use Rattle.cp_ends.proofs.GoingOn.{ok_to}
 use Rattle.cp_ends.proofs.Halting.{choice_comes, comes_to, shows}
 use Rattle.cp_ends.proofs.Legs.{choice_sets_out, sees_choice}
 use Rattle.cp_ends.proofs.Moving.{HaveMoved, at_due}
+use Rattle.cp_ends.proofs.Ruled.{chosen_ruled}
 use Rattle.cp_ends.proofs.choosing.choose.Goals as goal
 
 -- what is told and seen
@@ -95,3 +96,12 @@ returns-clause-kept g c =
     let all : HaveMoved moved last (s ∷ []) = subst (λ (y : Told). HaveMoved moved last y.1.0) (sees_choice quiet (teller sys) steps s p before) now.4 in
     let kept : KeepBodies (has_moved moved) s last = All-head (λ before. KeepBodies (has_moved moved) before last) s [] all in
     ok_to c.arrive.result _ _ c.arrive.ensures.still (λ h still due. subst (λ (k : Moved). KeepBodies (has_moved k) s (machine_of c.arrive.new.state)) (sym (still due).0) (subst (KeepBodies (has_moved moved) s) (sym (still due).1) kept))
+
+pub returns-clause-ruled : goal.returns-clause-ruled
+returns-clause-ruled g c =
+    let r = c.args.job.now.program.now in
+    let discipline = c.args.job.now.limits.discipline in
+    let steps = c.args.job.now.limits.steps in
+    let s = machine_of c.args.state.now in
+    let rule : Machine → Discipline = λ m. m.discipline in
+    ok_to c.arrive.result _ _ c.arrive.ensures.still (λ h still due. ap rule (still due).1 ∙ ap (λ (x : Machine × Turn). rule x.0) c.in_ok-turn.ensures.walked ∙ chosen_ruled r discipline steps s c.args.process)

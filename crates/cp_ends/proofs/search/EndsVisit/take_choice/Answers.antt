@@ -5,7 +5,7 @@ use Rattle.cp_run.specs.declared.outcome.Halt.{Halt}
 use Rattle.cp_run.specs.declared.outcome.Halt.TheVariants.{Choice}
 use Rattle.cp_ends.specs.Answer.{halt_of}
 use Rattle.cp_ends.specs.declared.end.End.{End}
-use Rattle.cp_ends.proofs.GoingOn.{Takes, number_so, ok_both, ok_to, row_within, stops_at, within_more}
+use Rattle.cp_ends.proofs.GoingOn.{Takes, number_so, ok_both, ok_to, state_within, stops_at, within_more}
 use Rattle.cp_ends.proofs.search.EndsVisit.take_choice.Goals as goal
 use Rattle.cp_ends.specs.Legs.{ComesTo, choice_leg, with_round}
 use Rattle.cp_endless_laws.specs.Silent.{silent_slots}
@@ -16,18 +16,20 @@ choose-requires-clause-may g c = ap (λ m. may (slots c.args.job.now.run.program
 pub choose-requires-clause-quiet : goal.choose-requires-clause-quiet
 choose-requires-clause-quiet g c = ap output_of c.requires.copied ∙ c.requires.within.quiet
 
-pub arrive-requires-clause-moved : goal.arrive-requires-clause-moved
-arrive-requires-clause-moved g c = λ due.
+pub arrive_in-requires-clause-placed : goal.arrive_in-requires-clause-placed
+arrive_in-requires-clause-placed g c = c.requires.within.holds.holds.states.cached.placed
+
+pub arrive_in-requires-clause-ruled : goal.arrive_in-requires-clause-ruled
+arrive_in-requires-clause-ruled g c = λ due.
     (let job = c.args.job.now in
     let m = machine_of c.args.state.now in
-    let gr = slot_graph job.run.program.now job.run.limits.discipline job.run.limits.steps in (
-      row_within job.run.program.now gr job.most c.args.self.now.found c.args.at m (those_below c.args.process (gr.may m)) c.requires.within,
-      subst (λ k. KeepBodies (has_moved c.choose.new.told.moved) k (machine_of c.choose.new.state)) c.requires.copied (c.in_ok-halt.ensures.kept due),
-    ))
+    let gr = slot_graph job.run.program.now job.run.limits.discipline job.run.limits.steps in
+    let found = state_within job.run.program.now gr job.most c.args.self.now.found c.args.at m (those_below c.args.process (gr.may m)) c.requires.within in
+    c.in_ok-halt.ensures.ruled due ∙ ap (λ (k : Machine). k.discipline) c.requires.copied ∙ found.ruled)
 
 pub returns-clause-kept : goal.returns-clause-kept
 returns-clause-kept g c =
-    ok_to c.arrive.result _ _ c.arrive.ensures.halt (λ b halts due. subst (λ k. KeepBodies (has_moved c.choose.new.told.moved) k (machine_of c.choose.new.state)) c.requires.copied (c.in_ok-halt.ensures.kept (sym halts ∙ due)))
+    ok_to c.arrive_in.result _ _ c.arrive_in.ensures.halt (λ b halts due. subst (λ k. KeepBodies (has_moved c.choose.new.told.moved) k (machine_of c.choose.new.state)) c.requires.copied (c.in_ok-halt.ensures.kept (sym halts ∙ due)))
 
 pub returns-clause-within : goal.returns-clause-within
 returns-clause-within g c =
@@ -40,7 +42,7 @@ returns-clause-within g c =
     let a : SlotArrival = gr.on m p in
     let goes : goal_at c.in_ok-halt.halt (machine_of c.choose.new.state) ≡ a.goal = c.in_ok-halt.ensures.goal ∙ ap (λ k. (gr.on k p).goal) c.requires.copied in
     let shows : c.as_slice-values.result.now ≡ a.shown = c.as_slice-values.ensures.value ∙ c.in_ok-halt.ensures.shown ∙ ap (λ l. l ++ (gr.on n p).shown) c.clear.ensures.items ∙ ap (λ k. (gr.on k p).shown) c.requires.copied in
-    ok_to c.arrive.result _ _ c.arrive.ensures.arrives (λ b on room. within_more r gr job.most c.args.self.now.found c.arrive.new.self c.args.at m p c.requires.within b (λ f word h is before. on f word a h is before goes shows) room)
+    ok_to c.arrive_in.result _ _ c.arrive_in.ensures.arrives (λ b on room. within_more r gr job.most c.args.self.now.found c.arrive_in.new.self c.args.at m p c.requires.within b (λ f word h is before. on f word a h is before goes shows) room)
 
 pub returns-clause-stops : goal.returns-clause-stops
 returns-clause-stops g c =
@@ -53,7 +55,7 @@ returns-clause-stops g c =
     let a : SlotArrival = gr.on m p in
     let goes : goal_at c.in_ok-halt.halt (machine_of c.choose.new.state) ≡ a.goal = c.in_ok-halt.ensures.goal ∙ ap (λ k. (gr.on k p).goal) c.requires.copied in
     let shows : c.as_slice-values.result.now ≡ a.shown = c.as_slice-values.ensures.value ∙ c.in_ok-halt.ensures.shown ∙ ap (λ l. l ++ (gr.on n p).shown) c.clear.ensures.items ∙ ap (λ k. (gr.on k p).shown) c.requires.copied in
-    ok_to c.arrive.result _ _ c.arrive.ensures.arrives (λ b on full. stops_at r gr job.most c.args.self.now.found c.arrive.new.self c.args.at m p c.requires.within c.requires.below c.requires.may b (λ f word h is before. on f word a h is before goes shows) full)
+    ok_to c.arrive_in.result _ _ c.arrive_in.ensures.arrives (λ b on full. stops_at r gr job.most c.args.self.now.found c.arrive_in.new.self c.args.at m p c.requires.within c.requires.below c.requires.may b (λ f word h is before. on f word a h is before goes shows) full)
 
 pub returns-clause-number : goal.returns-clause-number
 returns-clause-number g c =
@@ -67,10 +69,10 @@ returns-clause-number g c =
     let goes : goal_at c.in_ok-halt.halt (machine_of c.choose.new.state) ≡ a.goal = c.in_ok-halt.ensures.goal ∙ ap (λ k. (gr.on k p).goal) c.requires.copied in
     let shows : c.as_slice-values.result.now ≡ a.shown = c.as_slice-values.ensures.value ∙ c.in_ok-halt.ensures.shown ∙ ap (λ l. l ++ (gr.on n p).shown) c.clear.ensures.items ∙ ap (λ k. (gr.on k p).shown) c.requires.copied in
     let last = machine_of c.choose.new.state in
-    ok_both c.arrive.result _ _ _ c.arrive.ensures.arrives c.arrive.ensures.halt (λ b on halts number from at is.
-    (let takes = subst (Takes r gr job.most c.args.self.now.found c.arrive.new.self c.args.at m p c.requires.within) at (λ f word h word_is before. on f word a h word_is before goes shows) in
+    ok_both c.arrive_in.result _ _ _ c.arrive_in.ensures.arrives c.arrive_in.ensures.halt (λ b on halts number from at is.
+    (let takes = subst (Takes r gr job.most c.args.self.now.found c.arrive_in.new.self c.args.at m p c.requires.within) at (λ f word h word_is before. on f word a h word_is before goes shows) in
     let due : c.in_ok-halt.halt ≡ Choice = sym halts ∙ ap halt_of at in
-    number_so r gr job.most c.args.self.now.found c.arrive.new.self c.args.at m p c.requires.within number last from is (ap (λ (h : Halt End). goal_at h last) (sym due) ∙ goes) takes))
+    number_so r gr job.most c.args.self.now.found c.arrive_in.new.self c.args.at m p c.requires.within number last from is (ap (λ (h : Halt End). goal_at h last) (sym due) ∙ goes) takes))
 
 pub returns-clause-leg : goal.returns-clause-leg
 returns-clause-leg g c =
@@ -80,5 +82,5 @@ returns-clause-leg g c =
     let quiet = silent_slots r discipline in
     let m = machine_of c.args.state.now in
     let told = c.choose.new.told in
-    ok_to c.arrive.result _ _ c.arrive.ensures.halt (λ b halts. subst (λ (h : Halt End). ComesTo quiet (λ w. g.P.Sight.sees w r discipline) job.run.limits.steps (choice_leg quiet job.run.limits.steps m c.args.process) (m ∷ []) told.seen (with_round told.again h) (machine_of c.choose.new.state)) (sym halts)
+    ok_to c.arrive_in.result _ _ c.arrive_in.ensures.halt (λ b halts. subst (λ (h : Halt End). ComesTo quiet (λ w. g.P.Sight.sees w r discipline) job.run.limits.steps (choice_leg quiet job.run.limits.steps m c.args.process) (m ∷ []) told.seen (with_round told.again h) (machine_of c.choose.new.state)) (sym halts)
     (subst (λ k. ComesTo quiet (λ w. g.P.Sight.sees w r discipline) job.run.limits.steps (choice_leg quiet job.run.limits.steps k c.args.process) (k ∷ []) told.seen (with_round told.again c.in_ok-halt.halt) (machine_of c.choose.new.state)) c.requires.copied c.in_ok-halt.ensures.leg))
