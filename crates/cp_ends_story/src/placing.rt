@@ -1,25 +1,18 @@
 //! Where processes are at the end of a word.
 
-ghost use Rattle.std.specs.Prelude.{◌≡◌, ◌≤◌, length};
-
 use crate::subject::Telling;
 use cp_machine::{Signals, Uncounted};
 use cp_run::{Job, OutcomeKind, RunEnd};
-use cp_story::{Happening, MOST_NUMBERS, OpenCall, Story, Wait, tell};
+use cp_story::{Happening, OpenCall, Story, Wait, tell};
 use std::alloc::AllocError;
 
-/// The story of a word that is told to its end; none where the word has too many numbers, or the run was stopped by how much it displayed.
+/// The story of a word that is told to its end; none where the run was stopped by how much it displayed.
 pub fn whole_story(telling: Telling<'_>, word: &[u8]) -> Result<Option<Story>, AllocError> {
-    if word.len() > MOST_NUMBERS {
-        return Ok(None);
-    }
     let story = story_of(telling, word)?;
     Ok(if is_full(&story) { None } else { Some(story) })
 }
 
-fn story_of(telling: Telling<'_>, word: &[u8]) -> Result<Story, AllocError>
-    requires short { length word.now ≤ 100 }
-{
+fn story_of(telling: Telling<'_>, word: &[u8]) -> Result<Story, AllocError> {
     let Telling { alloc, subject, .. } = telling;
     tell(
         alloc,
@@ -27,6 +20,7 @@ fn story_of(telling: Telling<'_>, word: &[u8]) -> Result<Story, AllocError>
             program: subject.program,
             limits: subject.limits,
         },
+        word.len(),
         subject.legend,
         word,
         &mut Uncounted,

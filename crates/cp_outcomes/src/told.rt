@@ -207,6 +207,7 @@ pub fn story_of(alloc: Global, subject: Subject<'_>, word: &[u8]) -> Result<Stor
     tell(
         alloc,
         &Job { program, limits },
+        limits.choices as usize,
         legend,
         word,
         &mut Uncounted,

@@ -15,44 +15,15 @@ static KINDS: [(&[&str], &str, &str); 7] = [
 ];
 
 /// The reserved words and signs that are told themselves, in this order, where none of the first ones may stand.
-static THEMSELVES: [(&[&str], &[&str]); 5] = [
+static THEMSELVES: [(&[&str], &str); 5] = [
     (
         &[],
-        &[
-            "const",
-            "type",
-            "var",
-            "procedure",
-            "function",
-            "entry",
-            "class",
-            "monitor",
-            "process",
-            "array",
-            "set",
-            "record",
-        ],
+        "const type var procedure function entry class monitor process array set record",
     ),
-    (
-        &["while"],
-        &[
-            "begin", "if", "case", "while", "repeat", "for", "cycle", "init",
-        ],
-    ),
-    (&["not"], &["not", "(", "["]),
-    (
-        &["*", "not"],
-        &[
-            "+", "-", "*", "div", "mod", "and", "or", "=", "<>", "<", ">", "<=", ">=", "in",
-        ],
-    ),
-    (
-        &[],
-        &[
-            ":=", ":", ",", "..", "of", "then", "do", "to", "downto", ")", "]", "until", "else",
-            ";", "end", ".",
-        ],
-    ),
+    (&["while"], "begin if case while repeat for cycle init"),
+    (&["not"], "not ( ["),
+    (&["*", "not"], "+ - * div mod and or = <> < > <= >= in"),
+    (&[], ":= : , .. of then do to downto ) ] until else ; end ."),
 ];
 
 /// A choice that is told: `a`, `a or b`, `a, b or c`. What is newest in it is held back until it is known whether it is the last.
@@ -94,12 +65,11 @@ pub fn put_wanted(teller: &mut Teller) {
         }
     }
     for (unless, words) in &THEMSELVES {
-        if teller.takes_one_of(unless) {
-            continue;
-        }
-        for word in *words {
-            if teller.takes(word) {
-                choice.add(&mut teller.text, "\"", word);
+        if !teller.takes_one_of(unless) {
+            for word in words.split(' ') {
+                if teller.takes(word) {
+                    choice.add(&mut teller.text, "\"", word);
+                }
             }
         }
     }

@@ -6,9 +6,9 @@ use cp_check::names_at_fault;
 use cp_scope::{Meaning, ScopeTable, ValueType};
 use cp_text::{Mark, Name, Tokens};
 use cp_tree::{
-    Body, Constant, ConstantDefinition, Definition, FieldGroup, Group, Identifier, Part, PartKind,
-    Program, ProgramPartKind, Routine, RoutineKind, Simple, SimpleKind, System, SystemDefinition,
-    Tree, Type, TypeKind, VariableGroup,
+    Body, Constant, ConstantDefinition, Definition, Group, Identifier, Part, PartKind, Program,
+    ProgramPartKind, Routine, RoutineKind, Simple, SimpleKind, System, SystemDefinition, Tree,
+    Type, TypeKind, VariableGroup,
 };
 use std::alloc::{AllocError, Global};
 
@@ -40,6 +40,20 @@ impl<'a> Declared<'a> {
         }
     }
 
+    pub fn as_system(self) -> Option<&'a System> {
+        match self {
+            Declared::System(system) => Some(system),
+            _ => None,
+        }
+    }
+
+    pub fn as_routine(self) -> Option<&'a Routine> {
+        match self {
+            Declared::Routine(routine) => Some(routine),
+            _ => None,
+        }
+    }
+
     /// Whether a system type sees it where it is the program's.
     pub fn is_open(self) -> bool {
         !matches!(self, Declared::Variable(_) | Declared::Routine(_))
@@ -65,6 +79,11 @@ pub struct Declaration<'a> {
 impl<'a> Declaration<'a> {
     pub fn is_routine(&self) -> bool {
         matches!(self.what, Declared::Routine(_))
+    }
+
+    /// Whether it is a system type in which a token stands.
+    fn has_inside(&self, at: usize) -> bool {
+        matches!(self.what, Declared::System(_)) && self.at <= at && at < self.seen.from
     }
 
     /// Whether the checker knows it by this token: a routine, or a type.
@@ -94,13 +113,6 @@ impl<'a> Declaration<'a> {
     pub fn is_permanent(&self) -> bool {
         matches!(self.what, Declared::Variable(_)) && self.routine.is_empty()
     }
-
-    /// Whether it is a variable or a parameter of a system type or of the program, and not of a routine there.
-    fn is_component_of(&self, owner: &str) -> bool {
-        (self.is_permanent() || matches!(self.what, Declared::Parameter(_)))
-            && self.owner == owner
-            && self.routine.is_empty()
-    }
 }
 
 /// A block in which names are declared, and the number of the token that ends it.
@@ -127,6 +139,8 @@ pub struct Declarations<'a> {
     pub bodies: Vec<OwnedBody<'a>>,
     /// The names that the checker knew where it ended.
     pub scopes: ScopeTable,
+    /// Whether memory was refused for one of them.
+    is_refused: bool,
 }
 
 impl<'a> Declarations<'a> {
@@ -143,12 +157,16 @@ impl<'a> Declarations<'a> {
             all: Vec::new(alloc),
             bodies: Vec::new(alloc),
             scopes,
+            is_refused: false,
         };
-        declarations.add_program(&tree.program)?;
+        declarations.add_program(&tree.program);
+        if declarations.is_refused {
+            return Err(AllocError);
+        }
         Ok(declarations)
     }
 
-    fn add_program(&mut self, program: &'a Program) -> Result<(), AllocError> {
+    fn add_program(&mut self, program: &'a Program) {
         let block = Block {
             owner: "",
             routine: "",
@@ -157,159 +175,113 @@ impl<'a> Declarations<'a> {
         };
         for part in &program.parts {
             match &part.kind {
-                ProgramPartKind::Constants(all) => self.add_constants(all, block)?,
-                ProgramPartKind::Types(all) => self.add_definitions(all, block)?,
-                ProgramPartKind::Variables(groups) => self.add_variables(groups, block)?,
+                ProgramPartKind::Constants(all) => self.add_constants(all, block),
+                ProgramPartKind::Types(all) => self.add_definitions(all, block),
+                ProgramPartKind::Variables(groups) => self.add_variables(groups, block),
             }
         }
-        self.add_routines(&program.routines, block)?;
-        self.add_body(&program.body, block)
+        self.add_routines(&program.routines, &program.body, block);
     }
 
-    fn add_body(&mut self, body: &'a Body, block: Block<'a>) -> Result<(), AllocError> {
-        self.bodies.push(OwnedBody {
-            body,
-            is_of_routine: block.is_routine,
-        })?;
-        Ok(())
-    }
-
-    fn add_definitions(
-        &mut self,
-        all: &'a [SystemDefinition],
-        block: Block<'a>,
-    ) -> Result<(), AllocError> {
+    fn add_definitions(&mut self, all: &'a [SystemDefinition], block: Block<'a>) {
         for one in all {
             match &one.value {
-                Definition::Type(written) => self.add_type(&one.name, written, block)?,
-                Definition::System(system) => self.add_system(&one.name, system, block)?,
+                Definition::Type(written) => self.add_type(&one.name, written, block),
+                Definition::System(system) => self.add_system(&one.name, system, block),
             }
         }
-        Ok(())
     }
 
-    fn add_type(
-        &mut self,
-        name: &'a Identifier,
-        written: &'a Type,
-        block: Block<'a>,
-    ) -> Result<(), AllocError> {
-        self.add_members(written, block)?;
+    fn add_type(&mut self, name: &'a Identifier, written: &'a Type, block: Block<'a>) {
+        self.add_members(written, block);
         let from = definition_end(self.tokens, name.at);
-        self.add(name, Declared::Type(written), from, block)
+        self.add(name, Declared::Type(written), from, block);
     }
 
-    fn add_system(
-        &mut self,
-        name: &'a Identifier,
-        system: &'a System,
-        block: Block<'a>,
-    ) -> Result<(), AllocError> {
+    fn add_system(&mut self, name: &'a Identifier, system: &'a System, block: Block<'a>) {
         let end = body_end(self.tokens, &system.body);
         let inner = Block {
             owner: name.name.as_str(),
             end,
             ..block
         };
-        self.add(name, Declared::System(system), end, block)?;
-        self.add_groups(&system.parameters, inner)?;
-        self.add_parts(&system.parts, inner)?;
-        self.add_routines(&system.routines, inner)?;
-        self.add_body(&system.body, inner)
+        self.add(name, Declared::System(system), end, block);
+        for group in &system.parameters {
+            self.add_group(group, false, inner);
+        }
+        self.add_parts(&system.parts, inner);
+        self.add_routines(&system.routines, &system.body, inner);
     }
 
-    fn add_routines(
-        &mut self,
-        routines: &'a [Routine],
-        block: Block<'a>,
-    ) -> Result<(), AllocError> {
+    /// Adds the routines of a block, and its body.
+    fn add_routines(&mut self, routines: &'a [Routine], body: &'a Body, block: Block<'a>) {
         for routine in routines {
-            self.add_routine(routine, block)?;
+            let inner = Block {
+                routine: routine.name.name.as_str(),
+                end: body_end(self.tokens, &routine.body),
+                is_routine: true,
+                ..block
+            };
+            if !matches!(routine.kind, RoutineKind::Invariants) {
+                let from = after_heading(routine);
+                self.add(&routine.name, Declared::Routine(routine), from, block);
+                self.add_heading(routine, inner);
+                self.add_parts(&routine.parts, inner);
+            }
+            self.add_body(&routine.body, inner);
         }
-        Ok(())
+        self.add_body(body, block);
     }
 
-    fn add_routine(&mut self, routine: &'a Routine, block: Block<'a>) -> Result<(), AllocError> {
-        let inner = Block {
-            routine: routine.name.name.as_str(),
-            end: body_end(self.tokens, &routine.body),
-            is_routine: true,
-            ..block
-        };
-        if matches!(routine.kind, RoutineKind::Invariants) {
-            return self.add_body(&routine.body, inner);
-        }
-        let from = after_heading(routine);
-        self.add(&routine.name, Declared::Routine(routine), from, block)?;
+    fn add_heading(&mut self, routine: &'a Routine, block: Block<'a>) {
         match &routine.kind {
             RoutineKind::Procedure(groups) => {
                 for one in groups {
-                    self.add_group(&one.group, one.is_var, inner)?;
+                    self.add_group(&one.group, one.is_var, block);
                 }
             }
-            RoutineKind::Function(groups, _) => self.add_groups(groups, inner)?,
+            RoutineKind::Function(groups, _) => {
+                for group in groups {
+                    self.add_group(group, false, block);
+                }
+            }
             RoutineKind::Invariants => {}
         }
-        self.add_parts(&routine.parts, inner)?;
-        self.add_body(&routine.body, inner)
     }
 
-    fn add_parts(&mut self, parts: &'a [Part], block: Block<'a>) -> Result<(), AllocError> {
+    fn add_parts(&mut self, parts: &'a [Part], block: Block<'a>) {
         for part in parts {
             match &part.kind {
-                PartKind::Constants(all) => self.add_constants(all, block)?,
+                PartKind::Constants(all) => self.add_constants(all, block),
                 PartKind::Types(all) => {
                     for one in all {
-                        self.add_type(&one.name, &one.value, block)?;
+                        self.add_type(&one.name, &one.value, block);
                     }
                 }
-                PartKind::Variables(groups) => self.add_variables(groups, block)?,
+                PartKind::Variables(groups) => self.add_variables(groups, block),
             }
         }
-        Ok(())
     }
 
-    fn add_constants(
-        &mut self,
-        all: &'a [ConstantDefinition],
-        block: Block<'a>,
-    ) -> Result<(), AllocError> {
+    fn add_constants(&mut self, all: &'a [ConstantDefinition], block: Block<'a>) {
         for one in all {
             let from = definition_end(self.tokens, one.name.at);
-            self.add(&one.name, Declared::Constant(&one.value), from, block)?;
+            self.add(&one.name, Declared::Constant(&one.value), from, block);
         }
-        Ok(())
     }
 
-    fn add_variables(
-        &mut self,
-        groups: &'a [VariableGroup],
-        block: Block<'a>,
-    ) -> Result<(), AllocError> {
+    fn add_variables(&mut self, groups: &'a [VariableGroup], block: Block<'a>) {
         for group in groups {
             let written = &group.variable_type;
-            self.add_members(written, block)?;
+            self.add_members(written, block);
             let from = definition_end(self.tokens, written.at);
             for name in &group.names {
-                self.add(name, Declared::Variable(written), from, block)?;
+                self.add(name, Declared::Variable(written), from, block);
             }
         }
-        Ok(())
     }
 
-    fn add_groups(&mut self, groups: &'a [Group], block: Block<'a>) -> Result<(), AllocError> {
-        for group in groups {
-            self.add_group(group, false, block)?;
-        }
-        Ok(())
-    }
-
-    fn add_group(
-        &mut self,
-        group: &'a Group,
-        is_var: bool,
-        block: Block<'a>,
-    ) -> Result<(), AllocError> {
+    fn add_group(&mut self, group: &'a Group, is_var: bool, block: Block<'a>) {
         let written = &group.type_name;
         let what = if is_var {
             Declared::VarParameter(written)
@@ -317,55 +289,37 @@ impl<'a> Declarations<'a> {
             Declared::Parameter(written)
         };
         for name in &group.names {
-            self.add(name, what, written.at.saturating_add(1), block)?;
+            self.add(name, what, written.at.saturating_add(1), block);
         }
-        Ok(())
     }
 
     /// Adds the constants of the enumerations that are written in a type.
-    #[cycle(types)]
-    fn add_members(&mut self, written: &'a Type, block: Block<'a>) -> Result<(), AllocError> {
+    fn add_members(&mut self, written: &'a Type, block: Block<'a>) {
         match &written.kind {
-            TypeKind::Simple(simple) => self.add_enumeration(simple, block),
+            TypeKind::Simple(simple) | TypeKind::Set(simple) => self.add_enumeration(simple, block),
             TypeKind::Array(index, element) => {
-                self.add_enumeration(index, block)?;
-                self.add_members(element, block)
+                self.add_enumeration(index, block);
+                self.add_members(element, block);
             }
-            TypeKind::Set(base) => self.add_enumeration(base, block),
-            TypeKind::Record(groups, _) => self.add_members_of_fields(groups, block),
+            TypeKind::Record(groups, _) => {
+                for group in groups {
+                    self.add_members(&group.field_type, block);
+                }
+            }
         }
     }
 
-    #[cycle(types)]
-    fn add_members_of_fields(
-        &mut self,
-        groups: &'a [FieldGroup],
-        block: Block<'a>,
-    ) -> Result<(), AllocError> {
-        for group in groups {
-            self.add_members(&group.field_type, block)?;
-        }
-        Ok(())
-    }
-
-    fn add_enumeration(&mut self, written: &'a Simple, block: Block<'a>) -> Result<(), AllocError> {
+    fn add_enumeration(&mut self, written: &'a Simple, block: Block<'a>) {
         if let SimpleKind::Enumeration(names) = &written.kind {
             for name in names {
                 let from = name.at.saturating_add(1);
-                self.add(name, Declared::Member(written.at), from, block)?;
+                self.add(name, Declared::Member(written.at), from, block);
             }
         }
-        Ok(())
     }
 
-    fn add(
-        &mut self,
-        name: &'a Identifier,
-        what: Declared<'a>,
-        from: usize,
-        block: Block<'a>,
-    ) -> Result<(), AllocError> {
-        self.all.push(Declaration {
+    fn add(&mut self, name: &'a Identifier, what: Declared<'a>, from: usize, block: Block<'a>) {
+        let added = self.all.push(Declaration {
             name: name.name.as_str(),
             spelling: &name.name,
             what,
@@ -373,23 +327,36 @@ impl<'a> Declarations<'a> {
             owner: block.owner,
             routine: block.routine,
             seen: between(from, block.end),
-        })?;
-        Ok(())
+        });
+        self.is_refused = self.is_refused || added.is_err();
+    }
+
+    fn add_body(&mut self, body: &'a Body, block: Block<'a>) {
+        let added = self.bodies.push(OwnedBody {
+            body,
+            is_of_routine: block.is_routine,
+        });
+        self.is_refused = self.is_refused || added.is_err();
     }
 
     /// The innermost declaration of a name that is visible at a place; none where the language itself declares it.
     pub fn find(&self, name: &str, at: usize) -> Option<Declaration<'a>> {
         let owner = self.owner_at(at);
-        for one in self.all.iter().rev() {
-            if one.name == name
-                && one.seen.from <= at
-                && at < one.seen.to
-                && (one.owner == owner || one.what.is_open())
-            {
-                return Some(*one);
-            }
-        }
-        None
+        self.all
+            .iter()
+            .rev()
+            .find(|one| {
+                one.name == name
+                    && one.seen.from <= at
+                    && at < one.seen.to
+                    && (one.owner == owner || one.what.is_open())
+            })
+            .copied()
+    }
+
+    /// The same where the name stands itself.
+    pub fn named(&self, name: &Identifier) -> Option<Declaration<'a>> {
+        self.find(name.name.as_str(), name.at)
     }
 
     /// The name of the system type of which an entry has this name; empty where there is none, or the name is also declared otherwise.
@@ -408,18 +375,14 @@ impl<'a> Declarations<'a> {
 
     /// The system type with a name.
     pub fn system_type(&self, name: &str) -> Option<&'a System> {
-        for one in &self.all {
-            if let Declared::System(system) = one.what
-                && one.name == name
-            {
-                return Some(system);
-            }
-        }
-        None
+        self.all
+            .iter()
+            .filter(|one| one.name == name)
+            .find_map(|one| one.what.as_system())
     }
 
     /// The system type of a variable or of its elements, or of a parameter.
-    fn component_type_of(&self, one: &Declaration<'a>) -> Option<Declaration<'a>> {
+    pub fn component_type(&self, one: &Declaration<'a>) -> Option<Declaration<'a>> {
         let found = match self.type_of_permanent(one)? {
             ValueType::Array(at) => self.scopes.shapes().array(at)?.element,
             other => other,
@@ -432,10 +395,7 @@ impl<'a> Declarations<'a> {
 
     /// The system type of a variable or of its elements, or of a parameter.
     pub fn component_of(&self, one: &Declaration<'a>) -> Option<&'a System> {
-        match self.component_type_of(one)?.what {
-            Declared::System(system) => Some(system),
-            _ => None,
-        }
+        self.component_type(one)?.what.as_system()
     }
 
     /// The type of a variable or a parameter of a system type or of the program.
@@ -453,57 +413,33 @@ impl<'a> Declarations<'a> {
     /// Where the entry with a name of the system type is written that the checker knows by a token.
     pub fn entry(&self, system: usize, name: &str) -> Option<usize> {
         let owner = self.known_at(system)?.name;
-        for one in &self.all {
-            if one.owner == owner && one.name == name && self.scopes.shapes().is_entry(one.at) {
-                return Some(one.at);
-            }
-        }
-        None
+        let entry = self.all.iter().find(|one| {
+            one.owner == owner && one.name == name && self.scopes.shapes().is_entry(one.at)
+        })?;
+        Some(entry.at)
     }
 
     /// The routine or the type that the checker knows by this token.
     pub fn known_at(&self, at: usize) -> Option<Declaration<'a>> {
-        for one in &self.all {
-            if one.is_known_at(at) {
-                return Some(*one);
-            }
-        }
-        None
-    }
-
-    /// The name of the type of a component that a system type has or is given, or that the program has.
-    pub fn component_type(&self, owner: &str, name: &str) -> Option<&'a str> {
-        for one in &self.all {
-            if one.is_component_of(owner) && one.name == name {
-                return Some(self.component_type_of(one)?.name);
-            }
-        }
-        None
+        self.all.iter().find(|one| one.is_known_at(at)).copied()
     }
 
     /// The parameter before which so many stand, of the routine or the system type that the checker knows by a token.
     pub fn parameter(&self, heading: usize, number: usize) -> Option<Declaration<'a>> {
         let called = self.known_at(heading)?;
-        let mut left = number;
-        for one in &self.all {
-            if one.is_parameter_of(called) {
-                if left == 0 {
-                    return Some(*one);
-                }
-                left = left.saturating_sub(1);
-            }
-        }
-        None
+        self.all
+            .iter()
+            .filter(|one| one.is_parameter_of(called))
+            .nth(number)
+            .copied()
     }
 
     /// The name of the system type that a token is in; empty in the program.
     pub fn owner_at(&self, at: usize) -> &'a str {
-        for one in &self.all {
-            if matches!(one.what, Declared::System(_)) && one.at <= at && at < one.seen.from {
-                return one.name;
-            }
+        match self.all.iter().find(|one| one.has_inside(at)) {
+            Some(one) => one.name,
+            None => "",
         }
-        ""
     }
 
     /// Whether the name at a token is that of the language's own routine.

@@ -33,7 +33,7 @@ impl<'a> Declaration<'a> {
     }
 
     /// Where it is, seen from a place at which it is not visible.
-    fn seen_from(&self, at: usize, owner: &str, routine: &str) -> Elsewhere {
+    fn elsewhere_from(&self, at: usize, owner: &str, routine: &str) -> Elsewhere {
         let is_of_program = self.owner.is_empty() && self.routine.is_empty();
         if self.at > at && self.is_around(owner, routine) {
             Elsewhere::Below(self.at)
@@ -53,21 +53,15 @@ impl<'a> Declaration<'a> {
 
 impl<'a> Declarations<'a> {
     /// The routine in which a token is.
-    pub fn routine_at(&self, at: usize) -> Option<&'a Routine> {
-        for one in &self.all {
-            if let Declared::Routine(routine) = one.what
-                && one.at <= at
-                && at <= body_end(self.tokens, &routine.body)
-            {
-                return Some(routine);
-            }
-        }
-        None
+    pub fn routine_around(&self, at: usize) -> Option<&'a Routine> {
+        self.all.iter().filter_map(|one| one.what.as_routine()).find(|routine| {
+            routine.name.at <= at && at <= body_end(self.tokens, &routine.body)
+        })
     }
 
     /// Whether the token is the name of the function in which it is.
     pub fn is_function_itself(&self, at: usize) -> bool {
-        match self.routine_at(at) {
+        match self.routine_around(at) {
             Some(routine) => matches!(routine.kind, RoutineKind::Function(..))
                 && routine.name.name.as_str() == name_at(self.tokens, at),
             None => false,
@@ -77,38 +71,33 @@ impl<'a> Declarations<'a> {
     /// Where a name is declared that is not visible at a token: in a block around that, or else in another one.
     pub fn elsewhere(&self, name: &str, at: usize) -> Option<Elsewhere> {
         let owner = self.owner_at(at);
-        let routine = match self.routine_at(at) {
+        let routine = match self.routine_around(at) {
             Some(routine) => routine.name.name.as_str(),
             None => "",
         };
         let mut found = None;
         for one in &self.all {
             if one.name == name && (found.is_none() || one.is_around(owner, routine)) {
-                found = Some(one.seen_from(at, owner, routine));
+                found = Some(one.elsewhere_from(at, owner, routine));
             }
         }
         found
     }
 
     /// The declaration of the name at a token, unless that is a field.
-    pub fn declared_at(&self, at: usize) -> Option<Declaration<'a>> {
-        for one in &self.all {
-            if one.at == at {
-                return Some(*one);
-            }
-        }
-        None
+    pub fn declaration_at(&self, at: usize) -> Option<Declaration<'a>> {
+        self.all.iter().find(|one| one.at == at).copied()
     }
 
     /// The token of the first declaration in the block of this one, and with its name.
-    pub fn first_as(&self, other: Declaration) -> Option<usize> {
-        for one in &self.all {
-            let is_in_block = one.owner == other.owner && one.routine == other.routine;
-            if is_in_block && one.name == other.name && one.at < other.at {
-                return Some(one.at);
-            }
-        }
-        None
+    pub fn first_of_name(&self, other: Declaration) -> Option<usize> {
+        let first = self.all.iter().find(|one| {
+            one.name == other.name
+                && one.at < other.at
+                && one.owner == other.owner
+                && one.routine == other.routine
+        })?;
+        Some(first.at)
     }
 
     /// What the name at a token stands for where the check ends.

@@ -10,7 +10,6 @@ ghost use Rattle.cp_refusal.specs.Lines.{last_line};
 
 use crate::advice::advice;
 use crate::candidates::put_wanted;
-use crate::extent::single;
 use crate::foreign::sign_sentence;
 use crate::further_up::{Missing, what_is_missing};
 use crate::hints::hints;
@@ -18,7 +17,7 @@ use crate::page::{line_number, line_start};
 use crate::place::{end, fault_len, is_coded, text_in};
 use crate::report::{ExplainedRefusal, Explanation};
 use crate::rules::{Broken, code, sentence};
-use crate::teller::Teller;
+use crate::teller::{Piece, Teller};
 use cp_check::CheckFault;
 use cp_front::{Loaded, Refusal as LoadRefusal};
 use cp_text::{ByteRange, Mark, ScanCause, ScanFault, Tokens};
@@ -212,12 +211,16 @@ fn put_unexpected(teller: &mut Teller, missing: &Missing) {
     }
     teller.put("expected ");
     put_wanted(teller);
-    if teller.at < teller.tokens.count() {
-        teller.put(", found ");
-        put_found(teller);
-    } else {
-        teller.put(", found the end of the source");
-    }
+    teller.say(
+        match teller.mark() {
+            Some(Mark::Assert) => ", found an assertion",
+            Some(Mark::Invariant) => ", found an invariant",
+            Some(Mark::Closes) => ", found the end of the annotation",
+            _ if teller.at >= teller.tokens.count() => ", found the end of the source",
+            _ => ", found \"#\"",
+        },
+        &[],
+    );
     put_missing(teller, missing);
 }
 
@@ -226,77 +229,41 @@ fn put_missing(teller: &mut Teller, missing: &Missing) {
     match missing {
         Missing::Nothing => {
             let said = advice(teller);
-            teller.put_about(said);
+            teller.say(said, &[]);
         }
         Missing::Semicolon(before) => {
-            let sign = if teller.takes(",") {
-                ": a comma or a semicolon"
+            let sentence = if teller.takes(",") {
+                ": a comma or a semicolon may be missing at the end of line @"
             } else {
-                ": a semicolon"
+                ": a semicolon may be missing at the end of line @"
             };
-            teller.put(sign);
-            teller.put(" may be missing at the end of line ");
-            put_line(teller, *before);
+            teller.say(sentence, &[Piece::Line(*before)]);
         }
         Missing::End(open) => put_open(teller, *open),
         Missing::EndByLayout(open) => {
             put_open(teller, *open);
             teller.put(", as the lines are indented");
         }
-        Missing::Beginning(closed) => {
-            teller.put(": the end before it closes the ");
-            put_with_line(teller, *closed);
-            teller.put(", so that an end is too many or a begin is missing");
-        }
-        Missing::Word(at, word) => {
-            teller.put(": ");
-            put_with_line(teller, *at);
-            teller.put(" may be meant for ");
-            teller.put(word);
-        }
-        Missing::WordHere(word) => {
-            teller.put_about(": # may be meant for ");
-            teller.put(word);
-        }
+        Missing::Beginning(closed) => teller.say(
+            ": the end before it closes the @, so that an end is too many or a begin is missing",
+            &[Piece::Placed(*closed)],
+        ),
+        Missing::Word(at, word) => teller.say(
+            ": @ may be meant for @",
+            &[Piece::Placed(*at), Piece::Words(word)],
+        ),
+        Missing::WordHere(word) => teller.say(": # may be meant for @", &[Piece::Words(word)]),
     }
 }
 
 // That nothing closes the word or the bracket at a token.
 fn put_open(teller: &mut Teller, open: usize) {
-    teller.put(": the ");
-    put_with_line(teller, open);
-    teller.put(match teller.mark_at(open) {
-        Some(Mark::OpenParenthesis) => " has no )",
-        Some(Mark::OpenBracket) => " has no ]",
-        _ => " has no end",
-    });
-}
-
-// A token and its line.
-fn put_with_line(teller: &mut Teller, at: usize) {
-    teller.put_tokens(single(at));
-    teller.put(" of line ");
-    put_line(teller, at);
-}
-
-// The token that is refused.
-fn put_found(teller: &mut Teller) {
-    match teller.mark() {
-        Some(Mark::Assert) => teller.put("an assertion"),
-        Some(Mark::Invariant) => teller.put("an invariant"),
-        Some(Mark::Closes) => teller.put("the end of the annotation"),
-        _ => {
-            teller.put("\"");
-            teller.put_tokens(single(teller.at));
-            teller.put("\"");
-        }
-    }
-}
-
-/// The number of the line of a token.
-pub fn put_line(teller: &mut Teller, at: usize) {
-    let line = teller.tokens.line(at.min(teller.tokens.count()));
-    teller.text.put_display(line);
+    let sentence = match teller.mark_at(open) {
+        Some(Mark::OpenParenthesis) => ": the @ has no )",
+        Some(Mark::OpenBracket) => ": the @ has no ]",
+        _ => ": the @ has no end",
+    };
+    teller.say(sentence, &[Piece::Placed(open)]);
 }
 
 // The place further up that the excerpt shows too.
@@ -340,11 +307,12 @@ fn left_out(
     at: usize,
 ) -> Result<String, AllocError> {
     let mut teller = Teller::new(alloc, source, tokens, at);
-    teller.put_about(match teller.mark() {
+    let sentence = match teller.mark() {
         Some(Mark::Program) if at == 0 =>
             "a program has no heading: it begins with const, type, var, a routine or begin",
         _ => "# is a reserved word for what is left out of this language",
-    });
+    };
+    teller.say(sentence, &[]);
     teller.text.finish()
 }
 

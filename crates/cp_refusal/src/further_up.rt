@@ -82,17 +82,10 @@ fn open_block(teller: &mut Teller) -> Option<usize> {
 
 /// Whether the token is a period between two numbers.
 pub fn is_real(teller: &Teller) -> bool {
-    let (before, after) = (teller.at.checked_sub(1), teller.at.saturating_add(1));
+    let (before, after) = (teller.at.saturating_sub(1), teller.at.saturating_add(1));
     teller.mark() == Some(Mark::Period)
-        && is_number(teller.tokens, before)
-        && is_number(teller.tokens, Some(after))
-}
-
-fn is_number(tokens: &Tokens, at: Option<usize>) -> bool {
-    match at {
-        Some(at) => matches!(tokens.get(at), Some(Kind::Number(_))),
-        None => false,
-    }
+        && matches!(teller.tokens.get(before), Some(Kind::Number(_)))
+        && matches!(teller.tokens.get(after), Some(Kind::Number(_)))
 }
 
 /// What an `end` or `until` closes.
@@ -125,9 +118,12 @@ const STATEMENTS: [Mark; 10] = [
     Mark::Invariant,
 ];
 
-/// Whether a word stands at a token that begins a statement or an invariant.
-pub fn is_statement(tokens: &Tokens, at: usize) -> bool {
-    is_mark_of(tokens, at, &STATEMENTS)
+/// Whether a statement or an invariant begins with it.
+pub fn is_statement(mark: Option<Mark>) -> bool {
+    match mark {
+        Some(mark) => STATEMENTS.contains(&mark),
+        None => false,
+    }
 }
 
 /// What a declaration or a routine begins with, apart from a name.
@@ -178,7 +174,7 @@ fn line_without_semicolon(teller: &mut Teller) -> Option<usize> {
     );
     let is_beginning = !teller.name().is_empty()
         || is_declaration(tokens, at)
-        || is_statement(tokens, at);
+        || is_statement(teller.mark());
     let is_torn = is_ending && is_beginning && !are_on_one_line(tokens, before);
     // Words of other languages end no line.
     if is_torn
@@ -298,7 +294,7 @@ fn closed_too_often(teller: &mut Teller) -> Option<usize> {
     let before = teller.at.checked_sub(1)?;
     if teller.mark_at(before) != Some(Mark::End)
         || teller.at >= teller.tokens.count()
-        || is_last_semicolon(teller)
+        || teller.mark() == Some(Mark::Semicolon) && is_last(teller.tokens, teller.at)
         || teller.takes("end")
     {
         return None;
@@ -312,7 +308,7 @@ fn closed_too_often(teller: &mut Teller) -> Option<usize> {
     open_before(teller.tokens, before, &OPENING, &CLOSING)
 }
 
-/// Whether the token is a semicolon, and the last one of the source.
-pub fn is_last_semicolon(teller: &Teller) -> bool {
-    teller.mark() == Some(Mark::Semicolon) && teller.at.saturating_add(1) >= teller.tokens.count()
+/// Whether a token is the last one of the source, or none.
+pub fn is_last(tokens: &Tokens, at: usize) -> bool {
+    at.saturating_add(1) >= tokens.count()
 }

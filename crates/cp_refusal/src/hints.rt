@@ -21,74 +21,106 @@ use crate::page::push_tokens;
 use crate::report::{Hint, Hints};
 use cp_front::Loaded;
 use cp_prose::Prose;
-use cp_text::{ByteRange, Tokens};
-use cp_tree::Program;
+use cp_text::ByteRange;
+use cp_tree::{Body, Program};
 use std::alloc::{AllocError, Global};
 use std::fmt::Display;
 
 /// The most hints that are told.
 const MOST_HINTS: usize = 100;
 
-/// A program whose hints are gathered.
+/// A program whose hints are gathered. Memory that is refused for one of them is refused for all.
 #[derive(Drop)]
 pub struct Gathering<'a, 'b> {
     pub alloc: Global,
     pub source: &'a [u8],
-    pub tokens: &'a Tokens,
     pub program: &'a Program,
     pub declarations: &'b Declarations<'a>,
+    /// What is written in the bodies of the program.
+    pub bodies: &'b [Written<'a>],
     /// Whether `continue` ends the call of its entry procedure.
     pub continue_returns: bool,
     hints: Hints,
+    is_refused: bool,
 }
 
 impl<'a, 'b> Gathering<'a, 'b> {
     /// Adds a hint at a token, or counts it where there are many.
-    pub fn add<D: Display + Drop>(&mut self, at: usize, words: D) -> Result<(), AllocError> {
-        if self.is_counted() {
-            return Ok(());
-        }
-        match self.tokens.range(at) {
-            Some(span) => self.add_in(span, words),
-            None => Ok(()),
+    pub fn add<D: Display + Drop>(&mut self, at: usize, words: D) {
+        if let Some(span) = self.declarations.tokens.range(at) {
+            self.add_in(span, words);
         }
     }
 
     /// Adds a hint at some bytes, or counts it.
-    pub fn add_in<D: Display + Drop>(
-        &mut self,
-        span: ByteRange,
-        words: D,
-    ) -> Result<(), AllocError> {
-        if self.is_counted() {
-            return Ok(());
+    pub fn add_in<D: Display + Drop>(&mut self, span: ByteRange, words: D) {
+        if self.hints.all.len() >= MOST_HINTS {
+            self.hints.more = self.hints.more.saturating_add(1);
+            return;
         }
         let mut text = Prose::new(self.alloc);
         text.put_display(words);
-        let sentence = text.finish()?;
-        self.hints.all.push(Hint { sentence, span })?;
-        Ok(())
-    }
-
-    /// Whether there are so many hints that one more is counted, and not told.
-    fn is_counted(&mut self) -> bool {
-        let is_counted = self.hints.all.len() >= MOST_HINTS;
-        if is_counted {
-            self.hints.more = self.hints.more.saturating_add(1);
-        }
-        is_counted
+        let is_added = match text.finish() {
+            Ok(sentence) => self.hints.all.push(Hint { sentence, span }).is_ok(),
+            Err(_) => false,
+        };
+        self.is_refused = self.is_refused || !is_added;
     }
 
     /// The line of a token.
     pub fn line_of(&self, at: usize) -> u32 {
-        self.tokens.line(at.min(self.tokens.count()))
+        self.declarations
+            .tokens
+            .line(at.min(self.declarations.tokens.count()))
     }
 
     /// Some tokens as they are written.
-    pub fn text_of(&self, extent: Extent) -> Result<String, AllocError> {
+    pub fn text_of(&mut self, extent: Extent) -> String {
         let mut text = Prose::new(self.alloc);
-        push_tokens(&mut text, self.source, self.tokens, extent);
-        text.finish()
+        push_tokens(&mut text, self.source, self.declarations.tokens, extent);
+        match text.finish() {
+            Ok(text) => text,
+            Err(_) => {
+                self.is_refused = true;
+                String::new(self.alloc)
+            }
+        }
+    }
+
+    /// What is written in a body.
+    pub fn written_in(&self, body: &Body) -> Option<&'b Written<'a>> {
+        self.bodies.iter().find(|one| one.owned.body.at == body.at)
+    }
+
+    /// Adds all hints, kind by kind.
+    fn add_all(&mut self) -> Result<(), AllocError> {
+        for written in self.bodies {
+            if self.continue_returns {
+                self.add_never_run(written, true);
+            } else {
+                self.add_once_tested(written);
+            }
+        }
+        self.add_inner_waits()?;
+        for written in self.bodies {
+            self.add_plain_delays(written);
+        }
+        self.add_starts();
+        self.add_nearly_annotations()?;
+        self.add_unnamed_queues()?;
+        for written in self.bodies {
+            self.add_empty_bodies(written);
+        }
+        self.add_unset_results();
+        self.add_hidden()?;
+        self.add_early_starts()?;
+        for written in self.bodies {
+            self.add_outside_indices(written);
+        }
+        for written in self.bodies {
+            self.add_never_run(written, false);
+        }
+        Ok(())
     }
 }
 
@@ -99,37 +131,27 @@ pub fn hints(
     loaded: &Loaded,
     continue_returns: bool,
 ) -> Result<Hints, AllocError> {
-    let tokens = &loaded.tokens;
-    let declarations = Declarations::of(alloc, tokens, loaded.checked.tree())?;
-    let program = &loaded.checked.tree().program;
-    let written = Written::in_bodies(alloc, &declarations.bodies)?;
+    let declarations = Declarations::of(alloc, &loaded.tokens, loaded.checked.tree())?;
+    let mut bodies = Vec::new(alloc);
+    for one in &declarations.bodies {
+        bodies.push(Written::in_body(alloc, *one)?)?;
+    }
     let mut gathering = Gathering {
         alloc,
         source,
-        tokens,
-        program,
+        program: &loaded.checked.tree().program,
         declarations: &declarations,
+        bodies: &bodies,
         continue_returns,
         hints: Hints {
             all: Vec::new(alloc),
             more: 0,
         },
+        is_refused: false,
     };
-    if continue_returns {
-        gathering.add_skipped(&written)?;
-    } else {
-        gathering.add_once_tested(&written)?;
+    gathering.add_all()?;
+    if gathering.is_refused {
+        return Err(AllocError);
     }
-    gathering.add_inner_waits()?;
-    gathering.add_plain_delays()?;
-    gathering.add_starts()?;
-    gathering.add_nearly_annotations()?;
-    gathering.add_unnamed_queues(&written)?;
-    gathering.add_empty_bodies(&written)?;
-    gathering.add_unset_results()?;
-    gathering.add_hidden()?;
-    gathering.add_early_starts()?;
-    gathering.add_outside_indices(&written)?;
-    gathering.add_behind_cycles(&written)?;
     Ok(gathering.hints)
 }

@@ -81,12 +81,7 @@ impl<'a> Layout<'a> {
 
     /// Whether a word around what is open begins in a line that is indented so far.
     fn is_around(&self, indentation: usize) -> bool {
-        for one in &self.open {
-            if one.indentation == indentation {
-                return true;
-            }
-        }
-        false
+        self.open.iter().any(|one| one.indentation == indentation)
     }
 
     /// Looks at the first token of a line.

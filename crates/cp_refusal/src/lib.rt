@@ -18,7 +18,6 @@ mod place;
 mod report;
 mod rules;
 mod saying;
-mod separators;
 mod spelling;
 mod teller;
 

@@ -5,12 +5,11 @@ ghost use Rattle.cp_refusal.specs.Explaining.{rule_code};
 
 use crate::declared::Declarations;
 use crate::elsewhere::Elsewhere;
-use crate::explain::put_line;
-use crate::extent::{Extent, between, is_field, open_parenthesis, record_around, single};
+use crate::extent::{between, is_field, open_parenthesis, record_around, single};
 use crate::foreign::{instead_of, is_start};
 use crate::saying::Saying;
 use crate::spelling::{Known, similar_declaration, similar_standard_name};
-use crate::teller::Teller;
+use crate::teller::{Piece, Teller};
 use cp_scope::{Rule, ValueType};
 use cp_text::{Kind, Mark, Tokens};
 use cp_tree::{RoutineKind, Tree};
@@ -34,10 +33,7 @@ pub fn name_at<'a>(tokens: &'a Tokens, at: usize) -> &'a str {
 
 /// The reserved word or sign before this number, where there is one.
 pub fn mark_before(tokens: &Tokens, at: usize) -> Option<Mark> {
-    match at.checked_sub(1) {
-        Some(before) => mark_at(tokens, before),
-        None => None,
-    }
+    mark_at(tokens, at.checked_sub(1)?)
 }
 
 /// Whether one of these reserved words and signs stands at this number.
@@ -84,7 +80,7 @@ fn wrong_wait(declarations: &Declarations, at: usize) -> &'static str {
     } else if !declarations.is_standard(at, "continue") {
         " leads to a delay, and an initial statement may not wait: nobody could come in to wake it"
     } else {
-        match declarations.routine_at(at) {
+        match declarations.routine_around(at) {
             Some(one) if !matches!(one.kind, RoutineKind::Procedure(_)) =>
                 " stands only in the body of an entry procedure of a monitor, and not in a function",
             Some(one) if !one.is_entry =>
@@ -201,82 +197,68 @@ pub fn sentence<'a>(
         put_complaint(&mut saying, broken);
     }
     let mut teller = saying.teller;
-    teller
-        .text
-        .put_display(format_args!(" (rule {})", code(broken.rule)));
+    teller.say(" (rule @)", &[Piece::Words(code(broken.rule))]);
     teller.text.finish()
 }
 
-/// Says the rule of the tokens that break it.
+/// Says the rule of the tokens that break it: of a label of a `case` with its sign, else of one.
 fn put_complaint(saying: &mut Saying, broken: Broken) {
+    let extent = match broken.rule {
+        Rule::C19 => between(broken.at, behind_constant(saying.teller.tokens, broken.at)),
+        _ => single(broken.at),
+    };
     let words = complaint(&saying.declarations, broken.at, broken.rule);
-    let extent = complained_of(saying.teller.tokens, broken);
     saying.teller.put_tokens(extent);
     saying.teller.put(words);
-}
-
-/// The tokens of which something is said: a label of a `case` with its sign, else one.
-fn complained_of(tokens: &Tokens, broken: Broken) -> Extent {
-    match broken.rule {
-        Rule::C19 => between(broken.at, behind_constant(tokens, broken.at)),
-        _ => single(broken.at),
-    }
 }
 
 /// Says what is there and what is wanted, where that can be told.
 fn put_particular(saying: &mut Saying, rule: Rule) -> bool {
     match rule {
-        Rule::C1 if !is_behind_period(&saying.teller) => put_undeclared(
-            &mut saying.teller,
-            &saying.declarations,
-        ),
-        Rule::C8 if is_start(saying.teller.name()) => {
-            saying.teller.put_about(
-                "# is no routine of this component: processes are started by init",
-            );
-            true
+        Rule::C1 if !is_behind_period(&saying.teller) => {
+            put_undeclared(&mut saying.teller, &saying.declarations);
         }
+        Rule::C8 if is_start(saying.teller.name()) => saying.teller.say(
+            "# is no routine of this component: processes are started by init",
+            &[],
+        ),
         Rule::C2 => put_twice(&mut saying.teller, &saying.declarations),
-        Rule::C9 | Rule::C10 | Rule::C22 => put_own_name(&mut saying.teller, &saying.declarations),
+        Rule::C9 | Rule::C10 | Rule::C22 => match own_name(&saying.teller, &saying.declarations) {
+            Some(sentence) => saying.teller.say(sentence, &[]),
+            None => return false,
+        },
         Rule::C1 | Rule::C5 | Rule::C6 | Rule::C7 | Rule::C8 | Rule::C17 | Rule::C21 => {
             match saying.declarations.scopes.detail() {
-                Some(detail) => {
-                    saying.put_detail(detail);
-                    true
-                }
-                None => false,
+                Some(detail) => saying.put_detail(detail),
+                None => return false,
             }
         }
-        _ => false,
+        _ => return false,
     }
+    true
 }
 
 /// Says in which line a name was declared that is declared again.
-fn put_twice(teller: &mut Teller, declarations: &Declarations) -> bool {
-    let (words, first) = match declarations.declared_at(teller.at) {
+fn put_twice(teller: &mut Teller, declarations: &Declarations) {
+    let (sentence, first) = match declarations.declaration_at(teller.at) {
         Some(one) => (
             "# is declared twice in one block",
-            declarations.first_as(one),
+            declarations.first_of_name(one),
         ),
         None => ("# is declared twice in one record", first_field(teller)),
     };
-    teller.put_about(words);
+    teller.say(sentence, &[]);
     if let Some(first) = first {
-        teller.put(", first in line ");
-        put_line(teller, first);
+        teller.say(", first in line @", &[Piece::Line(first)]);
     }
-    true
 }
 
 /// The first field with the name of the one that is declared at the token, in the same record.
 fn first_field(teller: &Teller) -> Option<usize> {
     let record = record_around(teller.tokens, teller.at)?;
-    for place in record..teller.at {
-        if teller.name_at(place) == teller.name() && is_field(teller.tokens, record, place) {
-            return Some(place);
-        }
-    }
-    None
+    (record..teller.at).find(|place| {
+        teller.name_at(*place) == teller.name() && is_field(teller.tokens, record, *place)
+    })
 }
 
 fn is_behind_period(teller: &Teller) -> bool {
@@ -284,14 +266,15 @@ fn is_behind_period(teller: &Teller) -> bool {
 }
 
 /// Says of a name that is not visible where it is declared, what is meant by it elsewhere, or which name may have been meant.
-fn put_undeclared(teller: &mut Teller, declarations: &Declarations) -> bool {
-    teller.put_about("# is not declared here");
+fn put_undeclared(teller: &mut Teller, declarations: &Declarations) {
+    teller.say("# is not declared here", &[]);
     let owner = declarations.owner_of_entry(teller.name());
     let known = instead_of(teller.name());
     if !owner.is_empty() {
-        teller.put(": it is an entry of ");
-        teller.put(owner);
-        teller.put(", and called with a component and a period before it");
+        teller.say(
+            ": it is an entry of @, and called with a component and a period before it",
+            &[Piece::Words(owner)],
+        );
     } else if let Some(there) = declarations.elsewhere(teller.name(), teller.at) {
         put_elsewhere(teller, there);
     } else if !known.is_empty() {
@@ -299,73 +282,59 @@ fn put_undeclared(teller: &mut Teller, declarations: &Declarations) -> bool {
     } else if let Some(other) = similar_declaration(teller, declarations, Known::Visible) {
         put_declared(teller, other);
     } else if let Some(other) = similar_standard_name(teller.name()) {
-        teller.put(": ");
-        teller.put(other);
-        teller.put(" may be meant");
+        teller.say(": @ may be meant", &[Piece::Words(other)]);
     } else if teller.back(1) == Some(Mark::For) {
-        teller.put_about(
+        teller.say(
             ": for counts in a variable, which is declared before begin, as in var #: integer",
+            &[],
         );
     }
-    true
 }
 
 /// Says where a name is declared that is not visible at the token, and why it is not.
 fn put_elsewhere(teller: &mut Teller, there: Elsewhere) {
-    let (before, at, behind) = match there {
+    let (sentence, at) = match there {
         Elsewhere::Around => (
             ": this stands in that type itself, and there its variables and routines are named without it",
-            None,
-            "",
+            0,
         ),
-        Elsewhere::Unfinished => (
-            ": it is visible only from the end of its declaration on",
-            None,
-            "",
-        ),
-        Elsewhere::Below(at) => (": it is declared only further down, in line ", Some(at), ""),
+        Elsewhere::Unfinished => (": it is visible only from the end of its declaration on", 0),
+        Elsewhere::Below(at) => (": it is declared only further down, in line @", at),
         Elsewhere::Variable(at) => (
-            ": line ",
-            Some(at),
-            " declares it as a variable of the program, and a system type sees none: what it needs is given to it as a parameter",
+            ": line @ declares it as a variable of the program, and a system type sees none: what it needs is given to it as a parameter",
+            at,
         ),
         Elsewhere::Routine(at) => (
-            ": line ",
-            Some(at),
-            " declares it as a routine of the program, and a system type sees none",
+            ": line @ declares it as a routine of the program, and a system type sees none",
+            at,
         ),
         Elsewhere::Inside(at) => (
-            ": line ",
-            Some(at),
-            " declares it in another block, which alone sees it",
+            ": line @ declares it in another block, which alone sees it",
+            at,
         ),
     };
-    teller.put(before);
-    if let Some(at) = at {
-        put_line(teller, at);
-    }
-    teller.put(behind);
+    teller.say(sentence, &[Piece::Line(at)]);
 }
 
 /// Says in which line the name at a token is declared.
 pub fn put_declared(teller: &mut Teller, at: usize) {
-    teller.put(": ");
-    teller.put_tokens(single(at));
-    teller.put(" is declared in line ");
-    put_line(teller, at);
+    teller.say(
+        ": @ is declared in line @",
+        &[Piece::Tokens(single(at)), Piece::Line(at)],
+    );
 }
 
-/// Says that a function names itself, where an annotation can't speak of its result or where that is a call.
-fn put_own_name(teller: &mut Teller, declarations: &Declarations) -> bool {
-    let words = if !declarations.is_function_itself(teller.at) {
-        ""
+/// What is said of a function that names itself, where an annotation can't speak of its result or where that is a call.
+fn own_name(teller: &Teller, declarations: &Declarations) -> Option<&'static str> {
+    if !declarations.is_function_itself(teller.at) {
+        None
     } else if teller.is_in_annotation() {
-        "# is the function itself: an annotation can't speak of its result"
+        Some("# is the function itself: an annotation can't speak of its result")
     } else if teller.ahead(1) != Some(Mark::OpenParenthesis) {
-        "# calls the function itself here, and no routine may: what is read again is put into a local variable"
+        Some(
+            "# calls the function itself here, and no routine may: what is read again is put into a local variable",
+        )
     } else {
-        ""
-    };
-    teller.put_about(words);
-    !words.is_empty()
+        None
+    }
 }

@@ -10,7 +10,7 @@ use crate::operands::{
 };
 use crate::rules::{is_mark_of, mark_at, mark_before, name_at, put_declared};
 use crate::spelling::{Known, similar_declaration};
-use crate::teller::Teller;
+use crate::teller::{Piece, Teller};
 use cp_scope::{Base, Detail, FoundValue, Meaning, Parameter, Role, ValueType, values_of};
 use cp_text::Mark;
 
@@ -49,23 +49,19 @@ impl<'a> Saying<'a> {
             Detail::Member(whole) => self.put_no_member(whole),
             Detail::Value(role) => self.put_no_value(role),
             Detail::Call(role) => self.put_no_call(role),
-            Detail::Target(role) => self.put_role_of_name(role, ", and can't be assigned"),
+            Detail::Target(role) => self.put_role("@ is @, and can't be assigned", role),
             Detail::Start(role) => self.put_no_component(role),
-            Detail::Counter(role) => {
-                self.teller.put("for takes a variable, but ");
-                self.put_role_of_name(role, "");
-            }
-            Detail::Number(None, given) => self.put_standard_count(given),
-            Detail::Number(Some(heading), given) => {
-                let taken = self.parameters(heading).len();
-                self.put_count(taken, given);
-                self.put_parameters(heading);
-            }
+            Detail::Counter(role) => self.put_role("for takes a variable, but @ is @", role),
+            Detail::Number(heading, given) => self.put_count(heading, given),
             Detail::Argument(heading, number, value) => self.put_argument(heading, number, value),
             Detail::Fixed(found) => self.put_unchangeable(found),
             Detail::Assignment(wanted, value) => self.put_assignment(wanted, value),
             Detail::Bounds(wanted, low, high) => self.put_counting(wanted, low, high),
         }
+    }
+
+    fn say(&mut self, sentence: &str, pieces: &[Piece]) {
+        self.teller.say(sentence, pieces);
     }
 
     // -- what stands where
@@ -77,6 +73,14 @@ impl<'a> Saying<'a> {
             _ => self.teller.at,
         };
         part_extent(self.teller.tokens, from, Part::Name)
+    }
+
+    /// The same as a value of some type.
+    fn name_of(&self, value_type: ValueType) -> Value {
+        Value {
+            extent: self.name(),
+            value_type,
+        }
     }
 
     fn value(&self, found: FoundValue, part: Part) -> Value {
@@ -91,70 +95,9 @@ impl<'a> Saying<'a> {
         self.value(found, Part::Expression)
     }
 
-    /// What stands before the selector that begins at a token.
-    fn name_before(&self, selector: usize) -> Extent {
-        between(self.teller.at, selector)
-    }
-
     /// The parameters of the routine or the system type that is written at a token.
     fn parameters(&self, heading: usize) -> &[Parameter] {
         self.declarations.scopes.shapes().parameters(heading)
-    }
-
-    // -- pieces
-
-    /// Says `x is a set`.
-    fn put_is(&mut self, one: Value) {
-        self.teller.put_tokens(one.extent);
-        self.teller.put(" is ");
-        self.teller.put(phrase(one.value_type));
-    }
-
-    /// Says `x is a set and y is an integer`, or with other words between.
-    fn put_both(&mut self, left: Value, between: &str, right: Value) {
-        self.put_is(left);
-        self.teller.put(between);
-        self.put_is(right);
-    }
-
-    /// Says ` takes an integer, but `.
-    fn put_taken(&mut self, wanted: &str) {
-        self.teller.put(" takes ");
-        self.teller.put(wanted);
-        self.teller.put(", but ");
-    }
-
-    /// Says what is wanted of a value, and what it is.
-    fn put_wanted(&mut self, taker: &str, wanted: &str, one: Value) {
-        self.teller.put(taker);
-        self.put_taken(wanted);
-        self.put_is(one);
-    }
-
-    /// Says words after some tokens.
-    fn put_after(&mut self, whole: Extent, words: &str) {
-        self.teller.put_tokens(whole);
-        self.teller.put(words);
-    }
-
-    /// Says what a name with its selectors is, and words after that.
-    fn put_role(&mut self, whole: Extent, role: Role, words: &str) {
-        let said = self.role(whole, role);
-        self.put_after(whole, " is ");
-        self.teller.put(said);
-        self.teller.put(words);
-    }
-
-    /// Says words after the name at the fault.
-    fn put_name(&mut self, words: &str) {
-        let whole = self.name();
-        self.put_after(whole, words);
-    }
-
-    /// Says what the name at the fault is, and words after that.
-    fn put_role_of_name(&mut self, role: Role, words: &str) {
-        let whole = self.name();
-        self.put_role(whole, role, words);
     }
 
     /// What a name with its selectors stands for.
@@ -176,49 +119,67 @@ impl<'a> Saying<'a> {
         }
     }
 
+    /// Says in a sentence what the name at the fault is.
+    fn put_role(&mut self, sentence: &str, role: Role) {
+        let whole = self.name();
+        self.put_role_of(sentence, whole, role);
+    }
+
+    /// Says in a sentence what a name with its selectors is.
+    fn put_role_of(&mut self, sentence: &str, whole: Extent, role: Role) {
+        let role = self.role(whole, role);
+        self.say(sentence, &[Piece::Tokens(whole), Piece::Words(role)]);
+    }
+
     // -- values
 
     /// Says what the word, the sign or the routine before a value takes.
     fn put_operand(&mut self, one: FoundValue) {
         let before = mark_before(self.teller.tokens, one.at);
-        let value = self.value(
-            one,
-            match before {
-                Some(Mark::Not) => Part::Factor,
-                Some(Mark::Plus | Mark::Minus) => Part::Term,
-                _ => Part::Expression,
-            },
-        );
+        let part = match before {
+            Some(Mark::Not) => Part::Factor,
+            Some(Mark::Plus | Mark::Minus) => Part::Term,
+            _ => Part::Expression,
+        };
+        let value = self.value(one, part);
         if before == Some(Mark::OpenParenthesis) {
             self.put_standard_argument(one.at.saturating_sub(2), value);
             return;
         }
         if before == Some(Mark::Case) && value.value_type.is_ordinal() {
-            self.put_is(value);
-            self.teller
-                .put(", but a label of this case is of another type");
+            self.say(
+                "@, but a label of this case is of another type",
+                &[Piece::Is(value)],
+            );
             return;
         }
         let (taker, wanted) = taker(before);
-        self.put_wanted(taker, wanted, value);
+        self.put_taken(taker, wanted, value);
         if before == Some(Mark::Not) && is_relation(mark_at(self.teller.tokens, value.extent.to)) {
             self.teller.put(": a comparison behind not stands in parentheses, as in not (a = b)");
         }
     }
 
+    /// Says what is wanted of a value, and what it is.
+    fn put_taken<'x>(&mut self, taker: &'x str, wanted: &'x str, value: Value) {
+        self.say(
+            "@ takes @, but @",
+            &[Piece::Words(taker), Piece::Words(wanted), Piece::Is(value)],
+        );
+    }
+
     /// Says what the routine of the language takes whose name is at a token.
     fn put_standard_argument(&mut self, routine: usize, argument: Value) {
         let name = name_at(self.teller.tokens, routine);
-        let is_waiting = matches!(name, "delay" | "continue" | "empty");
-        if !is_waiting {
-            self.put_wanted(name, argument_of(name), argument);
-        } else if let ValueType::Queue = argument.value_type {
-            self.put_after(
-                single(routine),
-                " takes a queue variable, and not one in parentheses",
-            );
-        } else {
-            self.put_wanted(name, "a queue variable", argument);
+        match (name, argument.value_type) {
+            ("delay" | "continue" | "empty", ValueType::Queue) => self.say(
+                "@ takes a queue variable, and not one in parentheses",
+                &[Piece::Tokens(single(routine))],
+            ),
+            ("delay" | "continue" | "empty", _) => {
+                self.put_taken(name, "a queue variable", argument);
+            }
+            _ => self.put_taken(name, argument_of(name), argument),
         }
     }
 
@@ -230,7 +191,6 @@ impl<'a> Saying<'a> {
             extent: between(left.at, operator),
             value_type: left.value_type,
         };
-        self.teller.put_tokens(single(operator));
         let part = if is_multiplying(mark) {
             Part::Factor
         } else if is_adding(mark) {
@@ -239,6 +199,7 @@ impl<'a> Saying<'a> {
             Part::Sum
         };
         let right = self.value(right, part);
+        self.teller.put_tokens(single(operator));
         if part == Part::Sum {
             self.put_relation(mark, left, right);
         } else {
@@ -248,12 +209,19 @@ impl<'a> Saying<'a> {
 
     /// Says which operand of an operator is none such, or that the two do not agree.
     fn put_operation(&mut self, operands: Operands, left: Value, right: Value) {
-        self.put_taken(operands.phrase());
-        match (operands.admits(left), operands.admits(right)) {
-            (true, false) => self.put_is(right),
-            (false, true) => self.put_is(left),
-            _ => self.put_both(left, " and ", right),
-        }
+        let (sentence, first) = match (operands.admits(left), operands.admits(right)) {
+            (true, false) => (" takes @, but @", right),
+            (false, true) => (" takes @, but @", left),
+            _ => (" takes @, but @ and @", left),
+        };
+        self.say(
+            sentence,
+            &[
+                Piece::Words(operands.phrase()),
+                Piece::Is(first),
+                Piece::Is(right),
+            ],
+        );
         self.teller
             .put(about_sets(operands, left.value_type, right.value_type));
         if operands == Operands::BooleansOrSets && self.is_compared(left, right) {
@@ -274,10 +242,10 @@ impl<'a> Saying<'a> {
     fn put_relation(&mut self, relation: Option<Mark>, left: Value, right: Value) {
         self.teller.put(why_not_compared(relation, left.value_type, right.value_type));
         if relation == Some(Mark::In) && !is_set(right.value_type) {
-            self.put_is(right);
+            self.say("@", &[Piece::Is(right)]);
             return;
         }
-        self.put_both(left, " and ", right);
+        self.say("@ and @", &[Piece::Is(left), Piece::Is(right)]);
         if left.value_type.is_ordinal() && are_alike(left.value_type, right.value_type) {
             self.put_own_type(right);
         }
@@ -286,12 +254,12 @@ impl<'a> Saying<'a> {
     /// Says that two elements of a set are of two types, or that the first is not ordinal.
     fn put_elements(&mut self, first: FoundValue, other: FoundValue) {
         let (first, other) = (self.expression(first), self.expression(other));
-        self.teller.put("the elements of a set have to be ordinal and of one type, but ");
-        if first.value_type.is_ordinal() {
-            self.put_both(first, ", ", other);
+        let sentence = if first.value_type.is_ordinal() {
+            "the elements of a set have to be ordinal and of one type, but @, @"
         } else {
-            self.put_is(first);
-        }
+            "the elements of a set have to be ordinal and of one type, but @"
+        };
+        self.say(sentence, &[Piece::Is(first), Piece::Is(other)]);
     }
 
     // -- types
@@ -299,39 +267,37 @@ impl<'a> Saying<'a> {
     /// Says which of the types with one phrase a value has, by its name or its bounds.
     fn put_own_type(&mut self, value: Value) {
         let found = value.value_type;
+        let whole = value.extent;
         let name = self.type_name(found);
         if !name.is_empty() {
-            self.put_of_type(value, name);
+            self.say(
+                ": @ is of type @",
+                &[Piece::Tokens(whole), Piece::Words(name)],
+            );
             return;
         }
         match found {
-            ValueType::Ordinal(range) if range.base.is_same(Base::Integer) => {
-                self.put_of_type(value, "");
-                self.teller
-                    .text
-                    .put_display(format_args!("{}..{}", range.low, range.high));
-            }
+            ValueType::Ordinal(range) if range.base.is_same(Base::Integer) => self.say(
+                ": @ is of type @..@",
+                &[
+                    Piece::Tokens(whole),
+                    Piece::Number(range.low),
+                    Piece::Number(range.high),
+                ],
+            ),
             ValueType::Array(at) => {
-                self.put_of_type(value, "");
-                let to = closing(
-                    self.teller.tokens,
-                    at,
-                    &[Mark::OpenBracket],
-                    &[Mark::CloseBracket],
+                let tokens = self.teller.tokens;
+                let to = closing(tokens, at, &[Mark::OpenBracket], &[Mark::CloseBracket]);
+                self.say(
+                    ": @ is of type @, and each array that is written is a type of its own",
+                    &[
+                        Piece::Tokens(whole),
+                        Piece::Tokens(between(at, to.saturating_add(1))),
+                    ],
                 );
-                self.teller.put_tokens(between(at, to.saturating_add(1)));
-                self.teller
-                    .put(", and each array that is written is a type of its own");
             }
             _ => self.teller.put(about_unnamed(found)),
         }
-    }
-
-    /// Says the name of a value's type.
-    fn put_of_type(&mut self, value: Value, name: &str) {
-        self.teller.put(": ");
-        self.put_after(value.extent, " is of type ");
-        self.teller.put(name);
     }
 
     /// The name of a type; empty where it has none.
@@ -360,42 +326,49 @@ impl<'a> Saying<'a> {
 
     // -- calls
 
-    /// Says how many arguments are taken, and how many are given.
-    fn put_count(&mut self, taken: usize, given: usize) {
-        self.put_name(" takes ");
-        self.teller.text.put_display(taken);
-        self.teller.put(if taken == 1 {
-            " argument"
+    /// Says how many arguments a routine or a system type takes, and how many are given. One of the language itself takes one.
+    fn put_count(&mut self, heading: Option<usize>, given: usize) {
+        let taken = match heading {
+            Some(heading) => self.parameters(heading).len(),
+            None => 1,
+        };
+        let sentence = if taken == 1 {
+            "@ takes @ argument, but is called with @"
         } else {
-            " arguments"
-        });
-        self.teller.put(", but is called with ");
-        self.teller.text.put_display(given);
-    }
-
-    /// Says the same of a routine of the language, which takes one.
-    fn put_standard_count(&mut self, given: usize) {
-        self.put_count(1, given);
-        let more = about_waiting(self.teller.name());
-        self.teller.put(more);
+            "@ takes @ arguments, but is called with @"
+        };
+        let name = self.name();
+        self.say(
+            sentence,
+            &[
+                Piece::Tokens(name),
+                Piece::Count(taken),
+                Piece::Count(given),
+            ],
+        );
+        match heading {
+            Some(heading) => self.put_parameters(heading, taken),
+            None => {
+                let more = about_waiting(self.teller.name());
+                self.teller.put(more);
+            }
+        }
     }
 
     /// Says what the parameters of a routine or a system type are, where it has some.
-    fn put_parameters(&mut self, heading: usize) {
-        let last = self.parameters(heading).len().saturating_sub(1);
+    fn put_parameters(&mut self, heading: usize, number: usize) {
         if let Some(first) = self.declarations.parameter(heading, 0)
-            && let Some(last) = self.declarations.parameter(heading, last)
+            && let Some(last) = self
+                .declarations
+                .parameter(heading, number.saturating_sub(1))
             && let Some(type_name) = last.what.type_name()
         {
-            let tokens = self.teller.tokens;
-            let from = if mark_before(tokens, first.at) == Some(Mark::Var) {
-                first.at.saturating_sub(1)
-            } else {
-                first.at
-            };
-            self.teller.put(": its heading has ");
-            self.teller
-                .put_tokens(between(from, type_name.at.saturating_add(1)));
+            let is_var = mark_before(self.teller.tokens, first.at) == Some(Mark::Var);
+            let from = first.at.saturating_sub(if is_var { 1 } else { 0 });
+            self.say(
+                ": its heading has @",
+                &[Piece::Tokens(between(from, type_name.at.saturating_add(1)))],
+            );
         }
     }
 
@@ -405,24 +378,27 @@ impl<'a> Saying<'a> {
             return;
         };
         let value = self.expression(value);
-        self.teller.put("argument ");
-        self.teller.text.put_display(number.saturating_add(1));
-        self.teller.put(" of ");
-        self.put_name(", ");
-        self.put_after(value.extent, ", is ");
-        self.teller.put(phrase(value.value_type));
         let is_alike = are_alike(parameter.value_type, value.value_type);
-        self.teller.put(if is_alike {
-            ", but of another type than the parameter "
+        let sentence = if is_alike {
+            "argument @ of @, @, is @, but of another type than the parameter @"
         } else {
-            ", but the parameter is "
-        });
-        self.teller.put(if parameter.is_var { "var " } else { "" });
+            "argument @ of @, @, is @, but the parameter is @"
+        };
+        let name = self.name();
+        self.say(
+            sentence,
+            &[
+                Piece::Count(number.saturating_add(1)),
+                Piece::Tokens(name),
+                Piece::Tokens(value.extent),
+                Piece::Words(phrase(value.value_type)),
+                Piece::Words(if parameter.is_var { "var " } else { "" }),
+            ],
+        );
         if let Some(declared) = self.declarations.parameter(heading, number) {
             self.teller.put_tokens(single(declared.at));
             if let Some(name) = declared.what.type_name() {
-                self.teller.put(": ");
-                self.teller.put_tokens(single(name.at));
+                self.say(": @", &[Piece::Tokens(single(name.at))]);
             }
         }
         if is_alike {
@@ -434,54 +410,52 @@ impl<'a> Saying<'a> {
     fn put_no_value(&mut self, role: Role) {
         let whole = self.name();
         let is_called = match role {
-            Role::Kind => { mark_at(self.teller.tokens, whole.to) == Some(Mark::OpenParenthesis) }
+            Role::Kind => mark_at(self.teller.tokens, whole.to) == Some(Mark::OpenParenthesis),
             Role::Value(_) => true,
             Role::Function | Role::Procedure => false,
         };
-        let words = match role {
+        let sentence = match role {
             Role::Value(ValueType::Array(_)) =>
-                ", and can't be called: an element of an array is written with brackets, as in a[1]",
-            _ if is_called => ", and can't be called",
-            _ => ", and has no value",
+                "@ is @, and can't be called: an element of an array is written with brackets, as in a[1]",
+            _ if is_called => "@ is @, and can't be called",
+            _ => "@ is @, and has no value",
         };
-        self.put_role(whole, role, words);
+        self.put_role_of(sentence, whole, role);
     }
 
     /// Says that a statement calls no procedure.
     fn put_no_call(&mut self, role: Role) {
-        let whole = self.name();
         let is_parameter = matches!(
-            self.declarations.meaning_at(whole.from),
+            self.declarations.meaning_at(self.name().from),
             Some(Meaning::Parameter(_))
         );
-        let words = match role {
+        let sentence = match role {
             Role::Value(ValueType::Component(..)) if !is_parameter =>
-                ", and can't be called: init starts it",
+                "@ is @, and can't be called: init starts it",
             Role::Function =>
-                ": a statement calls a procedure, and a function's value has to be used",
-            _ => ", and can't be called",
+                "@ is @: a statement calls a procedure, and a function's value has to be used",
+            _ => "@ is @, and can't be called",
         };
-        self.put_role(whole, role, words);
+        self.put_role(sentence, role);
     }
 
     /// Says that `init` starts no component.
     fn put_no_component(&mut self, role: Role) {
-        let words = match role {
-            Role::Kind => " is a type, and init starts a variable of it",
+        let sentence = match role {
+            Role::Kind => "@ is a type, and init starts a variable of it",
             Role::Value(ValueType::Array(at)) if self.has_fixed_elements(at) => {
-                " is an array, and init takes its elements one by one"
+                "@ is an array, and init takes its elements one by one"
             }
             Role::Value(ValueType::Component(..)) =>
-                " is a parameter, and is initialised where it is declared as a variable",
+                "@ is a parameter, and is initialised where it is declared as a variable",
             Role::Value(value_type) => {
-                let extent = self.name();
-                self.put_is(Value { extent, value_type });
-                self.teller.put(", and init starts components alone");
+                let value = self.name_of(value_type);
+                self.say("@, and init starts components alone", &[Piece::Is(value)]);
                 return;
             }
-            _ => " is no component variable of this block, so that init can't start it",
+            _ => "@ is no component variable of this block, so that init can't start it",
         };
-        self.put_name(words);
+        self.put_role(sentence, role);
     }
 
     /// Whether the elements of the array that is written at a token are queues or components.
@@ -496,65 +470,57 @@ impl<'a> Saying<'a> {
 
     /// Says why what stands before an index has no such element.
     fn put_no_element(&mut self, before: Role, index: FoundValue) {
-        let whole = self.name_before(index.at.saturating_sub(1));
+        let extent = between(self.teller.at, index.at.saturating_sub(1));
         match before {
             Role::Value(ValueType::Array(_)) => {
-                self.put_after(whole, " has indices of another type: ");
                 let index = self.expression(index);
-                self.put_is(index);
+                self.say(
+                    "@ has indices of another type: @",
+                    &[Piece::Tokens(extent), Piece::Is(index)],
+                );
             }
             Role::Value(value_type) => {
-                self.put_is(Value {
-                    extent: whole,
-                    value_type,
-                });
-                self.teller.put(", and no array: it takes no index");
+                let whole = Value { extent, value_type };
+                self.say("@, and no array: it takes no index", &[Piece::Is(whole)]);
             }
-            _ => self.put_role(whole, before, ", and has no elements"),
+            _ => self.put_role_of("@ is @, and has no elements", extent, before),
         }
     }
 
     /// Says why what stands before a period has no fields and no routines.
     fn put_no_fields(&mut self, before: Role, name: usize) {
-        let whole = self.name_before(name.saturating_sub(1));
+        let extent = between(self.teller.at, name.saturating_sub(1));
         match before {
             Role::Value(value_type) => {
-                self.put_is(Value {
-                    extent: whole,
-                    value_type,
-                });
-                self.teller.put(match value_type {
+                let sentence = match value_type {
                     ValueType::Array(_) =>
-                        ": one of its elements is named by an index before the period, as in a[1]",
+                        "@: one of its elements is named by an index before the period, as in a[1]",
                     ValueType::Queue =>
-                        ": a process waits by delay(q), is let go on by continue(q), and empty(q) asks whether none waits",
-                    _ => ", and no record: it has no fields",
-                });
+                        "@: a process waits by delay(q), is let go on by continue(q), and empty(q) asks whether none waits",
+                    _ => "@, and no record: it has no fields",
+                };
+                self.say(sentence, &[Piece::Is(Value { extent, value_type })]);
             }
-            Role::Kind => self.put_role(
-                whole,
+            Role::Kind => self.put_role_of(
+                "@ is @: what stands before a period is a variable of such a type",
+                extent,
                 before,
-                ": what stands before a period is a variable of such a type",
             ),
-            _ => self.put_role(whole, before, ", and has no fields"),
+            _ => self.put_role_of("@ is @, and has no fields", extent, before),
         }
     }
 
     /// Says that the token is no field of a record and no routine of a component, and which one may have been meant.
     fn put_no_member(&mut self, whole: ValueType) {
-        let known = match whole {
-            ValueType::Record(at) => {
-                self.teller.put_about("# is no field of this record");
-                Known::FieldOf(at)
-            }
-            ValueType::Component(_, at) => {
-                self.teller.put_about(
-                    "# is no routine of this component, whose variables can't be reached from outside",
-                );
-                Known::EntryOf(at)
-            }
+        let (sentence, known) = match whole {
+            ValueType::Record(at) => ("# is no field of this record", Known::FieldOf(at)),
+            ValueType::Component(_, at) => (
+                "# is no routine of this component, whose variables can't be reached from outside",
+                Known::EntryOf(at),
+            ),
             _ => return,
         };
+        self.say(sentence, &[]);
         match similar_declaration(&self.teller, &self.declarations, known) {
             Some(other) => put_declared(&mut self.teller, other),
             None => self.put_members(known),
@@ -564,7 +530,10 @@ impl<'a> Saying<'a> {
     /// Says which fields or entries there are, or the first of them.
     fn put_members(&mut self, known: Known) {
         let places = known.places(self.teller.tokens);
-        let number = self.number_of_members(known, places);
+        let declarations = &self.declarations;
+        let number = (places.from..places.to)
+            .filter(|place| known.is_declared_at(declarations, *place))
+            .count();
         self.teller.put(known.heading(number));
         let mut told: usize = 0;
         for place in places.from..places.to {
@@ -576,30 +545,22 @@ impl<'a> Saying<'a> {
         }
     }
 
-    fn number_of_members(&self, known: Known, places: Extent) -> usize {
-        let mut number: usize = 0;
-        for place in places.from..places.to {
-            if known.is_declared_at(&self.declarations, place) {
-                number = number.saturating_add(1);
-            }
-        }
-        number
-    }
-
     /// Says why a name with its selectors can't be assigned, or that an argument is no name.
     fn put_unchangeable(&mut self, found: Option<ValueType>) {
         let whole = self.name();
         let tokens = self.teller.tokens;
         let argument = part_extent(tokens, whole.from, Part::Expression);
-        if name_at(tokens, whole.from).is_empty() || whole.to < argument.to {
-            self.put_after(
+        let (extent, sentence) = if name_at(tokens, whole.from).is_empty()
+            || whole.to < argument.to
+        {
+            (
                 argument,
-                " is an expression, and a var parameter takes a variable",
-            );
-            return;
-        }
-        let words = self.why_unchangeable(whole, found);
-        self.put_after(whole, words);
+                "@ is an expression, and a var parameter takes a variable",
+            )
+        } else {
+            (whole, self.why_unchangeable(whole, found))
+        };
+        self.say(sentence, &[Piece::Tokens(extent)]);
     }
 
     fn why_unchangeable(&self, whole: Extent, found: Option<ValueType>) -> &'static str {
@@ -610,33 +571,33 @@ impl<'a> Saying<'a> {
         );
         match (self.declarations.meaning_at(whole.from), found) {
             (Some(Meaning::Constant(..)), _) if is_argument =>
-                " is a constant, and a var parameter takes a variable",
-            (Some(Meaning::Constant(..)), _) => " is a constant, and keeps its value",
+                "@ is a constant, and a var parameter takes a variable",
+            (Some(Meaning::Constant(..)), _) => "@ is a constant, and keeps its value",
             (Some(Meaning::Predeclared(_)), _) => {
-                " is a function of the language itself, and can't be assigned"
+                "@ is a function of the language itself, and can't be assigned"
             }
-            (_, None) => " is a function, and only its own body gives it a value",
+            (_, None) => "@ is a function, and only its own body gives it a value",
             (Some(Meaning::Parameter(_)), _) => self.why_parameter_stays(whole),
             (_, Some(ValueType::Queue)) => {
-                " is a queue, and no variable that is assigned: delay and continue change it"
+                "@ is a queue, and no variable that is assigned: delay and continue change it"
             }
             (_, Some(ValueType::Component(..))) => {
-                " is a component, and no variable that is assigned: its routines change it"
+                "@ is a component, and no variable that is assigned: its routines change it"
             }
-            _ => " is an array of queues or components, and can't be assigned",
+            _ => "@ is an array of queues or components, and can't be assigned",
         }
     }
 
     fn why_parameter_stays(&self, whole: Extent) -> &'static str {
         let name = name_at(self.teller.tokens, whole.from);
         if whole.is_long() {
-            return " is a part of a parameter without var, and keeps its value";
+            return "@ is a part of a parameter without var, and keeps its value";
         }
         match self.declarations.find(name, whole.from) {
             Some(one) if !one.routine.is_empty() => {
-                " is a parameter without var, and the routine can't change it"
+                "@ is a parameter without var, and the routine can't change it"
             }
-            _ => " is a parameter of its system type, and keeps its value",
+            _ => "@ is a parameter of its system type, and keeps its value",
         }
     }
 
@@ -644,40 +605,37 @@ impl<'a> Saying<'a> {
 
     /// Says why a value can't be assigned to what stands on the left, which has this type.
     fn put_assignment(&mut self, wanted: ValueType, value: FoundValue) {
-        let left = self.name();
+        let left = self.name_of(wanted);
         let right = self.expression(value);
         if are_alike(wanted, right.value_type) {
-            self.put_both(
-                Value {
-                    extent: left,
-                    value_type: wanted,
-                },
-                " and ",
-                right,
+            self.say(
+                "@ and @, but of another type",
+                &[Piece::Is(left), Piece::Is(right)],
             );
-            self.teller.put(", but of another type");
             self.put_own_type(right);
         } else {
-            self.put_after(left, "");
-            self.put_taken(phrase(wanted));
-            self.put_is(right);
+            self.say(
+                "@ takes @, but @",
+                &[
+                    Piece::Tokens(left.extent),
+                    Piece::Words(phrase(wanted)),
+                    Piece::Is(right),
+                ],
+            );
         }
     }
 
     /// Says why the variable of a `for`, which has this type, and its bounds do not agree.
     fn put_counting(&mut self, wanted: ValueType, low: FoundValue, high: FoundValue) {
-        let counted = Value {
-            extent: self.name(),
-            value_type: wanted,
-        };
+        let counted = self.name_of(wanted);
         if !wanted.is_ordinal() {
-            self.put_wanted("for", ANY_ORDINAL, counted);
+            self.put_taken("for", ANY_ORDINAL, counted);
             return;
         }
         let (low, high) = (self.expression(low), self.expression(high));
-        self.teller.put("the variable and the bounds of for have to be of one type, but ");
-        self.put_both(counted, ", ", low);
-        self.teller.put(" and ");
-        self.put_is(high);
+        self.say(
+            "the variable and the bounds of for have to be of one type, but @, @ and @",
+            &[Piece::Is(counted), Piece::Is(low), Piece::Is(high)],
+        );
     }
 }

@@ -135,47 +135,17 @@ pub fn similar_declaration(
 }
 
 /// The names that the language itself declares.
-const STANDARD: [&str; 15] = [
-    "integer", "boolean", "char", "queue", "true", "false", "display", "delay", "continue",
-    "empty", "abs", "succ", "pred", "ord", "chr",
-];
+const STANDARD: &str =
+    "integer boolean char queue true false display delay continue empty abs succ pred ord chr";
 
 /// The reserved words that have three letters or more.
-const RESERVED: [&str; 28] = [
-    "and",
-    "array",
-    "begin",
-    "case",
-    "class",
-    "const",
-    "cycle",
-    "div",
-    "downto",
-    "else",
-    "end",
-    "entry",
-    "for",
-    "function",
-    "init",
-    "mod",
-    "monitor",
-    "not",
-    "procedure",
-    "process",
-    "record",
-    "repeat",
-    "set",
-    "then",
-    "type",
-    "until",
-    "var",
-    "while",
-];
+const RESERVED: &str =
+    "and array begin case class const cycle div downto else end entry for function init mod monitor not procedure process record repeat set then type until var while";
 
 // The word of these that differs from a name by one or two letters.
-fn similar_word(words: &[&'static str], name: &str) -> Option<&'static str> {
+fn similar_word(words: &'static str, name: &str) -> Option<&'static str> {
     for letters in [1, 2] {
-        for word in words {
+        for word in words.split(' ') {
             if is_alike(name, word, letters) {
                 return Some(word);
             }
@@ -186,7 +156,7 @@ fn similar_word(words: &[&'static str], name: &str) -> Option<&'static str> {
 
 /// The name of the language itself that differs by one or two letters from this one.
 pub fn similar_standard_name(name: &str) -> Option<&'static str> {
-    similar_word(&STANDARD, name)
+    similar_word(STANDARD, name)
 }
 
 /// How many tokens more have to be read where a reserved word stands for a name.
@@ -197,7 +167,7 @@ pub fn misspelt_word(teller: &Teller) -> Result<Option<(usize, &'static str)>, A
     let last = teller.at.saturating_add(1).min(teller.tokens.count());
     for place in (0..last).rev() {
         let name = teller.name_at(place);
-        if let Some(word) = similar_word(&RESERVED, name)
+        if let Some(word) = similar_word(RESERVED, name)
             && instead_of(name).is_empty()
             && teller.reads_with(place, word)? >= teller.at.saturating_add(READ_ON)
         {

@@ -1,6 +1,7 @@
 //! Who tells of a source that is refused at a token.
 
-use crate::extent::{Extent, single};
+use crate::extent::{Extent, open_before, single};
+use crate::operands::{Value, phrase};
 use crate::page::push_tokens;
 use crate::place::{end, text_in};
 use crate::rules::{mark_at, name_at};
@@ -19,22 +20,35 @@ pub struct Teller<'a> {
     pub tokens: &'a Tokens,
     pub at: usize,
     pub text: Prose,
+    /// What was found of the tokens that were asked for.
+    answers: Vec<Answer>,
+}
+
+/// Whether a program can go on with a token in the place of the one that is refused.
+#[derive(Clone, Copy, Drop)]
+struct Answer {
+    word: &'static str,
+    is_taken: bool,
+}
+
+/// What stands in a sentence for a `@`.
+#[derive(Clone, Copy)]
+pub enum Piece<'a> {
+    Words(&'a str),
+    /// Some tokens as they are written.
+    Tokens(Extent),
+    /// A value as it is written, and what it is.
+    Is(Value),
+    /// A token as it is written, and its line.
+    Placed(usize),
+    /// The line of a token.
+    Line(usize),
+    Count(usize),
+    Number(i64),
 }
 
 /// What ends an annotation.
 const CLOSING: &str = "*)\"";
-
-// The number of the opening of the annotation in which the token of this number stands.
-fn opening_before(tokens: &Tokens, at: usize) -> Option<usize> {
-    for place in (0..at).rev() {
-        match mark_at(tokens, place) {
-            Some(Mark::Assert | Mark::Invariant) => return Some(place),
-            Some(Mark::Closes) => return None,
-            _ => {}
-        }
-    }
-    None
-}
 
 impl<'a> Teller<'a> {
     pub fn new(alloc: Global, source: &'a [u8], tokens: &'a Tokens, at: usize) -> Teller<'a> {
@@ -44,6 +58,7 @@ impl<'a> Teller<'a> {
             tokens,
             at,
             text: Prose::new(alloc),
+            answers: Vec::new(alloc),
         }
     }
 
@@ -57,9 +72,9 @@ impl<'a> Teller<'a> {
         self.name_at(self.at)
     }
 
-    /// The token as it is written.
-    pub fn spelling(&self) -> &'a [u8] {
-        match self.tokens.range(self.at) {
+    /// The token of this number as it is written.
+    pub fn spelling_at(&self, at: usize) -> &'a [u8] {
+        match self.tokens.range(at) {
             Some(range) => text_in(self.source, range),
             None => &[],
         }
@@ -85,10 +100,7 @@ impl<'a> Teller<'a> {
 
     /// The reserved word or sign so many tokens before the one that is refused.
     pub fn back(&self, number: usize) -> Option<Mark> {
-        match self.at.checked_sub(number) {
-            Some(place) => self.mark_at(place),
-            None => None,
-        }
+        self.mark_at(self.at.checked_sub(number)?)
     }
 
     /// The reserved word or sign so many tokens behind the one that is refused.
@@ -98,7 +110,8 @@ impl<'a> Teller<'a> {
 
     /// Whether the token stands in an annotation, behind its opening.
     pub fn is_in_annotation(&self) -> bool {
-        opening_before(self.tokens, self.at).is_some()
+        let opening = [Mark::Assert, Mark::Invariant];
+        open_before(self.tokens, self.at, &opening, &[Mark::Closes]).is_some()
     }
 
     /// Appends words.
@@ -106,21 +119,50 @@ impl<'a> Teller<'a> {
         self.text.put(words);
     }
 
-    /// Appends words, in which `%` stands for the token before the one that is refused, `#` for this one, `~` for the next and `^` for the one behind that.
-    pub fn put_about(&mut self, words: &str) {
-        for byte in words.as_bytes() {
-            let ahead: usize = match byte {
-                b'%' => 0,
-                b'#' => 1,
-                b'~' => 2,
-                b'^' => 3,
-                _ => {
-                    self.text.put_char(char::from(*byte));
-                    continue;
+    /// Appends a sentence, in which each `@` stands for the next of some pieces, `%` for the token before the one that is refused, `#` for this one, `~` for the
+    /// next and `^` for the one behind that.
+    pub fn say(&mut self, sentence: &str, pieces: &[Piece]) {
+        let mut told: usize = 0;
+        for byte in sentence.as_bytes() {
+            match byte {
+                b'@' => {
+                    if let Some(piece) = pieces.get(told) {
+                        self.put_piece(*piece);
+                    }
+                    told = told.saturating_add(1);
                 }
-            };
-            self.put_tokens(single(self.at.saturating_add(ahead).saturating_sub(1)));
+                b'%' => self.put_tokens(single(self.at.saturating_sub(1))),
+                b'#' => self.put_tokens(single(self.at)),
+                b'~' => self.put_tokens(single(self.at.saturating_add(1))),
+                b'^' => self.put_tokens(single(self.at.saturating_add(2))),
+                _ => self.text.put_char(char::from(*byte)),
+            }
         }
+    }
+
+    fn put_piece(&mut self, piece: Piece) {
+        match piece {
+            Piece::Words(words) => self.put(words),
+            Piece::Tokens(extent) => self.put_tokens(extent),
+            Piece::Is(value) => {
+                self.put_tokens(value.extent);
+                self.put(" is ");
+                self.put(phrase(value.value_type));
+            }
+            Piece::Placed(at) => {
+                self.put_tokens(single(at));
+                self.put(" of line ");
+                self.put_line(at);
+            }
+            Piece::Line(at) => self.put_line(at),
+            Piece::Count(count) => self.text.put_display(count),
+            Piece::Number(number) => self.text.put_display(number),
+        }
+    }
+
+    fn put_line(&mut self, at: usize) {
+        let line = self.tokens.line(at.min(self.tokens.count()));
+        self.text.put_display(line);
     }
 
     /// Appends some tokens as they are written.
@@ -130,13 +172,17 @@ impl<'a> Teller<'a> {
 
     /// Whether a program can go on with this token in the place of the one that is refused.
     pub fn takes(&mut self, word: &'static str) -> bool {
-        match self.may_stand(word) {
-            Ok(may_stand) => may_stand,
-            Err(_) => {
-                self.text.refuse();
-                false
-            }
+        if let Some(answer) = self.answers.iter().find(|answer| answer.word == word) {
+            return answer.is_taken;
         }
+        let Ok(is_taken) = self.may_stand(word) else {
+            self.text.refuse();
+            return false;
+        };
+        if self.answers.push(Answer { word, is_taken }).is_err() {
+            self.text.refuse();
+        }
+        is_taken
     }
 
     /// Whether a program can go on with one of these tokens in its place.

@@ -201,31 +201,31 @@ pub fn observe_opening<S: Count, O: Observe>(
     observe_stretch(job, state, first, steps, observer)
 }
 
-/// Runs a word from the opening state, in which `state` is. An observer is told of it; where it fails, so does the run.
+/// Runs a word from the opening state, in which `state` is; more choices than `choices` are not taken. An observer is told of it; where it fails, so does the run.
 /// `ticks` counts the steps that succeed.
 pub fn observe_run<S: Count, O: Observe<Error = AllocError>>(
     alloc: Global,
     job: &Job<'_>,
+    choices: usize,
     word: &[u8],
     ticks: &mut S,
     state: &mut State,
     observer: &mut O,
 ) -> Result<RunEnd, AllocError>
     requires loud { O.IS_SILENT ≡ false }
-    requires word { length word.now ≤ 100 }
     requires own { IsStateOf job.now.program.now state.old }
     requires start { machine_of state.old ≡ opening job.now.program.now job.now.limits.discipline }
-    ensures answer { IfOk result (λ end. answer_of end ≡ run (slots job.now.program.now job.now.limits.discipline) job.now.limits.choices job.now.limits.steps word.now) }
-    ensures seen { IfOk result (λ _. (x : O.Seen) → O.holds observer.old job.now.program.now job.now.limits.discipline (machine_of state.old) x → O.holds observer.new job.now.program.now job.now.limits.discipline (machine_of state.new) (fold_run (slots job.now.program.now job.now.limits.discipline) (O.fold job.now.program.now job.now.limits.discipline) job.now.limits.choices job.now.limits.steps word.now x)) }
-    ensures stop { IfOk result (λ _. machine_of state.new ≡ last_state (slots job.now.program.now job.now.limits.discipline) job.now.limits.choices job.now.limits.steps word.now) }
+    ensures answer { IfOk result (λ end. answer_of end ≡ run (slots job.now.program.now job.now.limits.discipline) choices job.now.limits.steps word.now) }
+    ensures seen { IfOk result (λ _. (x : O.Seen) → O.holds observer.old job.now.program.now job.now.limits.discipline (machine_of state.old) x → O.holds observer.new job.now.program.now job.now.limits.discipline (machine_of state.new) (fold_run (slots job.now.program.now job.now.limits.discipline) (O.fold job.now.program.now job.now.limits.discipline) choices job.now.limits.steps word.now x)) }
+    ensures stop { IfOk result (λ _. machine_of state.new ≡ last_state (slots job.now.program.now job.now.limits.discipline) choices job.now.limits.steps word.now) }
     ensures own { IsStateOf job.now.program.now state.new }
-    ensures ticks { S.count ticks.new ≤ S.count ticks.old + (job.now.limits.choices + 1) * job.now.limits.steps }
+    ensures ticks { S.count ticks.new ≤ S.count ticks.old + (choices + 1) * job.now.limits.steps }
 {
     let first = observe_opening(job, state, ticks, observer)?;
     let mut halt = halt_at(first);
     for (place, process) in word.iter().enumerate() {
-        if is_over(job.limits, halt, place) {
-            return end_of_word(alloc, job, halt, state, place);
+        if is_over(choices, halt, place) {
+            return end_of_word(alloc, job, choices, halt, state, place);
         }
         observer.see_choice(job, state, *process);
         if !may(job, state, *process) {
@@ -234,5 +234,5 @@ pub fn observe_run<S: Count, O: Observe<Error = AllocError>>(
         let next = observe_choice(job, state, *process, ticks, observer)?;
         halt = halt_at(next);
     }
-    end_of_word(alloc, job, halt, state, word.len())
+    end_of_word(alloc, job, choices, halt, state, word.len())
 }

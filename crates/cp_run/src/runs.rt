@@ -8,7 +8,6 @@ ghost use Rattle.cp_run.specs.Code.{answer_of, node_of, further, is_over};
 
 use crate::choice::{candidates, choose, may, open};
 use crate::job::Job;
-use crate::limits::Limits;
 use crate::outcome::{Halt, Outcome, OutcomeKind, Output, RunEnd};
 use cp_machine::{Count, State, Uncounted, Unwatched};
 use std::alloc::{AllocError, Global};
@@ -65,20 +64,28 @@ pub fn run<S: Count>(
             }
         }
     }
-    end_of_word(alloc, job, halt, &state, word.len())
+    end_of_word(
+        alloc,
+        job,
+        job.limits.choices as usize,
+        halt,
+        &state,
+        word.len(),
+    )
 }
 
-/// The end of a run whose word is used up.
+/// The end of a run whose word is used up after `used` choices, of at most `choices`.
 pub fn end_of_word(
     alloc: Global,
     job: &Job<'_>,
+    choices: usize,
     halt: Halt<OutcomeKind>,
     state: &State,
     used: usize,
 ) -> Result<RunEnd, AllocError>
     requires own { IsStateOf job.now.program.now state.now }
-    requires within { used ≤ job.now.limits.choices }
-    ensures { IfOk result (λ end. answer_of end ≡ further used (run_from (slots job.now.program.now job.now.limits.discipline) job.now.limits.steps (job.now.limits.choices - used) [] (node_of halt (machine_of state.now)))) }
+    requires within { used ≤ choices }
+    ensures { IfOk result (λ end. answer_of end ≡ further used (run_from (slots job.now.program.now job.now.limits.discipline) job.now.limits.steps (choices - used) [] (node_of halt (machine_of state.now)))) }
 {
     match halt {
         Halt::Ended(kind) => Ok(RunEnd::Ended {
@@ -86,7 +93,7 @@ pub fn end_of_word(
             used,
         }),
         Halt::Choice => {
-            if used == job.limits.choices as usize {
+            if used == choices {
                 Ok(RunEnd::Ended {
                     outcome: outcome_at(alloc, OutcomeKind::ChoiceLimit, state)?,
                     used,
@@ -100,13 +107,13 @@ pub fn end_of_word(
     }
 }
 
-/// Whether a run is over where its stretch halted, after this many choices.
-pub fn is_over(limits: Limits, halt: Halt<OutcomeKind>, used: usize) -> bool
-    requires { used ≤ limits.choices }
-    ensures { result ≡ is_over (limits.choices - used) halt }
+/// Whether a run is over where its stretch halted, after `used` choices, of at most `choices`.
+pub fn is_over(choices: usize, halt: Halt<OutcomeKind>, used: usize) -> bool
+    requires { used ≤ choices }
+    ensures { result ≡ is_over (choices - used) halt }
 {
     match halt {
         Halt::Ended(_) => true,
-        Halt::Choice => used == limits.choices as usize,
+        Halt::Choice => used == choices,
     }
 }

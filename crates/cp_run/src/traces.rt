@@ -144,6 +144,7 @@ pub fn trace<S: Count>(
         lines: Vec::new(alloc),
     };
     let mut state = State::start(alloc, job.program, job.limits.discipline)?;
-    let end = observe_run(alloc, job, word, ticks, &mut state, &mut lines)?;
+    let choices = job.limits.choices as usize;
+    let end = observe_run(alloc, job, choices, word, ticks, &mut state, &mut lines)?;
     Ok((lines.lines, end))
 }

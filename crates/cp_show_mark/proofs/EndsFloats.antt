@@ -1,5 +1,5 @@
 -- A mark by schedules of any length has no floats.
-use Rattle.std.proofs.Common.{◌≡◌, ◌∷◌, ◌++◌, ℕ, false, List, Option, None, Some, refl, string_bytes}
+use Rattle.std.proofs.Common.{◌≡◌, ◌++◌, ℕ, false, List, Option, None, Some, refl, string_bytes}
 use Rattle.std.specs.List.{list_any}
 use Rattle.serde_json.specs.Written.{has_float}
 use Rattle.cp_ends.specs.declared.end.End.{End}

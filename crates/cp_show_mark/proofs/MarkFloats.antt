@@ -1,5 +1,5 @@
 -- A mark has no floats.
-use Rattle.std.proofs.Common.{◌≡◌, ◌==◌, ◌∷◌, ◌++◌, ℕ, Bool, true, false, List, [], Option, None, Some, codes, if◌then◌else◌, length, map, refl}
+use Rattle.std.proofs.Common.{◌≡◌, ◌==◌, ◌∷◌, ◌++◌, ℕ, Bool, true, false, List, [], Option, codes, if◌then◌else◌, length, map, refl}
 use Rattle.std.specs.List.{list_any, zip}
 use Rattle.std.specs.Str.{trim_end}
 use Rattle.serde_json.specs.Written.{has_float}

@@ -173,4 +173,4 @@ TellsGivenText s o names ws verdict text = TellsSpelled (Spells ws) plain.expect
 
 -- by schedules of any length
 abbrev pub TellsGivenEnds : Setting → Options → Names → spelling.Words → ShowVerdict → List ℕ → Type 0
-TellsGivenEnds s o names ws verdict text = TellsSpelled (Spells ws) plain.expected_of (λ es. TellsIf (are_asked o names es) (TellsEndsText s verdict text) verdict) verdict
+TellsGivenEnds s o names ws verdict text = TellsSpelled (Spells ws) plain.expected_of (λ es. TellsIf (are_asked o names es) (TellsEndsText s es verdict text) verdict) verdict

@@ -26,7 +26,7 @@ use Rattle.cp_verdict.specs.declared.marking.Standing.{Standing}
 use Rattle.cp_verdict.specs.declared.marking.Standing.TheVariants as mark
 use Rattle.cp_verdict.specs.declared.program.Marked.{Marked}
 use Rattle.cp_verdict.specs.declared.program.Stops.{Stops}
-use Rattle.cp_show_mark.specs.Stories.{waits_told}
+use Rattle.cp_show_mark.specs.Stories.{waits_at_end}
 use Rattle.cp_show_mark.specs.declared.examinee.Examinee.{Examinee}
 use Rattle.cp_show_mark.specs.declared.excess.MarkExcess.{MarkExcess}
 use Rattle.cp_show_mark.specs.declared.excess.MarkExcess.TheVariants.{States, Outcomes}
@@ -84,7 +84,7 @@ place_text s process line = codes "  " ++ decimal process ++ codes " " ++ path_i
 
 -- who waits where at the end of a schedule
 abbrev pub waits_in : Setting → (word : List ℕ) → List Waiting
-waits_in s word = waits_told s.legend s.program s.discipline s.choices s.steps word
+waits_in s word = waits_at_end s.legend s.program s.discipline s.steps word
 
 -- at the end of a schedule: where all wait, who waits and where; of a run error, who was in error and at which line
 abbrev pub end_text : Setting → (word : List ℕ) → OutcomeKind → List ℕ

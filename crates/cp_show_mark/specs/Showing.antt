@@ -1,5 +1,5 @@
 -- What an answer tells, and its exit code.
-use Rattle.std.specs.Prelude.{◌≡◌, ◌⊎◌, ℕ, List, true, false}
+use Rattle.std.specs.Prelude.{◌≡◌, ◌⊎◌, ℕ, List, false}
 use Rattle.cp_tree.specs.Syntax.{Tree}
 use Rattle.cp_walk.specs.Text.{Spellings}
 use Rattle.cp_run.specs.Slots.{slots}

@@ -1,5 +1,5 @@
 -- What the story of a schedule is: all that is told of the run of its word.
-use Rattle.std.specs.Prelude.{◌≡◌, ℕ, List, [], Bool, false, if◌then◌else◌, length, map, nat_le, option_map}
+use Rattle.std.specs.Prelude.{◌≡◌, ℕ, List, [], Bool, false, if◌then◌else◌, length, map, option_map}
 use Rattle.cp_slots.specs.Tables.{Tables}
 use Rattle.cp_legend.specs.Names.{Legend}
 use Rattle.cp_machine.specs.declared.discipline.Discipline.{Discipline}
@@ -31,10 +31,6 @@ abbrev pub ends_waiting : Answer → Bool
 ends_waiting (Ended outcome used) = is_waiting outcome
 ends_waiting answer = false
 
--- Who waits where at the end of a word, if all do there. A run within limits may end before, with more output than is kept.
-abbrev pub waits_at_end : Legend → Tables → Discipline → (choices steps : ℕ) → (word : List ℕ) → List Waiting
-waits_at_end l r discipline choices steps word = if ends_waiting (run (slots r discipline) choices steps word) then who_waits l r discipline choices steps word else []
-
--- the same of a word that has no more numbers than are told
-abbrev pub waits_told : Legend → Tables → Discipline → (choices steps : ℕ) → (word : List ℕ) → List Waiting
-waits_told l r discipline choices steps word = if nat_le (length word) choices then waits_at_end l r discipline choices steps word else []
+-- Who waits where at the end of a word, if all do there. Its run may end before, with more output than is kept.
+abbrev pub waits_at_end : Legend → Tables → Discipline → (steps : ℕ) → (word : List ℕ) → List Waiting
+waits_at_end l r discipline steps word = if ends_waiting (run (slots r discipline) (length word) steps word) then who_waits l r discipline (length word) steps word else []

@@ -6,10 +6,10 @@ use Rattle.cp_merged.specs.Tallies.{tally}
 use Rattle.cp_outcomes.specs.declared.known.Known.{Known}
 use Rattle.cp_run.specs.Slots.{slots}
 use Rattle.cp_run.specs.Table.{table}
-use Rattle.cp_story.specs.Objects.{line_of}
 use Rattle.cp_walk.specs.Groups.{Tally}
 use Rattle.cp_walk.specs.Report.{same_outcome}
 use Rattle.cp_expectation.specs.declared.expectation.Expectation.{Expectation}
+use Rattle.cp_verdict.specs.endless.Said.{IsSaid}
 use Rattle.cp_verdict.specs.declared.endless.saying.MarkedEnds.{MarkedEnds}
 use Rattle.cp_verdict.specs.declared.program.Marked.{Marked}
 use Rattle.cp_show_mark.specs.EndsData.{ends_data}
@@ -29,7 +29,7 @@ saying s es doubtful m = if s.as_json then compact_text (mark_data s es doubtful
 
 -- the mark by schedules of any length
 abbrev pub ends_saying : Setting → MarkedEnds → List ℕ
-ends_saying s m = if s.as_json then line_of (ends_data s m) else ends_text s m
+ends_saying s m = if s.as_json then compact_text (ends_data s m) else ends_text s m
 
 -- what there is too much of, and what is known by fewer choices
 abbrev pub excess_saying : Setting → MarkExcess → (known : Option (ℕ × List ℕ)) → List ℕ
@@ -77,6 +77,6 @@ TellsSaying s es doubtful told said = ((m : Marked) × IsMarkTold s es doubtful 
 abbrev pub TellsText : Setting → List Expectation → Option (List ℕ) → ShowVerdict → List ℕ → Type 0
 TellsText s es doubtful told text = (said : List ℕ) × TellsSaying s es doubtful told said × (text ≡ ended s.as_json said)
 
--- by schedules of any length
-abbrev pub TellsEndsText : Setting → ShowVerdict → List ℕ → Type 0
-TellsEndsText s told text = (m : MarkedEnds) × (told ≡ ends_verdict_of m.mark) × (text ≡ ends_saying s m)
+-- By schedules of any length: what is told has each expectation in its turn, what is said of all, and how the mark was found.
+abbrev pub TellsEndsText : Setting → List Expectation → ShowVerdict → List ℕ → Type 0
+TellsEndsText s es told text = (m : MarkedEnds) × IsSaid s.states es m × (told ≡ ends_verdict_of m.mark) × (text ≡ ended s.as_json (ends_saying s m))

@@ -1,8 +1,9 @@
 //! The same as JSON.
 
-ghost use Rattle.std.specs.Prelude.{◌≡◌, IfOk, OnOk, map, option_map, string_bytes};
+ghost use Rattle.std.specs.Prelude.{◌≡◌, IfOk, OnOk, map, string_bytes};
 ghost use Rattle.serde_json.specs.View.{view};
-ghost use Rattle.cp_story.specs.Objects.{array_of, line_of, members_in, with_members};
+ghost use Rattle.serde_json.specs.Written.{compact_text};
+ghost use Rattle.cp_story.specs.Objects.{array_of, members_in, with_members};
 ghost use Rattle.cp_show_mark.specs.EndsData as spec;
 ghost use Rattle.cp_show_mark.specs.EndsText.{said_reason};
 ghost use Rattle.cp_show_mark.specs.MarkData.{notes_data};
@@ -26,7 +27,7 @@ pub fn ends_as_json(
     examinee: Examinee<'_>,
     marked: &MarkedEnds,
 ) -> Result<String, AllocError>
-    ensures { IfOk result (λ t. string_bytes t ≡ line_of (spec.ends_data (setting_of examinee.entry) marked.now)) }
+    ensures { IfOk result (λ t. string_bytes t ≡ compact_text (spec.ends_data (setting_of examinee.entry) marked.now)) }
 {
     let mut object = Object::new(alloc);
     put_mark(
@@ -38,7 +39,7 @@ pub fn ends_as_json(
         marked.stops,
         notes(alloc, marked)?,
     )?;
-    object.into_line()
+    object.into_value().to_string(alloc)
 }
 
 fn ends_mark_words(mark: EndsMark) -> &'static str

@@ -14,7 +14,7 @@ ghost use Rattle.cp_show_mark.specs.Given as given;
 ghost use Rattle.cp_show_mark.specs.MarkText.{setting_of};
 ghost use Rattle.cp_show_mark.specs.Showing as spec;
 ghost use Rattle.cp_show_mark.specs.Told as told_spec;
-ghost use Rattle.cp_show_mark.specs.Told.{IsExcessTold, SaysOfTallies, TellsEndsText, TellsKnown, TellsText, saying};
+ghost use Rattle.cp_show_mark.specs.Told.{IsExcessTold, SaysOfTallies, TellsEndsText, TellsKnown, TellsText};
 ghost use Rattle.cp_show_mark.specs.declared.answer.ShowVerdict.TheVariants.{TooMany};
 
 use crate::answer::{ShowAnswer, ShowVerdict};
@@ -28,7 +28,7 @@ use cp_outcomes::completing::greatest_known;
 use cp_outcomes::known::Known;
 use cp_progress::ObserveProgress;
 use cp_verdict::endless::{EndsMark, MarkSubject, MarkedEnds, mark_at_once, mark_in_turn};
-use cp_verdict::{MarkFault, Marked, Standing, expectations_in, mark_known, mark_named};
+use cp_verdict::{MarkFault, Standing, expectations_in, mark_known, mark_named};
 use cp_walk::Job;
 use std::alloc::{AllocError, Global};
 
@@ -143,7 +143,7 @@ fn mark_asked<O: ObserveProgress>(
     ensures mark { IfOk result (λ a. given.TellsAsked examinee.entry.options.now (with_tables examinee.entry.program.now (processes_of examinee.entry.legend.now)) reading.now.expectations.items (λ es. spec.TellsSlotMark examinee.entry.program.now (processes_of examinee.entry.legend.now) examinee.entry.options.now.discipline examinee.entry.options.now.choices examinee.entry.options.now.steps es a.verdict) (λ es. given.TellsEnds examinee.entry.program.now (processes_of examinee.entry.legend.now) examinee.entry.options.now es a.verdict) a.verdict) }
     ensures meaning { (t : Tree) → ∥ IsRead t.program ∥₁ → IsAccepted t → IsProgramOf t examinee.entry.program.now → IfOk result (λ a. given.TellsAsked examinee.entry.options.now (given.names_with t (processes_of examinee.entry.legend.now)) reading.now.expectations.items (λ es. spec.TellsNamedMark t (processes_of examinee.entry.legend.now) examinee.entry.options.now.discipline examinee.entry.options.now.choices examinee.entry.options.now.steps es a.verdict) (λ es. given.MeansEnds t (processes_of examinee.entry.legend.now) examinee.entry.options.now es a.verdict) a.verdict) }
     ensures text { is_endless examinee.entry.options.now.analysis ≡ false → IfOk result (λ a. given.TellsIf (given.are_asked examinee.entry.options.now (with_tables examinee.entry.program.now (processes_of examinee.entry.legend.now)) reading.now.expectations.items) (TellsText (setting_of examinee.entry) reading.now.expectations.items (option_map (λ w. w.now) reading.now.doubtful) a.verdict (string_bytes a.text)) a.verdict) }
-    ensures ends_text { is_endless examinee.entry.options.now.analysis ≡ true → IfOk result (λ a. given.TellsIf (given.are_asked examinee.entry.options.now (with_tables examinee.entry.program.now (processes_of examinee.entry.legend.now)) reading.now.expectations.items) (TellsEndsText (setting_of examinee.entry) a.verdict (string_bytes a.text)) a.verdict) }
+    ensures ends_text { is_endless examinee.entry.options.now.analysis ≡ true → IfOk result (λ a. given.TellsIf (given.are_asked examinee.entry.options.now (with_tables examinee.entry.program.now (processes_of examinee.entry.legend.now)) reading.now.expectations.items) (TellsEndsText (setting_of examinee.entry) reading.now.expectations.items a.verdict (string_bytes a.text)) a.verdict) }
 {
     let list = reading.expectations.as_slice();
     if let Some(said) = refusal(alloc, examinee, list)? {
@@ -164,7 +164,7 @@ fn judge_ends<O: ObserveProgress>(
     list: &[Expectation],
 ) -> Result<ShowAnswer, AllocError>
     ensures mark { IfOk result (λ a. given.TellsEnds examinee.entry.program.now (processes_of examinee.entry.legend.now) examinee.entry.options.now list.now a.verdict) }
-    ensures text { IfOk result (λ a. TellsEndsText (setting_of examinee.entry) a.verdict (string_bytes a.text)) }
+    ensures text { IfOk result (λ a. TellsEndsText (setting_of examinee.entry) list.now a.verdict (string_bytes a.text)) }
 {
     let Examinee {
         options,
@@ -194,13 +194,10 @@ fn ends_answer(
     marked: &MarkedEnds,
 ) -> Result<ShowAnswer, AllocError>
     ensures verdict { IfOk result (λ a. a.verdict ≡ spec.ends_verdict_of marked.now.mark) }
-    ensures text { IfOk result (λ a. string_bytes a.text ≡ told_spec.ends_saying (setting_of examinee.entry) marked.now) }
+    ensures text { IfOk result (λ a. string_bytes a.text ≡ told_spec.ended examinee.entry.as_json (told_spec.ends_saying (setting_of examinee.entry) marked.now)) }
 {
-    let text = ends_text(alloc, examinee, marked)?;
-    Ok(ShowAnswer {
-        verdict: ends_verdict_of(marked.mark),
-        text,
-    })
+    let said = ends_text(alloc, examinee, marked)?;
+    answer_of(examinee, ends_verdict_of(marked.mark), said)
 }
 
 fn ends_verdict_of(mark: EndsMark) -> ShowVerdict
@@ -233,7 +230,10 @@ fn mark_of<O: ObserveProgress>(
     let list = reading.expectations.as_slice();
     let states = examinee.options.states;
     match mark_named(alloc, job, examinee.legend, states, list, observer) {
-        Ok(marked) => told_answer(alloc, examinee, reading, &marked),
+        Ok(marked) => {
+            let said = mark_text(alloc, examinee, reading, &marked)?;
+            answer_of(examinee, verdict_of(marked.mark), said)
+        }
         Err(MarkFault::Memory) => Err(AllocError),
         Err(MarkFault::TooManyStates) => {
             too_many(alloc, examinee, observer, reading, MarkExcess::States)
@@ -244,32 +244,20 @@ fn mark_of<O: ObserveProgress>(
     }
 }
 
-fn told_answer(
-    alloc: Global,
-    examinee: Examinee<'_>,
-    reading: &Reading,
-    marked: &Marked,
-) -> Result<ShowAnswer, AllocError>
-    ensures verdict { IfOk result (λ a. a.verdict ≡ spec.verdict_of marked.now.mark) }
-    ensures text { IfOk result (λ a. string_bytes a.text ≡ told_spec.ended examinee.entry.as_json (saying (setting_of examinee.entry) reading.now.expectations.items (option_map (λ w. w.now) reading.now.doubtful) marked.now)) }
-{
-    let said = mark_text(alloc, examinee, reading, marked)?;
-    let text = end_line(examinee, said)?;
-    Ok(ShowAnswer {
-        verdict: verdict_of(marked.mark),
-        text,
-    })
-}
-
 // An object stands on a line of its own.
-fn end_line(examinee: Examinee<'_>, said: String) -> Result<String, AllocError>
-    ensures { IfOk result (λ t. string_bytes t ≡ told_spec.ended examinee.entry.as_json (string_bytes said)) }
+fn answer_of(
+    examinee: Examinee<'_>,
+    verdict: ShowVerdict,
+    said: String,
+) -> Result<ShowAnswer, AllocError>
+    ensures verdict { IfOk result (λ a. a.verdict ≡ verdict) }
+    ensures text { IfOk result (λ a. string_bytes a.text ≡ told_spec.ended examinee.entry.as_json (string_bytes said)) }
 {
     let mut text = said;
     if examinee.as_json {
         text.push_str("\n")?;
     }
-    Ok(text)
+    Ok(ShowAnswer { verdict, text })
 }
 
 fn verdict_of(mark: Standing) -> ShowVerdict
@@ -294,11 +282,7 @@ fn too_many<O: ObserveProgress>(
     ensures text { IfOk result (λ a. (said : List ℕ) × IsExcessTold (setting_of examinee.entry) reading.now.expectations.items (option_map (λ w. w.now) reading.now.doubtful) said × (string_bytes a.text ≡ told_spec.ended examinee.entry.as_json said)) }
 {
     let said = too_many_text(alloc, examinee, observer, reading, excess)?;
-    let text = end_line(examinee, said)?;
-    Ok(ShowAnswer {
-        verdict: ShowVerdict::TooMany,
-        text,
-    })
+    answer_of(examinee, ShowVerdict::TooMany, said)
 }
 
 fn too_many_text<O: ObserveProgress>(

@@ -47,7 +47,7 @@ pub use reason_words::{push_callers, push_continuing, reason_text};
 pub use reasons::{Caller, WaitReason, reasons_in};
 pub use round::first_of_round;
 pub use stopping::AbruptEnd;
-pub use story::{MOST_NUMBERS, Story, Wait, tell};
+pub use story::{Story, Wait, tell};
 pub use texts::{stop_words, text};
 pub use words::{
     end_words, error_words, happening_words, kind_words, output_words, push_call, push_returned,

@@ -32,9 +32,6 @@ use cp_run::{Job, Observe, RunEnd, TraceEvent, TraceLine, candidates, holders, o
 use cp_slots::Resolved;
 use std::alloc::{AllocError, Global};
 
-/// The most numbers of a word that is told.
-pub const MOST_NUMBERS: usize = 100;
-
 /// A process that waits when the run stops.
 #[derive(Drop)]
 pub struct Wait {
@@ -279,28 +276,28 @@ fn is_inside(state: &State, monitor: u8, process: u8) -> bool
     state.holder(monitor) == Some(process)
 }
 
-/// Runs a word from the opening state and tells what happens: the events of its trace, and the run's end.
+/// Runs a word from the opening state and tells what happens: the events of its trace, and the run's end. More choices than `choices` are not taken.
 /// `ticks` counts the steps that succeed.
 pub fn tell<S: Count>(
     alloc: Global,
     job: &Job<'_>,
+    choices: usize,
     legend: &Legend,
     word: &[u8],
     ticks: &mut S,
 ) -> Result<Story, AllocError>
-    requires { length word.now ≤ 100 }
-    ensures lines { IfOk result (λ s. lines_of s.events.items ≡ trace (slots job.now.program.now job.now.limits.discipline) job.now.limits.choices job.now.limits.steps word.now) }
-    ensures told { IfOk result (λ s. map told_of s.events.items ≡ story_of (legend_seen legend.now) job.now.program.now job.now.limits.discipline job.now.limits.choices job.now.limits.steps word.now) }
-    ensures choice { IfOk result (λ s. option_map decision_of s.last_choice ≡ (telling (legend_seen legend.now) job.now.program.now job.now.limits.discipline job.now.limits.choices job.now.limits.steps word.now).past.choice) }
-    ensures waits { IfOk result (λ s. map wait_of s.waits.items ≡ who_waits (legend_seen legend.now) job.now.program.now job.now.limits.discipline job.now.limits.choices job.now.limits.steps word.now) }
-    ensures answer { IfOk result (λ s. answer_of s.end ≡ run (slots job.now.program.now job.now.limits.discipline) job.now.limits.choices job.now.limits.steps word.now) }
-    ensures stop { IfOk result (λ s. option_map halted_seen s.stop ≡ how_halted (legend_seen legend.now) job.now.program.now job.now.limits.discipline job.now.limits.choices job.now.limits.steps word.now) }
-    ensures cause { IfOk result (λ s. s.cause ≡ cause_of_run job.now.program.now job.now.limits.discipline job.now.limits.choices job.now.limits.steps word.now) }
-    ensures violation { IfOk result (λ s. option_map violation_seen s.violation ≡ violation_of_run (legend_seen legend.now) job.now.program.now job.now.limits.discipline job.now.limits.choices job.now.limits.steps word.now) }
-    ensures reasons { IfOk result (λ s. map reason_seen s.reasons.items ≡ reasons_of_run (legend_seen legend.now) job.now.program.now job.now.limits.discipline job.now.limits.choices job.now.limits.steps word.now) }
-    ensures left { IfOk result (λ s. s.left ≡ numbers_left word.now (run (slots job.now.program.now job.now.limits.discipline) job.now.limits.choices job.now.limits.steps word.now)) }
+    ensures lines { IfOk result (λ s. lines_of s.events.items ≡ trace (slots job.now.program.now job.now.limits.discipline) choices job.now.limits.steps word.now) }
+    ensures told { IfOk result (λ s. map told_of s.events.items ≡ story_of (legend_seen legend.now) job.now.program.now job.now.limits.discipline choices job.now.limits.steps word.now) }
+    ensures choice { IfOk result (λ s. option_map decision_of s.last_choice ≡ (telling (legend_seen legend.now) job.now.program.now job.now.limits.discipline choices job.now.limits.steps word.now).past.choice) }
+    ensures waits { IfOk result (λ s. map wait_of s.waits.items ≡ who_waits (legend_seen legend.now) job.now.program.now job.now.limits.discipline choices job.now.limits.steps word.now) }
+    ensures answer { IfOk result (λ s. answer_of s.end ≡ run (slots job.now.program.now job.now.limits.discipline) choices job.now.limits.steps word.now) }
+    ensures stop { IfOk result (λ s. option_map halted_seen s.stop ≡ how_halted (legend_seen legend.now) job.now.program.now job.now.limits.discipline choices job.now.limits.steps word.now) }
+    ensures cause { IfOk result (λ s. s.cause ≡ cause_of_run job.now.program.now job.now.limits.discipline choices job.now.limits.steps word.now) }
+    ensures violation { IfOk result (λ s. option_map violation_seen s.violation ≡ violation_of_run (legend_seen legend.now) job.now.program.now job.now.limits.discipline choices job.now.limits.steps word.now) }
+    ensures reasons { IfOk result (λ s. map reason_seen s.reasons.items ≡ reasons_of_run (legend_seen legend.now) job.now.program.now job.now.limits.discipline choices job.now.limits.steps word.now) }
+    ensures left { IfOk result (λ s. s.left ≡ numbers_left word.now (run (slots job.now.program.now job.now.limits.discipline) choices job.now.limits.steps word.now)) }
     ensures signals { IfOk result (λ s. s.signals ≡ job.now.limits.discipline.signals) }
-    ensures ticks { S.count ticks.new ≤ S.count ticks.old + (job.now.limits.choices + 1) * job.now.limits.steps }
+    ensures ticks { S.count ticks.new ≤ S.count ticks.old + (choices + 1) * job.now.limits.steps }
 {
     let mut state = State::start(alloc, job.program, job.limits.discipline)?;
     let observer = Observer::new(alloc, legend, &state)?;
@@ -311,7 +308,7 @@ pub fn tell<S: Count>(
         events,
         aim: NONE,
     };
-    let end = observe_run(alloc, job, word, ticks, &mut state, &mut teller)?;
+    let end = observe_run(alloc, job, choices, word, ticks, &mut state, &mut teller)?;
     let left = count_left(word, &end);
     let Storyteller {
         observer,

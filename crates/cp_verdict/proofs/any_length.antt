@@ -9,6 +9,7 @@ pub mod Meant
 pub mod MeantAtOnce
 pub mod MeantMarks
 pub mod Processes
+pub mod Saying
 pub mod Telling
 pub mod Verdicts
 pub mod Vocabulary

@@ -5,3 +5,4 @@ pub mod Judged
 pub mod Knowledge
 pub mod Marked
 pub mod Naming
+pub mod Said

@@ -14,9 +14,9 @@ pub mod stops;
 pub mod waiting;
 
 pub use comments::expectations_in;
-pub use judging::{Judgement, judge};
+pub use judging::Judgement;
 pub use laws::{law_holds, law_output, law_stays};
-pub use marking::{Standing, judge_each, mark_of};
-pub use program::{MarkFault, Marked, Stops, mark_tallies};
+pub use marking::{Standing, mark_of};
+pub use program::{MarkFault, Marked, Stops};
 pub use seen::{Seen, SeenRow};
 pub use waiting::{mark_known, mark_named, names_who};

@@ -1,16 +1,9 @@
 //! Whether all of some expectations hold.
 
-ghost use Rattle.std.specs.Prelude.{◌≡◌, List, map, IfOk};
-ghost use Rattle.cp_run.specs.Table.{Line};
-ghost use Rattle.cp_walk.specs.Report.{outcomes_of};
-ghost use Rattle.cp_verdict.specs.Judged.{line_of};
+ghost use Rattle.std.specs.Prelude.{◌≡◌};
 ghost use Rattle.cp_verdict.specs.Marked as spec;
 
-use crate::judging::{Judgement, judge};
-use crate::seen::Seen;
-use cp_expectation::Expectation;
-use cp_slots::Resolved;
-use std::alloc::{AllocError, Global};
+use crate::judging::Judgement;
 
 /// What is said of an expectation, or of some together.
 #[derive(Clone, Copy, PartialEq, Eq)]
@@ -72,21 +65,4 @@ pub fn mark_of(judgements: &[Judgement]) -> Standing
     } else {
         Standing::Holds
     }
-}
-
-/// What the table with these outcomes, in the order of their first rows, says of each expectation.
-pub fn judge_each(
-    alloc: Global,
-    program: &Resolved,
-    expectations: &[Expectation],
-    seen: &[Seen],
-) -> Result<Vec<Judgement>, AllocError>
-    ensures { IfOk result (λ js. (lines : List Line) → map line_of seen.now ≡ outcomes_of lines → spec.AreJudged program.now.names lines expectations.now js.items) }
-{
-    let mut judgements = Vec::new(alloc);
-    for expectation in expectations {
-        let judgement = judge(alloc, program, expectation, seen)?;
-        judgements.push(judgement)?;
-    }
-    Ok(judgements)
 }

@@ -138,22 +138,6 @@ fn is_one_of(
     Ok(false)
 }
 
-/// Whether one schedule with this outcome settles an expectation.
-pub fn settles(
-    alloc: Global,
-    program: &Resolved,
-    expectation: &Expectation,
-    outcome: &Outcome,
-) -> Result<bool, AllocError>
-    ensures { IfOk result (λ b. b ≡ spec.settles program.now.names expectation.now outcome.now) }
-{
-    let is_named = is_one_of(alloc, program, expectation.topics.as_slice(), outcome)?;
-    match expectation.claim {
-        Claim::Only => Ok(!is_named && !is_limit(outcome.kind)),
-        _ => Ok(is_named),
-    }
-}
-
 /// Whether a schedule with this outcome was stopped by a limit, and what it would come to might settle an expectation.
 pub fn is_open(
     alloc: Global,

@@ -1,23 +1,20 @@
 //! The mark of a program, by the outcomes of all its schedules.
 
-ghost use Rattle.std.specs.Prelude.{◌≡◌, ◌||◌, List, map, IfOk};
+ghost use Rattle.std.specs.Prelude.{◌≡◌, ◌||◌, map, IfOk};
 ghost use Rattle.cp_run.specs.Slots.{slots};
-ghost use Rattle.cp_run.specs.Table.{Line, table};
+ghost use Rattle.cp_run.specs.Table.{table};
 ghost use Rattle.cp_walk.specs.Report.{same_outcome};
 ghost use Rattle.cp_merged.specs.Code.{tally_of};
 ghost use Rattle.cp_merged.specs.Tallies.{tally};
 ghost use Rattle.cp_verdict.specs.Judged.{line_of};
 ghost use Rattle.cp_verdict.specs.Limits.{AreStopsOf, ended_for_choices, ended_for_output, ended_for_steps};
-ghost use Rattle.cp_verdict.specs.Marked as spec;
 
 use crate::judging::Judgement;
-use crate::marking::{Standing, judge_each, mark_of};
+use crate::marking::Standing;
 use crate::seen::Seen;
-use cp_expectation::Expectation;
 use cp_merged::{MergeFault, Tallies, Tally, explore_merged_with};
 use cp_progress::ObserveProgress;
 use cp_run::OutcomeKind;
-use cp_slots::Resolved;
 use cp_walk::Job;
 use std::alloc::{AllocError, AllocFailed, Global};
 
@@ -117,24 +114,4 @@ pub fn outcomes_of<O: ObserveProgress>(
         Err(MergeFault::TooManyStates) => Err(MarkFault::TooManyStates),
         Err(MergeFault::TooManyOutcomes) => Err(MarkFault::TooManyOutcomes),
     }
-}
-
-/// What the table with these outcomes says of some expectations.
-pub fn mark_tallies(
-    alloc: Global,
-    program: &Resolved,
-    expectations: &[Expectation],
-    tallies: &[Tally],
-) -> Result<Marked, AllocError>
-    ensures { IfOk result (λ m. (lines : List Line) → map tally_of tallies.now ≡ tally same_outcome lines → spec.IsMarked program.now.names expectations.now lines m) }
-{
-    let seen = seen_of(alloc, tallies)?;
-    let judgements = judge_each(alloc, program, expectations, &seen)?;
-    let mark = mark_of(&judgements);
-    let stops = stops_of(&seen);
-    Ok(Marked {
-        judgements,
-        mark,
-        stops,
-    })
 }

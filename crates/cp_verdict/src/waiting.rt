@@ -1,7 +1,6 @@
 //! What is expected of who waits at the ends of schedules, where somebody is named.
 
 pub mod asking;
-pub mod judging;
 pub mod marking;
 pub mod matching;
 pub mod rows;

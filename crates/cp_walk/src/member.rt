@@ -31,7 +31,7 @@ pub fn member_rows<N: ObserveWalk>(
     };
     let mut halt = open(job, &mut state, &mut Uncounted, &mut Uncounted);
     for (place, process) in word.iter().enumerate() {
-        if is_over(job.limits, halt, place) {
+        if is_over(job.limits.choices as usize, halt, place) {
             return Ok(Vec::new(alloc));
         }
         if !may(job, &state, *process) {

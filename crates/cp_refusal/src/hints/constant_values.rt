@@ -31,10 +31,7 @@ impl<'a> Declarations<'a> {
     fn number_of_member(&self, member: usize, enumeration: usize) -> i64 {
         let mut value: i64 = 0;
         for one in &self.all {
-            if let Declared::Member(at) = one.what
-                && at == enumeration
-                && one.at < member
-            {
+            if one.at < member && matches!(one.what, Declared::Member(at) if at == enumeration) {
                 value = value.saturating_add(1);
             }
         }
@@ -46,7 +43,7 @@ impl<'a> Declarations<'a> {
         let mut name = name;
         let mut is_negative = false;
         for _ in 0..MOST_DEFINITIONS {
-            let Some(one) = self.find(name.name.as_str(), name.at) else {
+            let Some(one) = self.named(name) else {
                 return match name.name.as_str() {
                     "false" => Some(0),
                     "true" => Some(1),

@@ -1,7 +1,7 @@
 //! Processes that are started before a monitor that they are given is initialised.
 
 use crate::hints::Gathering;
-use crate::hints::written::{PlacedStatement, Written, name_alone};
+use crate::hints::written::{PlacedStatement, name_alone};
 use cp_tree::{Designator, Selector, Start, StatementKind, SystemKind};
 use std::alloc::AllocError;
 
@@ -23,32 +23,21 @@ struct PlacedStart<'a> {
     outermost_loop: Option<usize>,
 }
 
-impl NamedComponent {
-    fn may_be(self, other: NamedComponent) -> bool {
-        self.declared == other.declared
-            && match (self.index, other.index) {
-                (Some(one), Some(other)) => one == other,
-                _ => true,
-            }
+impl<'a> PlacedStart<'a> {
+    /// Whether it may initialise a component.
+    fn may_be_of(&self, other: NamedComponent) -> bool {
+        let is_other = match (self.component.index, other.index) {
+            (Some(one), Some(other)) => one != other,
+            _ => false,
+        };
+        self.component.declared == other.declared && !is_other
     }
-}
-
-/// Whether a component may be initialised by one of these.
-fn may_start(starts: &[PlacedStart], component: NamedComponent) -> bool {
-    for one in starts {
-        if one.component.may_be(component) {
-            return true;
-        }
-    }
-    false
 }
 
 impl<'a, 'b> Gathering<'a, 'b> {
     /// The component variable of the program, or the element of one, that a name with its selectors is.
     fn named_component(&self, node: &'a Designator) -> Option<NamedComponent> {
-        let one = self
-            .declarations
-            .find(node.name.name.as_str(), node.name.at)?;
+        let one = self.declarations.named(&node.name)?;
         let kind = self.declarations.component_of(&one)?.kind;
         let index = match node.selectors.first() {
             Some(Selector::Index(index)) => self.declarations.value(index),
@@ -65,7 +54,7 @@ impl<'a, 'b> Gathering<'a, 'b> {
     fn add_placed_starts(
         &self,
         all: &mut Vec<PlacedStart<'a>>,
-        placed: PlacedStatement<'a>,
+        placed: &PlacedStatement<'a>,
     ) -> Result<(), AllocError> {
         if let StatementKind::Init(starts) = &placed.statement.kind {
             for start in starts {
@@ -83,15 +72,18 @@ impl<'a, 'b> Gathering<'a, 'b> {
 
     /// Adds a hint on each monitor that is given to a process and initialised only behind the start of it.
     pub fn add_early_starts(&mut self) -> Result<(), AllocError> {
-        let written = Written::in_statements(self.alloc, &self.program.body.statements)?;
+        let program = self.program;
+        let Some(written) = self.written_in(&program.body) else {
+            return Ok(());
+        };
         let mut all = Vec::new(self.alloc);
         for one in &written.statements {
-            self.add_placed_starts(&mut all, *one)?;
+            self.add_placed_starts(&mut all, one)?;
         }
         for (number, one) in all.iter().enumerate() {
             let (before, behind) = all.split_at(number.min(all.len()));
             if one.component.kind == SystemKind::Process {
-                self.add_early_start(before, *one, behind)?;
+                self.add_early_start(before, *one, behind);
             }
         }
         Ok(())
@@ -102,51 +94,29 @@ impl<'a, 'b> Gathering<'a, 'b> {
         before: &[PlacedStart<'a>],
         process: PlacedStart<'a>,
         behind: &[PlacedStart<'a>],
-    ) -> Result<(), AllocError> {
+    ) {
         for argument in &process.start.arguments {
             if let Some(given) = name_alone(argument)
                 && let Some(monitor) = self.named_component(given)
-                && !may_start(before, monitor)
-                && let Some(line) = self.line_of_start(behind, monitor, process.outermost_loop)
+                && !before.iter().any(|one| one.may_be_of(monitor))
+                && let Some(later) = behind.iter().find(|one| one.may_be_of(monitor))
+                && (process.outermost_loop.is_none()
+                    || later.outermost_loop != process.outermost_loop)
             {
-                self.add_uninitialised(given, &process.start.target, line)?;
+                self.add_uninitialised(given, &process.start.target, &later.start.target);
             }
         }
-        Ok(())
     }
 
-    /// The line of the first of these by which a component may be initialised, where no loop is around both that and another start.
-    fn line_of_start(
-        &self,
-        starts: &[PlacedStart<'a>],
-        component: NamedComponent,
-        outermost_loop: Option<usize>,
-    ) -> Option<u32> {
-        for one in starts {
-            if one.component.may_be(component) {
-                return if outermost_loop.is_some() && one.outermost_loop == outermost_loop {
-                    None
-                } else {
-                    Some(self.line_of(one.start.target.name.at))
-                };
-            }
-        }
-        None
-    }
-
-    fn add_uninitialised(
-        &mut self,
-        given: &Designator,
-        process: &Designator,
-        line: u32,
-    ) -> Result<(), AllocError> {
+    fn add_uninitialised(&mut self, given: &Designator, process: &Designator, later: &Designator) {
         let name = given.name.name.as_str();
         let process = process.name.name.as_str();
+        let line = self.line_of(later.name.at);
         self.add(
             given.name.at,
             format_args!(
                 "{process} is started before {name} is initialised in line {line}: where it calls {name} before that, it is the run error not-init"
             ),
-        )
+        );
     }
 }

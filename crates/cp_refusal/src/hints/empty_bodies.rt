@@ -2,12 +2,10 @@
 
 use crate::declared::Declarations;
 use crate::hints::Gathering;
-use crate::hints::written::{Sequence, Written, WrittenName};
-use cp_tree::{Expression, Selector, Statement, StatementKind};
-use std::alloc::AllocError;
+use crate::hints::written::{Written, WrittenName};
+use cp_tree::{Selector, Statement, StatementKind};
 
 /// The `if`, `while` or `for` at the end of a statement whose `then` or `do` has nothing behind it.
-#[cycle(ends)]
 fn empty_at_end(statement: &Statement) -> Option<&Statement> {
     match &statement.kind {
         StatementKind::If(_, body, None)
@@ -24,8 +22,8 @@ fn empty_at_end(statement: &Statement) -> Option<&Statement> {
 
 impl<'a> Declarations<'a> {
     /// Whether a name with its selectors is a call of a routine of the program.
-    fn is_call(&self, written: WrittenName<'a>) -> bool {
-        let Some(one) = self.find(written.name.name.as_str(), written.name.at) else {
+    fn is_call(&self, written: &WrittenName<'a>) -> bool {
+        let Some(one) = self.named(written.name) else {
             return false;
         };
         let has_field = matches!(written.selectors.last(), Some(Selector::Field(_)));
@@ -35,50 +33,41 @@ impl<'a> Declarations<'a> {
 
 impl<'a, 'b> Gathering<'a, 'b> {
     /// Adds a hint on each `do` and `then` that a semicolon follows.
-    pub fn add_empty_bodies(&mut self, written: &Written<'a>) -> Result<(), AllocError> {
+    pub fn add_empty_bodies(&mut self, written: &Written<'a>) {
         for sequence in &written.sequences {
-            self.add_of_sequence(*sequence)?;
-        }
-        Ok(())
-    }
-
-    fn add_of_sequence(&mut self, sequence: Sequence<'a>) -> Result<(), AllocError> {
-        let behind = sequence.statements.iter().skip(1);
-        for (one, next) in sequence.statements.iter().zip(behind) {
-            if let Some(found) = empty_at_end(one) {
-                self.add_empty_body(found, next)?;
+            let behind = sequence.statements.iter().skip(1);
+            for (one, next) in sequence.statements.iter().zip(behind) {
+                if let Some(found) = empty_at_end(one) {
+                    self.add_empty_body(written, found, next);
+                }
             }
         }
-        Ok(())
     }
 
-    fn add_empty_body(&mut self, found: &'a Statement, next: &Statement) -> Result<(), AllocError> {
+    fn add_empty_body(&mut self, written: &Written<'a>, found: &Statement, next: &Statement) {
         let goes_on = !matches!(next.kind, StatementKind::Empty);
-        match &found.kind {
-            StatementKind::If(_, body, _) if goes_on => self.add(
-                body.at,
+        let (body, sentence) = match &found.kind {
+            StatementKind::If(_, body, _) if goes_on => (
+                body,
                 "this semicolon ends the if, which does nothing: what follows is no part of it",
             ),
-            StatementKind::For(_, _, _, _, body) if goes_on => self.add(
-                body.at,
+            StatementKind::For(_, _, _, _, body) if goes_on => (
+                body,
                 "this semicolon ends the for, which repeats nothing: what follows is no part of it",
             ),
-            StatementKind::While(test, body) if self.calls_nothing(test)? => self.add(
-                body.at,
+            StatementKind::While(_, body) if !self.calls_between(written, found.at, body.at) => (
+                body,
                 "this semicolon ends the while: what it tests never changes, and where that is true once, it goes round for ever",
             ),
-            _ => Ok(()),
-        }
+            _ => return,
+        };
+        self.add(body.at, sentence);
     }
 
-    /// Whether no call stands in an expression, so that no other process goes on while it is tested again and again.
-    fn calls_nothing(&self, test: &'a Expression) -> Result<bool, AllocError> {
-        let written = Written::in_expression(self.alloc, test)?;
-        for one in &written.names {
-            if self.declarations.is_call(*one) {
-                return Ok(false);
-            }
-        }
-        Ok(true)
+    /// Whether a call stands between two tokens, so that other processes go on while it is tested again and again.
+    fn calls_between(&self, written: &Written<'a>, from: usize, to: usize) -> bool {
+        written.names.iter().any(|one| from <= one.name.at
+            && one.name.at < to
+            && self.declarations.is_call(one))
     }
 }

@@ -2,7 +2,7 @@
 
 use crate::declared::{Declaration, Declared};
 use crate::hints::Gathering;
-use crate::hints::written::{Use, Written};
+use crate::hints::written::Use;
 use std::alloc::AllocError;
 
 /// The use of a declared name in a routine.
@@ -28,41 +28,28 @@ fn is_lost(uses: &[RoutineUse], local: usize) -> bool {
     is_set
 }
 
-/// Whether a routine uses what it declares, and another routine what that hides.
-fn is_used_twice(uses: &[RoutineUse], local: usize, hidden: usize) -> bool {
-    let mut is_local_used = false;
-    let mut is_hidden_used = false;
-    for one in uses {
-        is_local_used = is_local_used || one.declared == local;
-        is_hidden_used = is_hidden_used || one.declared == hidden;
-    }
-    is_local_used && is_hidden_used
+/// Whether what is declared at a token is used.
+fn is_used(uses: &[RoutineUse], declared: usize) -> bool {
+    uses.iter().any(|one| one.declared == declared)
 }
 
 impl<'a, 'b> Gathering<'a, 'b> {
     /// The permanent variable with the name of what is declared in a routine.
-    fn hidden_by(&self, local: &Declaration<'a>) -> Option<Declaration<'a>> {
-        for one in &self.declarations.all {
-            if one.is_permanent() && one.owner == local.owner && one.name == local.name {
-                return Some(*one);
-            }
-        }
-        None
+    fn hidden_by(&self, local: &Declaration<'a>) -> Option<&'b Declaration<'a>> {
+        self.declarations.all.iter().find(|one| {
+            one.is_permanent() && one.owner == local.owner && one.name == local.name
+        })
     }
 
     /// The uses of names in routines, in reading order.
     fn routine_uses(&self) -> Result<Vec<RoutineUse>, AllocError> {
         let mut uses = Vec::new(self.alloc);
-        for one in &self.declarations.bodies {
-            if !one.is_of_routine {
+        for written in self.bodies {
+            if !written.owned.is_of_routine {
                 continue;
             }
-            let written = Written::in_statements(self.alloc, &one.body.statements)?;
             for one in &written.names {
-                if let Some(declared) = self
-                    .declarations
-                    .find(one.name.name.as_str(), one.name.at)
-                {
+                if let Some(declared) = self.declarations.named(one.name) {
                     uses.push(RoutineUse {
                         declared: declared.at,
                         used: one.used,
@@ -73,31 +60,26 @@ impl<'a, 'b> Gathering<'a, 'b> {
         Ok(uses)
     }
 
-    /// Adds a hint on each name of a routine that hides a permanent variable, where one seems to be meant for the other.
+    /// Adds a hint on each name of a routine that hides a permanent variable, where one seems to be meant for the other: the name is lost, or another routine uses
+    /// the variable.
     pub fn add_hidden(&mut self) -> Result<(), AllocError> {
-        let declarations = self.declarations;
         let uses = self.routine_uses()?;
-        for local in &declarations.all {
-            if local.routine.is_empty() {
-                continue;
-            }
-            if let Some(variable) = self.hidden_by(local) {
+        for local in &self.declarations.all {
+            if !local.routine.is_empty()
+                && let Some(variable) = self.hidden_by(local)
+            {
                 let is_variable = matches!(local.what, Declared::Variable(_));
                 if is_variable && is_lost(&uses, local.at)
-                    || is_used_twice(&uses, local.at, variable.at)
+                    || is_used(&uses, local.at) && is_used(&uses, variable.at)
                 {
-                    self.add_hiding(local, variable)?;
+                    self.add_hiding(local, variable);
                 }
             }
         }
         Ok(())
     }
 
-    fn add_hiding(
-        &mut self,
-        local: &Declaration<'a>,
-        variable: Declaration<'a>,
-    ) -> Result<(), AllocError> {
+    fn add_hiding(&mut self, local: &Declaration<'a>, variable: &Declaration<'a>) {
         let line = self.line_of(variable.at);
         let (name, routine) = (local.name, local.routine);
         self.add(
@@ -105,6 +87,6 @@ impl<'a, 'b> Gathering<'a, 'b> {
             format_args!(
                 "this hides the permanent variable {name} of line {line}: in {routine} the name is this one alone"
             ),
-        )
+        );
     }
 }

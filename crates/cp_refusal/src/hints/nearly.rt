@@ -72,9 +72,9 @@ fn is_meant(comment: &[u8]) -> bool {
 impl<'a, 'b> Gathering<'a, 'b> {
     /// A hint on each comment that was meant to be an annotation, so that none is lost silently.
     pub fn add_nearly_annotations(&mut self) -> Result<(), AllocError> {
-        for span in comments(self.alloc, self.source, self.tokens)? {
+        for span in comments(self.alloc, self.source, self.declarations.tokens)? {
             if is_meant(text_in(self.source, span)) {
-                self.add_in(span, SENTENCE)?;
+                self.add_in(span, SENTENCE);
             }
         }
         Ok(())

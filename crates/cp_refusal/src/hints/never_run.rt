@@ -3,7 +3,6 @@
 use crate::hints::Gathering;
 use crate::hints::written::{Sequence, Written};
 use cp_tree::{Statement, StatementKind};
-use std::alloc::AllocError;
 
 /// The `cycle` by which a statement never ends, whatever is true when it is begun.
 #[cycle(cycles)]
@@ -32,16 +31,14 @@ impl<'a, 'b> Gathering<'a, 'b> {
         if !is_continue {
             return cycle_of(statement);
         }
-        match self.named_queue(statement) {
-            Some(queue) if !queue.is_delay => Some(statement),
-            _ => None,
-        }
+        let _queue = self.named_queue(statement, "continue")?;
+        Some(statement)
     }
 
     /// The first statement of a sequence that would do something and never runs, and why it does not.
     fn never_run(
         &self,
-        sequence: Sequence<'a>,
+        sequence: &Sequence<'a>,
         is_continue: bool,
     ) -> Option<(&'a Statement, &'a Statement)> {
         let mut last = None;
@@ -55,30 +52,24 @@ impl<'a, 'b> Gathering<'a, 'b> {
         None
     }
 
-    /// Adds a hint on the first of the statements behind each `continue`.
-    pub fn add_skipped(&mut self, written: &Written<'a>) -> Result<(), AllocError> {
+    /// Adds a hint on the first of the statements behind each `continue`, or behind each `cycle`.
+    pub fn add_never_run(&mut self, written: &Written<'a>, is_continue: bool) {
         for sequence in &written.sequences {
-            if let Some((statement, _)) = self.never_run(*sequence, true) {
+            let Some((statement, last)) = self.never_run(sequence, is_continue) else {
+                continue;
+            };
+            if is_continue {
                 self.add(
                     statement.at,
                     "this never runs, since continue ends the call of the entry procedure",
-                )?;
-            }
-        }
-        Ok(())
-    }
-
-    /// Adds a hint on the first of the statements behind each `cycle`.
-    pub fn add_behind_cycles(&mut self, written: &Written<'a>) -> Result<(), AllocError> {
-        for sequence in &written.sequences {
-            if let Some((statement, cycle)) = self.never_run(*sequence, false) {
-                let line = self.line_of(cycle.at);
+                );
+            } else {
+                let line = self.line_of(last.at);
                 self.add(
                     statement.at,
                     format_args!("this never runs: the cycle of line {line} never ends"),
-                )?;
+                );
             }
         }
-        Ok(())
     }
 }

@@ -1,84 +1,64 @@
 //! Where a process that waits does not look again whether it may go on, or waits whatever is true.
 
-use crate::declared::Declared;
 use crate::extent::{Part, part_extent};
 use crate::hints::Gathering;
 use crate::hints::written::Written;
 use cp_tree::{Statement, StatementKind};
-use std::alloc::AllocError;
 
 impl<'a, 'b> Gathering<'a, 'b> {
     /// Adds a hint on each wait in a branch of an `if`, where no loop tests again.
-    pub fn add_once_tested(&mut self, written: &Written<'a>) -> Result<(), AllocError> {
+    pub fn add_once_tested(&mut self, written: &Written<'a>) {
         for one in &written.statements {
             if one.around.is_branch
                 && !one.around.is_tested_again
                 && let StatementKind::Call(called, arguments) = &one.statement.kind
                 && let Some(queue) = arguments.first()
                 && self.declarations.is_standard(called.name.at, "delay")
-                && !self.is_counted()
             {
-                let queue = self.text_of(part_extent(
-                    self.declarations.tokens,
-                    queue.at,
-                    Part::Expression,
-                ))?;
-                let queue = queue.as_str();
-                self.add(
-                    one.statement.at,
-                    format_args!(
-                        "under --signals continue whoever waits at {queue} has to look again: while in place of if"
-                    ),
-                )?;
+                self.add_look_again(one.statement.at, queue.at);
             }
         }
-        Ok(())
+    }
+
+    fn add_look_again(&mut self, at: usize, queue: usize) {
+        let queue = self.text_of(part_extent(self.declarations.tokens, queue, Part::Expression));
+        let queue = queue.as_str();
+        self.add(
+            at,
+            format_args!(
+                "under --signals continue whoever waits at {queue} has to look again: while in place of if"
+            ),
+        );
     }
 
     /// Whether a statement waits in a single queue.
     fn is_plain_delay(&self, statement: &'a Statement) -> bool {
-        match self.named_queue(statement) {
-            Some(queue) => queue.is_delay && queue.named.selectors.is_empty(),
+        match self.named_queue(statement, "delay") {
+            Some(queue) => queue.selectors.is_empty(),
             None => false,
         }
     }
 
-    /// Whether a call may be left in a statement, by a `continue`.
-    fn may_leave(&self, statement: &'a Statement) -> Result<bool, AllocError> {
-        let written = Written::in_statement(self.alloc, statement)?;
-        for one in &written.statements {
-            if let Some(queue) = self.named_queue(one.statement)
-                && !queue.is_delay
-            {
-                return Ok(self.continue_returns);
-            }
-        }
-        Ok(false)
+    /// Whether a `continue` before a token ends the call of a body.
+    fn may_leave_before(&self, written: &Written<'a>, at: usize) -> bool {
+        self.continue_returns
+            && written.statements.iter().any(|one| {
+                one.statement.at < at && self.named_queue(one.statement, "continue").is_some()
+            })
     }
 
     /// Adds a hint on each wait to which every call of a routine comes.
-    pub fn add_plain_delays(&mut self) -> Result<(), AllocError> {
-        for one in &self.declarations.all {
-            if let Declared::Routine(routine) = one.what {
-                self.add_plain_delays_in(&routine.body.statements)?;
-            }
+    pub fn add_plain_delays(&mut self, written: &Written<'a>) {
+        if !written.owned.is_of_routine {
+            return;
         }
-        Ok(())
-    }
-
-    fn add_plain_delays_in(&mut self, statements: &'a [Statement]) -> Result<(), AllocError> {
-        let mut is_left = false;
-        for one in statements {
-            if self.is_plain_delay(one) && !is_left {
+        for one in &written.owned.body.statements {
+            if self.is_plain_delay(one) && !self.may_leave_before(written, one.at) {
                 self.add(
                     one.at,
                     "every process that comes here waits; one queue holds one process, and a second one is the run error queue-in-use",
-                )?;
-            }
-            if !is_left {
-                is_left = self.may_leave(one)?;
+                );
             }
         }
-        Ok(())
     }
 }

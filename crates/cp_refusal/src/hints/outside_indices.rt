@@ -1,70 +1,72 @@
 //! Constant indices that no element has.
 
-use crate::declared::Declared;
+use crate::declared::{Declarations, Declared};
 use crate::hints::Gathering;
 use crate::hints::written::{Written, WrittenName};
 use cp_scope::{Base, Meaning, Range, ValueType};
 use cp_tree::{Expression, Identifier, Selector, SimpleKind, Type, TypeKind};
-use std::alloc::AllocError;
 
 /// Through how many definitions a name is followed.
 const MOST_DEFINITIONS: usize = 20;
 
-impl<'a, 'b> Gathering<'a, 'b> {
+impl<'a> Declarations<'a> {
+    /// The type that a program defines with this name.
+    fn defined_type(&self, name: &str, at: usize) -> Option<&'a Type> {
+        match self.find(name, at)?.what {
+            Declared::Type(written) => Some(written),
+            _ => None,
+        }
+    }
+
     /// The array or the record for which a type stands, as the checker knows it.
     fn structure(&self, written: &'a Type) -> Option<ValueType> {
         let mut written = written;
         for _ in 0..MOST_DEFINITIONS {
-            let name = match &written.kind {
+            let simple = match &written.kind {
                 TypeKind::Array(..) => return Some(ValueType::Array(written.at)),
                 TypeKind::Record(..) => return Some(ValueType::Record(written.at)),
-                TypeKind::Simple(simple) => &simple.kind,
+                TypeKind::Simple(simple) => simple,
                 TypeKind::Set(_) => return None,
             };
-            let SimpleKind::Name(name) = name else {
+            let SimpleKind::Name(name) = &simple.kind else {
                 return None;
             };
-            match self.declarations.find(name.as_str(), written.at)?.what {
-                Declared::Type(other) => written = other,
-                _ => return None,
-            }
+            written = self.defined_type(name.as_str(), written.at)?;
         }
         None
     }
 
     /// The array or the record that a variable or a parameter is.
-    fn structure_of(&self, name: &'a Identifier) -> Option<ValueType> {
-        let declarations = self.declarations;
-        match declarations.find(name.name.as_str(), name.at)?.what {
-            Declared::Variable(written) => self.structure(written),
+    fn structure_of(&self, name: &Identifier) -> Option<ValueType> {
+        let written = match self.named(name)?.what {
+            Declared::Variable(written) => written,
             Declared::Parameter(named) | Declared::VarParameter(named) => {
-                match declarations.find(named.name.as_str(), named.at)?.what {
-                    Declared::Type(written) => self.structure(written),
-                    _ => None,
-                }
+                self.defined_type(named.name.as_str(), named.at)?
             }
-            _ => None,
-        }
+            _ => return None,
+        };
+        self.structure(written)
     }
+}
 
+impl<'a, 'b> Gathering<'a, 'b> {
     /// Adds a hint on each index that is a constant outside of the bounds of its array.
-    pub fn add_outside_indices(&mut self, written: &Written<'a>) -> Result<(), AllocError> {
+    pub fn add_outside_indices(&mut self, written: &Written<'a>) {
         for one in &written.names {
             if !one.selectors.is_empty() {
-                self.add_outside_of(*one)?;
+                self.add_outside_of(one);
             }
         }
-        Ok(())
     }
 
-    fn add_outside_of(&mut self, written: WrittenName<'a>) -> Result<(), AllocError> {
+    fn add_outside_of(&mut self, written: &WrittenName<'a>) {
         let shapes = self.declarations.scopes.shapes();
-        let mut whole = self.structure_of(written.name);
+        let mut whole = self.declarations.structure_of(written.name);
         for selector in written.selectors {
             whole = match (whole, selector) {
                 (Some(ValueType::Array(at)), Selector::Index(index)) => match shapes.array(at) {
                     Some(array) => {
-                        self.add_if_outside(array.index, index)?;
+                        self.add_if_outside(array.index, index);
                         Some(array.element)
                     }
                     None => None,
@@ -78,14 +80,13 @@ impl<'a, 'b> Gathering<'a, 'b> {
                 _ => None,
             };
         }
-        Ok(())
     }
 
-    fn add_if_outside(&mut self, bounds: Range, index: &'a Expression) -> Result<(), AllocError> {
+    fn add_if_outside(&mut self, bounds: Range, index: &'a Expression) {
         let (low, high) = (bounds.low, bounds.high);
         match (self.declarations.value(index), bounds.base) {
-            (None, _) => Ok(()),
-            (Some(value), _) if low <= value && value <= high => Ok(()),
+            (None, _) => {}
+            (Some(value), _) if low <= value && value <= high => {}
             (Some(value), Base::Integer) => self.add(
                 index.at,
                 format_args!(

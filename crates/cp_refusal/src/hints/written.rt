@@ -1,9 +1,9 @@
-//! What is written in the bodies of a program, in reading order.
+//! What is written in a body of a program, in reading order.
 
 use crate::declared::OwnedBody;
 use cp_tree::{
-    Arm, Designator, Expression, Factor, FactorKind, Identifier, Selector, Start, Statement,
-    StatementKind, Sum, Term,
+    Designator, Expression, Factor, FactorKind, Identifier, Selector, Statement, StatementKind,
+    Sum, Term,
 };
 use std::alloc::{AllocError, Global};
 
@@ -26,6 +26,26 @@ const NOTHING_AROUND: Around = Around {
     is_branch: false,
     is_tested_again: false,
 };
+
+impl Around {
+    /// What is around the parts of a statement.
+    fn within(self, statement: &Statement) -> Around {
+        let (is_loop, is_tested) = match &statement.kind {
+            StatementKind::While(..) | StatementKind::Repeat(..) => (true, true),
+            StatementKind::For(..) | StatementKind::Cycle(_) => (true, false),
+            _ => (false, false),
+        };
+        Around {
+            outermost_loop: match self.outermost_loop {
+                None if is_loop => Some(statement.at),
+                outermost => outermost,
+            },
+            is_nested: true,
+            is_branch: self.is_branch || matches!(statement.kind, StatementKind::If(..)),
+            is_tested_again: self.is_tested_again || is_tested,
+        }
+    }
+}
 
 /// A statement, and what is around it.
 #[derive(Clone, Copy, Drop)]
@@ -57,255 +77,209 @@ pub struct WrittenName<'a> {
     pub used: Use,
 }
 
-/// The statements and names of bodies, with all that is inside of others. A name that is set stands behind the value that it is given.
+/// A node of a body that may have others in it.
+#[derive(Clone, Copy, Drop)]
+enum Node<'a> {
+    Sequence(&'a [Statement], Around),
+    Statement(&'a Statement, Around),
+    Factor(&'a Factor),
+    Name(WrittenName<'a>),
+}
+
+/// The statements and names of a body, with all that is inside of others. A name that is set stands behind the value that it is given.
 #[derive(Drop)]
 pub struct Written<'a> {
+    pub owned: OwnedBody<'a>,
     pub statements: Vec<PlacedStatement<'a>>,
     pub sequences: Vec<Sequence<'a>>,
     pub names: Vec<WrittenName<'a>>,
+    /// The nodes that are still to be read, the next one last.
+    left: Vec<Node<'a>>,
+    is_refused: bool,
 }
 
 impl<'a> Written<'a> {
-    fn new(alloc: Global) -> Written<'a> {
-        Written {
+    /// What is written in a body.
+    pub fn in_body(alloc: Global, owned: OwnedBody<'a>) -> Result<Written<'a>, AllocError> {
+        let mut written = Written {
+            owned,
             statements: Vec::new(alloc),
             sequences: Vec::new(alloc),
             names: Vec::new(alloc),
-        }
-    }
-
-    /// What is written in all bodies of a program.
-    pub fn in_bodies(alloc: Global, bodies: &[OwnedBody<'a>]) -> Result<Written<'a>, AllocError> {
-        let mut written = Written::new(alloc);
-        for one in bodies {
-            written.add_sequence(&one.body.statements, NOTHING_AROUND)?;
-        }
-        Ok(written)
-    }
-
-    /// What is written in a body.
-    pub fn in_statements(
-        alloc: Global,
-        statements: &'a [Statement],
-    ) -> Result<Written<'a>, AllocError> {
-        let mut written = Written::new(alloc);
-        written.add_sequence(statements, NOTHING_AROUND)?;
-        Ok(written)
-    }
-
-    /// What is written in a statement.
-    pub fn in_statement(
-        alloc: Global,
-        statement: &'a Statement,
-    ) -> Result<Written<'a>, AllocError> {
-        let mut written = Written::new(alloc);
-        written.add_statement(statement, NOTHING_AROUND)?;
-        Ok(written)
-    }
-
-    /// What is written in an expression.
-    pub fn in_expression(alloc: Global, node: &'a Expression) -> Result<Written<'a>, AllocError> {
-        let mut written = Written::new(alloc);
-        written.add_expression(node)?;
-        Ok(written)
-    }
-
-    #[cycle(statements)]
-    fn add_sequence(
-        &mut self,
-        statements: &'a [Statement],
-        around: Around,
-    ) -> Result<(), AllocError> {
-        self.sequences.push(Sequence { statements })?;
-        for one in statements {
-            self.add_statement(one, around)?;
-        }
-        Ok(())
-    }
-
-    #[cycle(statements)]
-    fn add_statement(
-        &mut self,
-        statement: &'a Statement,
-        around: Around,
-    ) -> Result<(), AllocError> {
-        self.statements.push(PlacedStatement { statement, around })?;
-        let inside = Around {
-            is_nested: true,
-            ..around
+            left: Vec::new(alloc),
+            is_refused: false,
         };
+        written.add(Node::Sequence(&owned.body.statements, NOTHING_AROUND));
+        written.read();
+        if written.is_refused {
+            return Err(AllocError);
+        }
+        Ok(written)
+    }
+
+    /// Reads all that is left, and what is in it: fewer nodes than there are addresses.
+    fn read(&mut self) {
+        for _ in 0..usize::MAX {
+            let Some(node) = self.left.pop() else {
+                return;
+            };
+            let before = self.left.len();
+            self.read_node(node);
+            let from = before.min(self.left.len());
+            self.left[from..].reverse();
+        }
+    }
+
+    fn read_node(&mut self, node: Node<'a>) {
+        let is_kept = match node {
+            Node::Sequence(statements, around) => {
+                for statement in statements {
+                    self.add(Node::Statement(statement, around));
+                }
+                self.sequences.push(Sequence { statements }).is_ok()
+            }
+            Node::Statement(statement, around) => {
+                self.add_parts(statement, around.within(statement));
+                self.statements
+                    .push(PlacedStatement { statement, around })
+                    .is_ok()
+            }
+            Node::Factor(node) => {
+                self.add_operands(node);
+                true
+            }
+            Node::Name(name) => self.names.push(name).is_ok(),
+        };
+        self.is_refused = self.is_refused || !is_kept;
+    }
+
+    /// Adds a node behind those that stand before it in the same one.
+    fn add(&mut self, node: Node<'a>) {
+        if self.left.push(node).is_err() {
+            self.is_refused = true;
+        }
+    }
+
+    fn add_parts(&mut self, statement: &'a Statement, within: Around) {
         match &statement.kind {
-            StatementKind::Empty => Ok(()),
+            StatementKind::Empty => {}
             StatementKind::Assign(target, value) => {
-                self.add_expression(value)?;
-                self.add_designator(target, Use::Set)
+                self.add_expression(value);
+                self.add_designator(target, Use::Set);
             }
             StatementKind::Call(called, arguments) => self.add_call(called, arguments),
-            StatementKind::Init(starts) => self.add_starts(starts),
-            StatementKind::Block(inner) => self.add_sequence(inner, inside),
+            StatementKind::Init(starts) => {
+                for one in starts {
+                    self.add_call(&one.target, &one.arguments);
+                }
+            }
+            StatementKind::Block(inner) | StatementKind::Cycle(inner) => {
+                self.add(Node::Sequence(inner, within));
+            }
             StatementKind::If(test, then, otherwise) => {
-                let inside = Around {
-                    is_branch: true,
-                    ..inside
-                };
-                self.add_expression(test)?;
-                self.add_statement(then, inside)?;
-                match otherwise {
-                    Some(inner) => self.add_statement(inner, inside),
-                    None => Ok(()),
+                self.add_expression(test);
+                self.add(Node::Statement(then, within));
+                if let Some(inner) = otherwise {
+                    self.add(Node::Statement(inner, within));
                 }
             }
             StatementKind::Case(selector, arms, _) => {
-                self.add_expression(selector)?;
-                self.add_arms(arms, inside)
+                self.add_expression(selector);
+                for one in arms {
+                    self.add(Node::Statement(&one.body, within));
+                }
             }
-            StatementKind::Asserted(_, tests, inner) => {
-                self.add_expressions(tests)?;
-                self.add_statement(inner, inside)
-            }
-            _ => self.add_loop(
-                statement,
-                Around {
-                    outermost_loop: Some(around.outermost_loop.unwrap_or(statement.at)),
-                    ..inside
-                },
-            ),
-        }
-    }
-
-    #[cycle(statements)]
-    fn add_arms(&mut self, arms: &'a [Arm], around: Around) -> Result<(), AllocError> {
-        for one in arms {
-            self.add_statement(&one.body, around)?;
-        }
-        Ok(())
-    }
-
-    #[cycle(statements)]
-    fn add_loop(&mut self, statement: &'a Statement, around: Around) -> Result<(), AllocError> {
-        let tested = Around {
-            is_tested_again: true,
-            ..around
-        };
-        match &statement.kind {
             StatementKind::While(test, body) => {
-                self.add_expression(test)?;
-                self.add_statement(body, tested)
+                self.add_expression(test);
+                self.add(Node::Statement(body, within));
             }
             StatementKind::Repeat(inner, test) => {
-                self.add_sequence(inner, tested)?;
-                self.add_expression(test)
+                self.add(Node::Sequence(inner, within));
+                self.add_expression(test);
             }
             StatementKind::For(variable, from, _, to, body) => {
-                self.add_expression(from)?;
-                self.add_expression(to)?;
-                self.add_name(variable, &[], Use::Set)?;
-                self.add_name(variable, &[], Use::Read)?;
-                self.add_statement(body, around)
+                self.add_expression(from);
+                self.add_expression(to);
+                self.add_name(variable, &[], Use::Set);
+                self.add_name(variable, &[], Use::Read);
+                self.add(Node::Statement(body, within));
             }
-            StatementKind::Cycle(inner) => self.add_sequence(inner, around),
-            _ => Ok(()),
+            StatementKind::Asserted(_, tests, inner) => {
+                self.add_expressions(tests);
+                self.add(Node::Statement(inner, within));
+            }
         }
     }
 
-    fn add_starts(&mut self, starts: &'a [Start]) -> Result<(), AllocError> {
-        for one in starts {
-            self.add_call(&one.target, &one.arguments)?;
-        }
-        Ok(())
-    }
-
-    fn add_name(
-        &mut self,
-        name: &'a Identifier,
-        selectors: &'a [Selector],
-        used: Use,
-    ) -> Result<(), AllocError> {
-        self.names.push(WrittenName {
+    fn add_name(&mut self, name: &'a Identifier, selectors: &'a [Selector], used: Use) {
+        self.add(Node::Name(WrittenName {
             name,
             selectors,
             used,
-        })?;
-        Ok(())
+        }));
     }
 
-    #[cycle(expressions)]
-    fn add_designator(&mut self, node: &'a Designator, used: Use) -> Result<(), AllocError> {
+    fn add_designator(&mut self, node: &'a Designator, used: Use) {
         for one in &node.selectors {
             if let Selector::Index(index) = one {
-                self.add_expression(index)?;
+                self.add_expression(index);
             }
         }
-        self.add_name(&node.name, &node.selectors, used)
+        self.add_name(&node.name, &node.selectors, used);
     }
 
-    fn add_call(
-        &mut self,
-        called: &'a Designator,
-        arguments: &'a [Expression],
-    ) -> Result<(), AllocError> {
-        self.add_designator(called, Use::Read)?;
+    fn add_call(&mut self, called: &'a Designator, arguments: &'a [Expression]) {
+        self.add_designator(called, Use::Read);
         for one in arguments {
             match name_alone(one) {
-                Some(passed) => self.add_designator(passed, Use::Passed)?,
-                None => self.add_expression(one)?,
+                Some(passed) => self.add_designator(passed, Use::Passed),
+                None => self.add_expression(one),
             }
         }
-        Ok(())
     }
 
-    #[cycle(expressions)]
-    fn add_expressions(&mut self, nodes: &'a [Expression]) -> Result<(), AllocError> {
+    fn add_expressions(&mut self, nodes: &'a [Expression]) {
         for one in nodes {
-            self.add_expression(one)?;
-        }
-        Ok(())
-    }
-
-    #[cycle(expressions)]
-    fn add_expression(&mut self, node: &'a Expression) -> Result<(), AllocError> {
-        self.add_sum(&node.left)?;
-        match &node.right {
-            Some((_, right)) => self.add_sum(right),
-            None => Ok(()),
+            self.add_expression(one);
         }
     }
 
-    #[cycle(expressions)]
-    fn add_sum(&mut self, node: &'a Sum) -> Result<(), AllocError> {
-        self.add_term(&node.first)?;
+    fn add_expression(&mut self, node: &'a Expression) {
+        self.add_sum(&node.left);
+        if let Some((_, right)) = &node.right {
+            self.add_sum(right);
+        }
+    }
+
+    fn add_sum(&mut self, node: &'a Sum) {
+        self.add_term(&node.first);
         for (_, term) in &node.more {
-            self.add_term(term)?;
+            self.add_term(term);
         }
-        Ok(())
     }
 
-    #[cycle(expressions)]
-    fn add_term(&mut self, node: &'a Term) -> Result<(), AllocError> {
-        self.add_factor(&node.first)?;
+    fn add_term(&mut self, node: &'a Term) {
+        self.add(Node::Factor(&node.first));
         for (_, factor) in &node.more {
-            self.add_factor(factor)?;
+            self.add(Node::Factor(factor));
         }
-        Ok(())
     }
 
-    #[cycle(expressions)]
-    fn add_factor(&mut self, node: &'a Factor) -> Result<(), AllocError> {
+    fn add_operands(&mut self, node: &'a Factor) {
         match &node.kind {
             FactorKind::Named(named, arguments) => {
-                self.add_designator(named, Use::Read)?;
-                self.add_expressions(arguments)
+                self.add_designator(named, Use::Read);
+                self.add_expressions(arguments);
             }
             FactorKind::Group(inner) => self.add_expression(inner),
-            FactorKind::Not(inner) => self.add_factor(inner),
+            FactorKind::Not(inner) => self.add(Node::Factor(inner)),
             FactorKind::Set(elements) => self.add_expressions(elements),
-            FactorKind::Number(_) | FactorKind::Character(_) => Ok(()),
+            FactorKind::Number(_) | FactorKind::Character(_) => {}
         }
     }
 }
 
 /// The name with its selectors that an expression is, where it is nothing else, be it in parentheses or not.
-#[cycle(expressions)]
 pub fn name_alone(node: &Expression) -> Option<&Designator> {
     let first = &node.left.first;
     if node.right.is_some()

@@ -1,7 +1,7 @@
 -- What the code finds first is what settles an expectation first.
 use Rattle.cp_verdict.proofs.any_length.Vocabulary.{◌≡◌, ◌∙◌, List, map, sym, ap, find, Option, Some, None, option_map, string_bytes, Bor}
 use Rattle.cp_verdict.proofs.any_length.Vocabulary.{HasTexts, KnownEnd, KnownEnds, KnownValue, Names, Processes, Spellings, Waiting, Witness}
-use Rattle.std.proofs.Common.{◌&&◌, Bool, [], ◌∷◌, cond, false, not, refl, true, if◌then◌else◌}
+use Rattle.std.proofs.Common.{◌&&◌, Bool, [], ◌∷◌, cond, false, not, refl, if◌then◌else◌}
 use Rattle.std.specs.List.{list_any}
 use Rattle.std.specs.Option.{option_or}
 use Rattle.std.specs.Prelude.{◌≢◌}

@@ -15,7 +15,7 @@ use Rattle.cp_expectation.specs.declared.expectation.Topic.{Topic}
 use Rattle.cp_verdict.specs.Outputs.{value_text}
 use Rattle.cp_verdict.specs.endless.Behaviour.{Behaviour, Finding, Ends, Shows, Waits, IsSo, on_slots}
 use Rattle.cp_verdict.specs.endless.Expectations as ends
-use Rattle.cp_verdict.specs.endless.Expectations.{asks_some, asks_some_by, is_about, is_value_named, is_waiting_named}
+use Rattle.cp_verdict.specs.endless.Expectations.{asks_some, asks_some_by, is_about, is_value_named}
 use Rattle.std.specs.Option.{option_or}
 use Rattle.cp_verdict.specs.endless.Judged as by_first
 use Rattle.cp_verdict.specs.endless.Judged.{earlier_of, found_by, judgement_of}

@@ -52,7 +52,7 @@ any_at t (y ∷ ys) (suc i) x at h = split (t y) (any_at t ys i x at h)
     split true e = refl
     split false e = e
 
-somebody : (es : List Expectation) (e : Expectation) → Contains es e → names_who e ≡ true → name_who es ≡ true
+pub somebody : (es : List Expectation) (e : Expectation) → Contains es e → names_who e ≡ true → name_who es ≡ true
 somebody es e c asks = let at = place_of es e c in any_at names_who es at.0 e at.1 asks
 
 -- ---- an expectation that names nobody is true where it was

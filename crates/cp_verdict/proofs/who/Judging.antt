@@ -17,7 +17,8 @@ use Rattle.cp_verdict.specs.Expectations.{is_limit, is_open_by, settles_by}
 use Rattle.cp_verdict.specs.Judged as by_rows
 use Rattle.cp_verdict.specs.Judged.{has_open, judgement_of, line_of, row_line}
 use Rattle.cp_verdict.specs.endless.Naming.{Processes}
-use Rattle.cp_verdict.specs.waiting.Asking.{names_who}
+use Rattle.cp_expectation.specs.declared.expectation.Topic.{Topic}
+use Rattle.cp_verdict.specs.waiting.Asking.{is_of_who, names_who}
 use Rattle.cp_verdict.specs.waiting.Judged as spec
 use Rattle.cp_verdict.specs.waiting.Judged.{IsJudged, IsJudgedAny, IsSettling}
 use Rattle.cp_verdict.specs.waiting.Matching as matching
@@ -28,7 +29,7 @@ use Rattle.cp_verdict.specs.declared.seen.Seen.{Seen}
 use Rattle.cp_verdict.specs.declared.seen.SeenRow.{SeenRow}
 use Rattle.cp_verdict.specs.declared.waiting.rows.SeenWaiting.{SeenWaiting}
 use Rattle.cp_verdict.proofs.Finding.{any_of, never_apart, only_apart}
-use Rattle.cp_verdict.proofs.any_length.Finding.{found_at, found_none}
+use Rattle.cp_verdict.proofs.any_length.Finding.{find_map, find_same, found_at, found_none}
 use Rattle.cp_verdict.proofs.who.Lists.{some_passes}
 use Rattle.cp_verdict.proofs.who.Tests.{all_same, any_same, neither, row_aside, row_unasked}
 
@@ -178,14 +179,24 @@ module _ (names : Spellings) (ps : Processes) (who : List ℕ → List ℕ) (e :
 
 -- ---- where nobody is named
 
+-- an outcome settles the same, whoever waits
+row_settles : (c : Claim) (names : Spellings) (ps : Processes) (who : List ℕ) (ts : List Topic) (o : Outcome) → list_any is_of_who ts ≡ false → settles_by c (matching.is_one_of names ps ts who) o ≡ settles_by c (rows.is_one_of names ts) o
+row_settles Never names ps who ts o none = row_unasked names ps who ts o none
+row_settles Sometimes names ps who ts o none = row_unasked names ps who ts o none
+row_settles Only names ps who ts o none = ap (λ b. not b && not (is_limit o.kind)) (row_unasked names ps who ts o none)
+
+-- what the code finds is the first row of those that it goes through
+pub found_plainly : (names : Spellings) (ps : Processes) (e : Expectation) (xs : List SeenWaiting) → names_who e ≡ false → option_map waiting_line (find (λ x. matching.settles names ps e x.who.now x.outcome.now) xs) ≡ by_rows.first_settling e.claim (rows.is_one_of names e.topics.items) (map waiting_line xs)
+found_plainly names ps e xs none =
+    ap (option_map waiting_line) (find_same (λ (x : SeenWaiting). matching.settles names ps e x.who.now x.outcome.now) (λ (x : SeenWaiting). settles_by e.claim (rows.is_one_of names e.topics.items) x.outcome.now) xs (λ x. row_settles e.claim names ps x.who.now e.topics.items x.outcome.now none)) ∙
+    sym (find_map waiting_line (λ l. settles_by e.claim (rows.is_one_of names e.topics.items) l.outcome) xs)
+
 module _ (names : Spellings) (ps : Processes) (who : List ℕ → List ℕ) (e : Expectation) (lines : List Line) (none : names_who e ≡ false) where
   same_named : (l : Line) → spec.is_named names ps who e l ≡ rows.is_one_of names e.topics.items l.outcome
   same_named l = row_unasked names ps (who_of who l) e.topics.items l.outcome none
 
   same_settles : (c : Claim) (l : Line) → settles_by c (matching.is_one_of names ps e.topics.items (who_of who l)) l.outcome ≡ settles_by c (rows.is_one_of names e.topics.items) l.outcome
-  same_settles Never l = same_named l
-  same_settles Sometimes l = same_named l
-  same_settles Only l = ap (λ b. not b && not (is_limit l.outcome.kind)) (same_named l)
+  same_settles c l = row_settles c names ps (who_of who l) e.topics.items l.outcome none
 
   pub same_true : (c : Claim) → spec.is_true_by c (spec.is_named names ps who e) lines ≡ rows.is_true_by c (rows.is_one_of names e.topics.items) lines
   same_true Never = ap not (any_same (spec.is_named names ps who e) (λ l. rows.is_one_of names e.topics.items l.outcome) lines same_named)

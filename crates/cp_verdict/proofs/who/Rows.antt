@@ -11,8 +11,9 @@ use Rattle.cp_run.specs.Table.{Line, IsAmong}
 use Rattle.cp_run.specs.declared.outcome.Outcome.{Outcome}
 use Rattle.cp_walk.specs.Report.{outcomes_of}
 use Rattle.cp_ends.proofs.Searching.Lists.{contains_at}
+use Rattle.cp_ends.proofs.named.Kinds.{contains_map}
 use Rattle.cp_waiting_ends.proofs.Waits.{take_one}
-use Rattle.cp_waiting_ends.specs.Waiting.{WaitsSo, entry_word, those_in}
+use Rattle.cp_waiting_ends.specs.Waiting.{WaitsSo, ends_words, entry_word, those_in}
 use Rattle.cp_waiting_ends.specs.declared.end.WaitingEnd.{WaitingEnd}
 use Rattle.cp_waiting_ends.specs.declared.ends.WaitingEnds.{WaitingEnds}
 use Rattle.cp_verdict.specs.Judged.{line_of}
@@ -94,6 +95,9 @@ module _ (who : List ℕ → List ℕ) (lines : List Line) (seen : List Seen) (e
 
 pub none_long : (xs : List SeenWaiting) → xs ≡ [] → HaveShortWords xs
 none_long xs is = subst HaveShortWords (sym is) (λ x c. (let less = c.1 in absurd (omega (arith, less))))
+
+pub none_short : (ends : WaitingEnds) → ends_words ends ≡ [] → HaveShortEnds ends
+none_short ends is = λ e c. (let none = subst (λ l. Contains l (entry_word e)) is (contains_map entry_word ends.known.entries e c) in let less = none.1 in absurd (omega (arith, less)))
 
 pub one_short : (xs ys : List SeenWaiting) (x : SeenWaiting) → ys ≡ xs ++ x ∷ [] → length x.first.now ≤ 100 → HaveShortWords xs → HaveShortWords ys
 one_short xs ys x is short h = subst HaveShortWords (sym is) (λ y c. ⊎_elim (λ (l : Contains xs y). h y l) (λ (e : x ≡ y). subst (λ (z : SeenWaiting). length z.first.now ≤ 100) e short) (Contains-push_cases xs x y c))

@@ -1,10 +1,12 @@
 -- The judgements of some expectations and one more, and the mark of all, where they may name who waits at an end.
 use Rattle.std.proofs.Common.{◌≡◌, ◌⊎◌, inl, inr, ◌∙◌, ◌+◌, ◌<◌, ◌≤◌, ℕ, Bool, true, false, ◌||◌, if◌then◌else◌, List, [], ◌∷◌, ◌++◌, length, get_or, take, Option, None, Some, refl, sym, ap, subst}
 use Rattle.std.proofs.lemmas.List.{take_all, take_more}
+use Rattle.cp_walk.specs.Report.{outcomes_of}
 use Rattle.cp_walk.specs.Text.{Spellings}
 use Rattle.cp_run.specs.Table.{Line, IsAmong, Here, There}
 use Rattle.cp_expectation.specs.declared.expectation.Expectation.{Expectation}
 use Rattle.cp_verdict.specs.Judged.{row_line}
+use Rattle.cp_verdict.specs.Limits.{AreStopsOf}
 use Rattle.cp_verdict.specs.Marked as by_rows
 use Rattle.cp_verdict.specs.Marked.{Each, has_against, has_unsettled, is_against, is_unsettled, mark_of}
 use Rattle.cp_verdict.specs.endless.Naming.{Processes}
@@ -13,12 +15,11 @@ use Rattle.cp_verdict.specs.waiting.Judged.{IsJudged, IsJudgedAny}
 use Rattle.cp_verdict.specs.waiting.Marked.{AreJudged, FailsOf, HoldsOf, IsMarkOf, IsMarked, OpenOf}
 use Rattle.cp_verdict.specs.declared.judging.Judgement.{Judgement}
 use Rattle.cp_verdict.specs.declared.judging.Judgement.TheVariants as judgement
-use Rattle.cp_verdict.specs.declared.marking.Standing.{Standing}
 use Rattle.cp_verdict.specs.declared.marking.Standing.TheVariants as mark
 use Rattle.cp_verdict.specs.declared.program.Marked.{Marked}
-use Rattle.cp_verdict.proofs.who.EndsMarks.{unnamed}
-use Rattle.cp_verdict.proofs.who.Judging.{judged_by_rows, same_true, settling, unsettled}
-use Rattle.cp_verdict.proofs.who.Lists.{contained}
+use Rattle.cp_verdict.specs.declared.program.Stops.{Stops}
+use Rattle.cp_verdict.proofs.Stopped.{stops_of_all}
+use Rattle.cp_verdict.proofs.Verdicts as by_first
 use Rattle.cp_verdict.proofs.who.Tests.{neither}
 
 -- ---- one more
@@ -103,39 +104,22 @@ module _ (names : Spellings) (ps : Processes) (who : List ℕ → List ℕ) (lin
       split false true h k = (each_open es js m h, some_open es js m k)
       split false false h k = each_holds es js m h k
 
-  -- ---- where nobody is named
+  -- ---- the whole
 
-  each_by_rows : (es : List Expectation) (js : List Judgement) → name_who es ≡ false → by_rows.AreJudged names lines es js → AreJudged J es js
-  each_by_rows [] [] none m = tt
-  each_by_rows (e ∷ es) (j ∷ js) none m = let n = neither (names_who e) (name_who es) none in (judged_by_rows names ps who e lines n.0 j m.0, each_by_rows es js n.1 m.1)
-  each_by_rows _ _ none m = absurd m
+  -- the limits are those of all rows
+  stops_so : (seen : List Line) (stops : Stops) → seen ≡ outcomes_of lines → AreStopsOf seen stops → AreStopsOf lines stops
+  stops_so seen stops rows h = stops_of_all lines stops (subst (λ ls. AreStopsOf ls stops) rows h)
 
-  each_weaker : (P Q : Expectation → Type 0) (es : List Expectation) → ((e : Expectation) → IsAmong e es → P e → Q e) → Each P es → Each Q es
-  each_weaker P Q [] f h = tt
-  each_weaker P Q (e ∷ es) f h = (f e (Here es) h.0, each_weaker P Q es (λ x i. f x (There e es i)) h.1)
+  pub marked_so : (es : List Expectation) (m : Marked) (seen : List Line) → seen ≡ outcomes_of lines → AreJudged J es m.judgements.items → m.mark ≡ mark_of m.judgements.items → AreStopsOf seen m.stops → IsMarked names ps who es lines m
+  marked_so es m seen rows judged mark stops = record { judged = judged; together = subst (IsMarkOf names ps who es lines) (sym mark) (marked es m.judgements.items judged); stops = stops_so seen m.stops rows stops }
 
-  fails_so : (e : Expectation) (against : Option Line) → names_who e ≡ false → by_rows.FailsOf names lines e against → FailsOf names ps who lines e against
-  fails_so e (Some l) none h = (same_true names ps who e lines none e.claim ∙ h.0, h.1, settling names ps who e lines none l h.2)
-  fails_so e None none h = (same_true names ps who e lines none e.claim ∙ h.0, h.1, h.2)
+  -- where nobody is named, each is judged by the first rows
+  each_plainly : (es : List Expectation) (js : List Judgement) → name_who es ≡ false → AreJudged J es js → by_rows.AreJudged names lines es js
+  each_plainly [] [] none m = tt
+  each_plainly (e ∷ es) (j ∷ js) none m = let n = neither (names_who e) (name_who es) none in (m.0.1 n.0, each_plainly es js n.1 m.1)
+  each_plainly _ _ none m = absurd m
 
-  holds_so : (e : Expectation) → names_who e ≡ false → by_rows.HoldsOf names lines e → HoldsOf names ps who lines e
-  holds_so e none h = (same_true names ps who e lines none e.claim ∙ h.0, h.1)
-
-  open_so : (e : Expectation) → names_who e ≡ false → by_rows.OpenOf names lines e → OpenOf names ps who lines e
-  open_so e none h = (unsettled names ps who e lines none h.0, h.1)
-
-  mark_by_rows : (es : List Expectation) (s : Standing) → name_who es ≡ false → by_rows.IsMarkOf names es lines s → IsMarkOf names ps who es lines s
-  mark_by_rows es mark.Holds none h = each_weaker (by_rows.HoldsOf names lines) (HoldsOf names ps who lines) es (λ e i x. holds_so e (unnamed es none e (contained es e i)) x) h
-  mark_by_rows es mark.Fails none h = (h.0, h.1, h.2, fails_so h.0 h.1 (unnamed es none h.0 (contained es h.0 h.2)) h.3)
-  mark_by_rows es mark.Open none h = (
-    each_weaker (λ e. by_rows.HoldsOf names lines e ⊎ by_rows.OpenOf names lines e) (λ e. HoldsOf names ps who lines e ⊎ OpenOf names ps who lines e) es (λ e i x. one e (unnamed es none e (contained es e i)) x) h.0,
-    (h.1.0, h.1.1, open_so h.1.0 (unnamed es none h.1.0 (contained es h.1.0 h.1.1)) h.1.2),
-  )
-    where
-      one : (e : Expectation) → names_who e ≡ false → by_rows.HoldsOf names lines e ⊎ by_rows.OpenOf names lines e → HoldsOf names ps who lines e ⊎ OpenOf names ps who lines e
-      one e n (inl x) = inl (holds_so e n x)
-      one e n (inr x) = inr (open_so e n x)
-
-  -- a mark by first rows is one
-  pub marked_by_rows : (es : List Expectation) (m : Marked) → name_who es ≡ false → by_rows.IsMarked names es lines m → IsMarked names ps who es lines m
-  marked_by_rows es m none h = record { judged = each_by_rows es m.judgements.items none h.judged; together = mark_by_rows es m.mark none h.together; stops = h.stops }
+  pub marked_plainly : (es : List Expectation) (m : Marked) (seen : List Line) → name_who es ≡ false → seen ≡ outcomes_of lines → AreJudged J es m.judgements.items → m.mark ≡ mark_of m.judgements.items → AreStopsOf seen m.stops → by_rows.IsMarked names es lines m
+  marked_plainly es m seen none rows judged mark stops =
+      let each = each_plainly es m.judgements.items none judged in
+      record { judged = each; together = subst (by_rows.IsMarkOf names es lines) (sym mark) (by_first.marked names lines es m.judgements.items each); stops = stops_so seen m.stops rows stops }

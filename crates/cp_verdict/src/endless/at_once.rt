@@ -1,8 +1,10 @@
 //! Whether all of some expectations hold of schedules of any length, by a search that makes kernel calls at once.
 
-ghost use Rattle.std.specs.Prelude.{◌≡◌, ◌≤◌, ◌⊎◌, IfOk, false, true};
+ghost use Rattle.std.specs.Prelude.{◌≡◌, ◌≤◌, ◌⊎◌, List, IfOk, false, true};
+ghost use Rattle.cp_expectation.specs.declared.expectation.Expectation.{Expectation};
 ghost use Rattle.cp_verdict.specs.endless.AtOnce as spec;
 ghost use Rattle.cp_verdict.specs.endless.Naming.{processes_of};
+ghost use Rattle.cp_verdict.specs.endless.Said.{IsSaid, IsSaidAlone};
 
 use crate::endless::knowing_at_once::knowledge_at_once;
 use crate::endless::marking::{MarkSubject, ask_waits, mark_list, tell};
@@ -24,7 +26,8 @@ pub fn mark_in_turn<O: ObserveProgress>(
     list: &[Expectation],
     observer: &mut O,
 ) -> Result<MarkedEnds, AllocError>
-    ensures { 1 ≤ subject.entry.most → IfOk result (λ m. spec.IsEndsMark subject.entry.program.now (processes_of subject.entry.legend.now) subject.entry.limits.discipline subject.entry.limits.steps subject.entry.most list.now m.mark) }
+    ensures mark { 1 ≤ subject.entry.most → IfOk result (λ m. spec.IsEndsMark subject.entry.program.now (processes_of subject.entry.legend.now) subject.entry.limits.discipline subject.entry.limits.steps subject.entry.most list.now m.mark) }
+    ensures said { IfOk result (λ m. IsSaid subject.entry.most list.now m) }
 {
     let marked = mark_list(alloc, subject, list, observer)?;
     match marked.mark {
@@ -43,6 +46,7 @@ fn mark_again<O: ObserveProgress>(
 ) -> Result<MarkedEnds, AllocError>
     ensures same { spec.can_be_at_once subject.entry.limits.discipline list.now ≡ false → IfOk result (λ m. m.mark ≡ marked.mark) }
     ensures again { IfOk result (λ m. spec.IsAgain subject.entry.program.now (processes_of subject.entry.legend.now) subject.entry.limits.discipline subject.entry.limits.steps list.now marked.mark m.mark) }
+    ensures said { IsSaidAlone subject.entry.most false list.now marked → IfOk result (λ m. IsSaid subject.entry.most list.now m) }
 {
     if can_be_at_once(subject.limits.discipline, list) {
         let again = search_at_once(alloc, subject, list, observer)?;
@@ -59,7 +63,8 @@ fn tell_again(
     marked: MarkedEnds,
     again: MarkedEnds,
 ) -> Result<MarkedEnds, AllocError>
-    ensures { IfOk result (λ m. (m.mark ≡ marked.mark) ⊎ (m.mark ≡ again.mark)) }
+    ensures mark { IfOk result (λ m. (m.mark ≡ marked.mark) ⊎ (m.mark ≡ again.mark)) }
+    ensures said { (es : List Expectation) → IsSaidAlone subject.entry.most false es marked → IsSaidAlone subject.entry.most true es again → IfOk result (λ m. IsSaid subject.entry.most es m) }
 {
     match again.mark {
         EndsMark::TooMany => marked.with_line("so there are with kernel calls at once\n"),
@@ -90,6 +95,7 @@ pub fn mark_at_once<O: ObserveProgress>(
 ) -> Result<MarkedEnds, AllocError>
     ensures mark { spec.can_be_at_once subject.entry.limits.discipline list.now ≡ true → IfOk result (λ m. spec.IsMarkAtOnce subject.entry.program.now (processes_of subject.entry.legend.now) subject.entry.limits.steps list.now m.mark) }
     ensures states { 1 ≤ subject.entry.most → spec.can_be_at_once subject.entry.limits.discipline list.now ≡ false → IfOk result (λ m. spec.IsEndsMark subject.entry.program.now (processes_of subject.entry.legend.now) subject.entry.limits.discipline subject.entry.limits.steps subject.entry.most list.now m.mark) }
+    ensures said { IfOk result (λ m. IsSaid subject.entry.most list.now m) }
 {
     if can_be_at_once(subject.limits.discipline, list) {
         search_at_once(alloc, subject, list, observer)
@@ -105,7 +111,8 @@ fn search_at_once<O: ObserveProgress>(
     list: &[Expectation],
     observer: &mut O,
 ) -> Result<MarkedEnds, AllocError>
-    ensures { spec.can_be_at_once subject.entry.limits.discipline list.now ≡ true → IfOk result (λ m. spec.IsMarkAtOnce subject.entry.program.now (processes_of subject.entry.legend.now) subject.entry.limits.steps list.now m.mark) }
+    ensures mark { spec.can_be_at_once subject.entry.limits.discipline list.now ≡ true → IfOk result (λ m. spec.IsMarkAtOnce subject.entry.program.now (processes_of subject.entry.legend.now) subject.entry.limits.steps list.now m.mark) }
+    ensures said { IfOk result (λ m. IsSaidAlone subject.entry.most true list.now m) }
 {
     let MarkSubject {
         program,

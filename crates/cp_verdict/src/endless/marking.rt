@@ -9,6 +9,7 @@ ghost use Rattle.cp_waits.specs.Named.{TellAsked};
 ghost use Rattle.cp_verdict.specs.endless.Knowledge.{IsKnown, KnowsWaits, stops_of};
 ghost use Rattle.cp_verdict.specs.endless.Marked as spec;
 ghost use Rattle.cp_verdict.specs.endless.Naming.{processes_of};
+ghost use Rattle.cp_verdict.specs.endless.Said.{IsSaidAlone};
 ghost use Rattle.cp_verdict.specs.waiting.Asking.{name_who};
 ghost use Rattle.cp_verdict.specs.waiting.EndsMarked as who_spec;
 ghost use Rattle.cp_verdict.specs.waiting.Known.{KnowsWho};
@@ -49,6 +50,7 @@ pub fn mark_list<O: ObserveProgress>(
     ensures meaning { 1 ≤ subject.entry.most → name_who list.now ≡ false → IfOk result (λ m. spec.IsMeantMark subject.entry.program.now (processes_of subject.entry.legend.now) subject.entry.limits.discipline subject.entry.limits.steps list.now m.mark) }
     ensures who { 1 ≤ subject.entry.most → IfOk result (λ m. who_spec.IsMarkOf subject.entry.program.now (processes_of subject.entry.legend.now) subject.entry.limits.discipline subject.entry.limits.steps subject.entry.most list.now m.mark) }
     ensures who_meant { 1 ≤ subject.entry.most → IfOk result (λ m. who_spec.IsMeantMark subject.entry.program.now (processes_of subject.entry.legend.now) subject.entry.limits.discipline subject.entry.limits.steps list.now m.mark) }
+    ensures said { IfOk result (λ m. IsSaidAlone subject.entry.most false list.now m) }
 {
     let known = knowledge(alloc, subject, list, observer)?;
     let verdict = verdict_on(subject.legend, &known, list);
@@ -126,6 +128,7 @@ pub fn tell(
 ) -> Result<MarkedEnds, AllocError>
     ensures mark { IfOk result (λ m. m.mark ≡ spec.mark_of verdict.entry known.now.looked) }
     ensures stops { IfOk result (λ m. m.stops ≡ stops_of known.now) }
+    ensures said { IfOk result (λ m. IsSaidAlone subject.entry.most at_once list.now m) }
 {
     let mark = mark_of(verdict, known);
     let note = note_on(alloc, subject.most, known, mark, at_once)?;

@@ -1,6 +1,9 @@
 //! What is said with a mark.
 
-ghost use Rattle.std.specs.Prelude.{◌≡◌, IfOk};
+ghost use Rattle.std.specs.Prelude.{◌≡◌, ◌++◌, IfOk, string_bytes};
+ghost use Rattle.cp_expectation.specs.Written.{expectation_text};
+ghost use Rattle.cp_verdict.specs.endless.Knowledge as known_spec;
+ghost use Rattle.cp_verdict.specs.endless.Said as spec;
 
 use crate::endless::judging::{EndsJudgement, is_whole, judge};
 use crate::endless::known::{KnownEnd, KnownEnds, Witness};
@@ -55,7 +58,11 @@ pub struct MarkedEnds {
 impl MarkedEnds {
     /// Adds a line on how the mark was found.
     pub fn with_line(mut self, line: &str) -> Result<MarkedEnds, AllocError>
-        ensures { IfOk result (λ m. m.mark ≡ self.mark) }
+        ensures mark { IfOk result (λ m. m.mark ≡ self.mark) }
+        ensures note { IfOk result (λ m. m.note ≡ self.note) }
+        ensures each { IfOk result (λ m. m.each ≡ self.each) }
+        ensures stops { IfOk result (λ m. m.stops ≡ self.stops) }
+        ensures last { IfOk result (λ m. string_bytes m.last ≡ string_bytes self.last ++ line.now) }
     {
         self.last.push_str(line)?;
         Ok(self)
@@ -70,7 +77,9 @@ pub fn sayings_of(
     list: &[Expectation],
     before: &str,
     open: &str,
-) -> Result<Vec<Said>, AllocError> {
+) -> Result<Vec<Said>, AllocError>
+    ensures { IfOk result (λ each. spec.AreSaid list.now each.items) }
+{
     let mut each = Vec::new(alloc);
     for expectation in list {
         each.push(saying_of(alloc, legend, known, expectation, before, open)?)?;
@@ -85,7 +94,9 @@ fn saying_of(
     expectation: &Expectation,
     before: &str,
     open: &str,
-) -> Result<Said, AllocError> {
+) -> Result<Said, AllocError>
+    ensures { IfOk result (λ said. string_bytes said.expectation ≡ expectation_text expectation.now) }
+{
     let mut reason = String::new(alloc);
     let mut against = None;
     let standing = match judge(legend, known, expectation) {
@@ -145,7 +156,9 @@ pub fn note_on(
     known: &KnownEnds,
     mark: EndsMark,
     at_once: bool,
-) -> Result<String, AllocError> {
+) -> Result<String, AllocError>
+    ensures { IfOk result (λ note. string_bytes note ≡ spec.note_text most at_once mark (known_spec.stops_of known.now)) }
+{
     match mark {
         EndsMark::Holds => String::from_str(alloc, held_words(known, at_once)),
         EndsMark::TooMany if at_once => format!(in alloc;
@@ -156,7 +169,9 @@ pub fn note_on(
     }
 }
 
-fn held_words(known: &KnownEnds, at_once: bool) -> &'static str {
+fn held_words(known: &KnownEnds, at_once: bool) -> &'static str
+    ensures { result.now ≡ spec.held_text (known_spec.is_whole known.now) at_once }
+{
     match (is_whole(known), at_once) {
         (false, _) => "shown by a schedule\n",
         (true, false) => "for schedules of any length\n",

@@ -1,13 +1,13 @@
 //! The mark of a program, also where expectations name who waits.
 
-ghost use Rattle.std.specs.Prelude.{◌≡◌, ℕ, List, false, map, IfOk};
-ghost use Rattle.cp_machine.specs.declared.discipline.Discipline.{Discipline};
+ghost use Rattle.std.specs.Prelude.{◌≡◌, ℕ, List, false, true, map, IfOk};
 ghost use Rattle.cp_run.specs.Slots.{slots};
 ghost use Rattle.cp_run.specs.Table.{Line, table};
 ghost use Rattle.cp_walk.specs.Report.{outcomes_of, same_outcome};
 ghost use Rattle.cp_endless_laws.specs.Silent.{waits_on_slots};
 ghost use Rattle.cp_merged.specs.Code.{tally_of};
 ghost use Rattle.cp_merged.specs.Tallies.{tally};
+ghost use Rattle.cp_verdict.specs.Judged as judged_by_rows;
 ghost use Rattle.cp_verdict.specs.Judged.{line_of};
 ghost use Rattle.cp_verdict.specs.Marked as by_rows;
 ghost use Rattle.cp_verdict.specs.Meant as meant_by_rows;
@@ -19,13 +19,12 @@ ghost use Rattle.cp_verdict.specs.waiting.Meant.{IsMeantMark, IsSlotMark};
 ghost use Rattle.cp_verdict.specs.waiting.Rows.{AreEndsIn, AreRowsOf, HaveShortEnds, HaveShortWords};
 ghost use Rattle.cp_verdict.specs.waiting.Who.{who_at};
 
-use crate::judging::{self, Judgement};
+use crate::judging::{Judgement, judge};
 use crate::marking::mark_of;
-use crate::program::{MarkFault, Marked, mark_tallies, outcomes_of, seen_of, stops_of};
+use crate::program::{MarkFault, Marked, outcomes_of, seen_of, stops_of};
 use crate::seen::Seen;
 use crate::waiting::asking::{name_who, names_who};
-use crate::waiting::judging::judge;
-use crate::waiting::rows::{SeenWaiting, rows_of};
+use crate::waiting::rows::{SeenWaiting, first_rows, rows_of};
 use cp_expectation::Expectation;
 use cp_legend::Legend;
 use cp_merged::Tally;
@@ -79,9 +78,17 @@ pub fn mark_known<O: ObserveProgress>(
         let marked = mark_rows(alloc, job.program, legend, expectations, tallies, &ends)?;
         Ok(marked)
     } else {
-        let marked = mark_tallies(alloc, job.program, expectations, tallies)?;
+        let ends = no_ends(alloc);
+        let marked = mark_rows(alloc, job.program, legend, expectations, tallies, &ends)?;
         Ok(marked)
     }
+}
+
+// Where nobody is named, no end is asked for.
+fn no_ends(alloc: Global) -> WaitingEnds
+    ensures { HaveShortEnds result }
+{
+    WaitingEnds::none(alloc)
 }
 
 // Who waits at the ends of all schedules of a job.
@@ -101,7 +108,7 @@ fn ends_of<O: ObserveProgress>(
     Ok(noted.note)
 }
 
-// What the table with these outcomes, and with these ends at which all wait, says of some expectations.
+// What the table with these outcomes says of some expectations, and with these ends at which all wait of those that name somebody.
 fn mark_rows(
     alloc: Global,
     program: &Resolved,
@@ -111,7 +118,8 @@ fn mark_rows(
     ends: &WaitingEnds,
 ) -> Result<Marked, AllocError>
     requires { HaveShortEnds ends.now }
-    ensures { IfOk result (λ m. (who : List ℕ → List ℕ) (lines : List Line) → map tally_of tallies.now ≡ tally same_outcome lines → AreEndsIn who lines ends.now → spec.IsMarked program.now.names (processes_of legend.now) who expectations.now lines m) }
+    ensures marked { IfOk result (λ m. (who : List ℕ → List ℕ) (lines : List Line) → map tally_of tallies.now ≡ tally same_outcome lines → (asking.name_who expectations.now ≡ true → AreEndsIn who lines ends.now) → spec.IsMarked program.now.names (processes_of legend.now) who expectations.now lines m) }
+    ensures rows { asking.name_who expectations.now ≡ false → IfOk result (λ m. (lines : List Line) → map tally_of tallies.now ≡ tally same_outcome lines → by_rows.IsMarked program.now.names expectations.now lines m) }
 {
     let seen = seen_of(alloc, tallies)?;
     let rows = rows_of(alloc, &seen, ends)?;
@@ -125,7 +133,7 @@ fn mark_rows(
     })
 }
 
-// What the table with these outcomes and rows says of each expectation.
+// What it says of each expectation.
 fn judge_each(
     alloc: Global,
     program: &Resolved,
@@ -135,7 +143,7 @@ fn judge_each(
     rows: &[SeenWaiting],
 ) -> Result<Vec<Judgement>, AllocError>
     requires { HaveShortWords rows.now }
-    ensures { IfOk result (λ js. (who : List ℕ → List ℕ) (lines : List Line) → map line_of seen.now ≡ outcomes_of lines → AreRowsOf who lines rows.now → spec.AreJudged (IsJudgedAny program.now.names (processes_of legend.now) who lines) expectations.now js.items) }
+    ensures { IfOk result (λ js. (who : List ℕ → List ℕ) (lines : List Line) → map line_of seen.now ≡ outcomes_of lines → (asking.name_who expectations.now ≡ true → AreRowsOf who lines rows.now) → spec.AreJudged (IsJudgedAny program.now.names (processes_of legend.now) who lines) expectations.now js.items) }
 {
     let mut judgements = Vec::new(alloc);
     for expectation in expectations {
@@ -154,11 +162,25 @@ fn judge_any(
     rows: &[SeenWaiting],
 ) -> Result<Judgement, AllocError>
     requires { HaveShortWords rows.now }
-    ensures { IfOk result (λ j. (who : List ℕ → List ℕ) (lines : List Line) → map line_of seen.now ≡ outcomes_of lines → AreRowsOf who lines rows.now → IsJudgedAny program.now.names (processes_of legend.now) who lines expectation.now j) }
+    ensures { IfOk result (λ j. (who : List ℕ → List ℕ) (lines : List Line) → map line_of seen.now ≡ outcomes_of lines → (asking.names_who expectation.now ≡ true → AreRowsOf who lines rows.now) → IsJudgedAny program.now.names (processes_of legend.now) who lines expectation.now j) }
 {
     if names_who(expectation) {
         judge(alloc, program, legend, expectation, seen, rows)
     } else {
-        judging::judge(alloc, program, expectation, seen)
+        judge_plainly(alloc, program, legend, expectation, seen)
     }
+}
+
+// By the first rows of the outcomes, where nobody is named.
+fn judge_plainly(
+    alloc: Global,
+    program: &Resolved,
+    legend: &Legend,
+    expectation: &Expectation,
+    seen: &[Seen],
+) -> Result<Judgement, AllocError>
+    ensures { asking.names_who expectation.now ≡ false → IfOk result (λ j. (lines : List Line) → map line_of seen.now ≡ outcomes_of lines → judged_by_rows.IsJudged program.now.names expectation.now lines j) }
+{
+    let first = first_rows(alloc, seen)?;
+    judge(alloc, program, legend, expectation, seen, &first)
 }

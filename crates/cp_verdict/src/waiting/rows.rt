@@ -38,6 +38,25 @@ impl SeenWaiting<'_> {
     }
 }
 
+/// The first rows of some outcomes, where nobody asks who waits.
+pub fn first_rows<'a>(
+    alloc: Global,
+    seen: &'a [Seen<'a>],
+) -> Result<Vec<SeenWaiting<'a>>, AllocError>
+    ensures short { IfOk result (λ rows. HaveShortWords rows.items) }
+    ensures rows { IfOk result (λ rows. map waiting_line rows.items ≡ map line_of seen.entry.now) }
+{
+    let mut rows = Vec::new(alloc);
+    for one in seen {
+        rows.push(SeenWaiting {
+            who: &[],
+            outcome: one.outcome,
+            first: one.first.as_slice(),
+        })?;
+    }
+    Ok(rows)
+}
+
 /// The rows of other outcomes, and in place of those at whose ends all wait these ends, in the order of their schedules.
 pub fn rows_of<'a>(
     alloc: Global,

@@ -25,17 +25,17 @@ loop-place-init g c =
     record {
       own = c.in_ok-first.ensures.own;
       within = omega arith;
-      reached = reached_first sys unseen c.args.job.now.limits.choices steps c.args.word.now tt node tt comes refl;
-      seen = λ x h. (fold_opened sys fold steps x, subst (λ b. g.O.Observe.holds c.observe_opening.new.observer r discipline s (fold_opened (slots_by b r discipline) fold steps x)) c.requires.loud (c.in_ok-first.ensures.seen x h), reached_first sys fold c.args.job.now.limits.choices steps c.args.word.now x node (fold_opened sys fold steps x) comes refl);
+      reached = reached_first sys unseen c.args.choices steps c.args.word.now tt node tt comes refl;
+      seen = λ x h. (fold_opened sys fold steps x, subst (λ b. g.O.Observe.holds c.observe_opening.new.observer r discipline s (fold_opened (slots_by b r discipline) fold steps x)) c.requires.loud (c.in_ok-first.ensures.seen x h), reached_first sys fold c.args.choices steps c.args.word.now x node (fold_opened sys fold steps x) comes refl);
       ticks = omega (arith, added);
     }
 
 pub returns-in_err-next-clause-ticks : goal.returns-in_err-next-clause-ticks
 returns-in_err-next-clause-ticks g c =
-    let more = some_left (c.args.job.now.limits.choices - c.loop-place.place) c.loop-place.halt (sym c.is_over.ensures ∙ c.if-is_over.false) in
+    let more = some_left (c.args.choices - c.loop-place.place) c.loop-place.halt (sym c.is_over.ensures ∙ c.if-is_over.false) in
     let so_far = c.loop-place.invariant.ticks in
     let added = c.observe_choice.ensures.steps in
-    let within : c.loop-place.place + 2 ≤ c.args.job.now.limits.choices + 1 = omega (arith, more) in
+    let within : c.loop-place.place + 2 ≤ c.args.choices + 1 = omega (arith, more) in
     omega (arith, so_far, added, mul-le-mul_right c.args.job.now.limits.steps within)
 
 pub returns-then-is_over : goal.returns-then-is_over
@@ -46,12 +46,12 @@ returns-then-is_over g c =
     let over = sym c.is_over.ensures ∙ c.if-is_over.true in
     let n = c.loop-place.place in
     let s = machine_of c.loop-place.state in
-    let stopped = stopped_there sys unseen c.args.job.now.limits.choices c.args.job.now.limits.steps c.args.word.now tt n c.loop-place.halt s tt over c.loop-place.invariant.reached in
+    let stopped = stopped_there sys unseen c.args.choices c.args.job.now.limits.steps c.args.word.now tt n c.loop-place.halt s tt over c.loop-place.invariant.reached in
     record {
       answer = ok_as c.end_of_word.result _ _ c.end_of_word.ensures (λ end is. is ∙ stopped.answer);
       seen = ok_always c.end_of_word.result _ (λ x h.
           (let so_far = c.loop-place.invariant.seen x h in
-          let there = stopped_there sys (g.O.Observe.fold r discipline) c.args.job.now.limits.choices c.args.job.now.limits.steps c.args.word.now x n c.loop-place.halt s so_far.0 over so_far.2 in
+          let there = stopped_there sys (g.O.Observe.fold r discipline) c.args.choices c.args.job.now.limits.steps c.args.word.now x n c.loop-place.halt s so_far.0 over so_far.2 in
           subst (g.O.Observe.holds c.loop-place.observer r discipline s) there.seen so_far.1));
       stop = ok_always c.end_of_word.result _ stopped.stop;
       own = c.loop-place.invariant.own;
@@ -68,13 +68,13 @@ returns-then-not-may g c =
     let n = c.loop-place.place in
     let s = machine_of c.loop-place.state in
     let off = sym c.may.ensures ∙ c.if-not-may.true in
-    let stopped = stopped_refused sys unseen c.args.job.now.limits.choices c.args.job.now.limits.steps c.args.word.now tt n c.loop-place.halt s tt going (omega arith) tt off refl c.loop-place.invariant.reached in
+    let stopped = stopped_refused sys unseen c.args.choices c.args.job.now.limits.steps c.args.word.now tt n c.loop-place.halt s tt going (omega arith) tt off refl c.loop-place.invariant.reached in
     record {
       answer = stopped.answer;
       seen = λ x h.
           (let so_far = c.loop-place.invariant.seen x h in
           let y = fold.on_choice s _ so_far.0 in
-          let there = stopped_refused sys fold c.args.job.now.limits.choices c.args.job.now.limits.steps c.args.word.now x n c.loop-place.halt s so_far.0 going (omega arith) y off refl so_far.2 in
+          let there = stopped_refused sys fold c.args.choices c.args.job.now.limits.steps c.args.word.now x n c.loop-place.halt s so_far.0 going (omega arith) y off refl so_far.2 in
           subst (g.O.Observe.holds c.see_choice.new.self r discipline s) there.seen (c.see_choice.ensures so_far.0 so_far.1));
       stop = stopped.stop;
       own = c.loop-place.invariant.own;
@@ -96,19 +96,19 @@ loop-place-preserved g c =
     let node = node_of c.halt_at-halt-in-loop-place.result t in
     let on = sym c.may.ensures ∙ c.if-not-may.false in
     let comes : chosen sys steps s p ≡ node = subst (λ b. chosen (slots_by b r discipline) steps s p ≡ node_of (halt_at c.in_ok-next.next) t) c.requires.loud c.in_ok-next.ensures.node ∙ ap (λ h. node_of h t) (sym c.halt_at-halt-in-loop-place.ensures) in
-    let more = some_left (c.args.job.now.limits.choices - n) c.loop-place.halt going in
+    let more = some_left (c.args.choices - n) c.loop-place.halt going in
     let so_far = c.loop-place.invariant.ticks in
     let added = c.in_ok-next.ensures.steps in
     record {
       own = c.in_ok-next.ensures.own;
       within = omega (arith, more);
-      reached = reached_further sys unseen c.args.job.now.limits.choices steps c.args.word.now tt n c.loop-place.halt s tt going (omega arith) node tt tt on refl comes refl c.loop-place.invariant.reached;
+      reached = reached_further sys unseen c.args.choices steps c.args.word.now tt n c.loop-place.halt s tt going (omega arith) node tt tt on refl comes refl c.loop-place.invariant.reached;
       seen = λ x h.
           (let known = c.loop-place.invariant.seen x h in
           let y = fold.on_choice s p known.0 in
           let z = fold_chosen sys fold steps s p y in
           let now = subst (λ b. g.O.Observe.holds c.observe_choice.new.observer r discipline t (fold_chosen (slots_by b r discipline) fold steps s p y)) c.requires.loud (c.in_ok-next.ensures.seen y (c.see_choice.ensures known.0 known.1)) in
-          (z, now, reached_further sys fold c.args.job.now.limits.choices steps c.args.word.now x n c.loop-place.halt s known.0 going (omega arith) node y z on refl comes refl known.2));
+          (z, now, reached_further sys fold c.args.choices steps c.args.word.now x n c.loop-place.halt s known.0 going (omega arith) node y z on refl comes refl known.2));
       ticks = omega (arith, so_far, added);
     }
 
@@ -120,12 +120,12 @@ returns g c =
     let n = c.loop-place.place in
     let s = machine_of c.loop-place.state in
     let all : n ≡ length c.args.word.now = omega arith in
-    let stopped = stopped_behind sys unseen c.args.job.now.limits.choices c.args.job.now.limits.steps c.args.word.now tt n c.loop-place.halt s tt all c.loop-place.invariant.reached in
+    let stopped = stopped_behind sys unseen c.args.choices c.args.job.now.limits.steps c.args.word.now tt n c.loop-place.halt s tt all c.loop-place.invariant.reached in
     record {
       answer = ok_as c.end_of_word-2.result _ _ c.end_of_word-2.ensures (λ end is. is ∙ stopped.answer);
       seen = ok_always c.end_of_word-2.result _ (λ x h.
           (let so_far = c.loop-place.invariant.seen x h in
-          let there = stopped_behind sys (g.O.Observe.fold r discipline) c.args.job.now.limits.choices c.args.job.now.limits.steps c.args.word.now x n c.loop-place.halt s so_far.0 all so_far.2 in
+          let there = stopped_behind sys (g.O.Observe.fold r discipline) c.args.choices c.args.job.now.limits.steps c.args.word.now x n c.loop-place.halt s so_far.0 all so_far.2 in
           subst (g.O.Observe.holds c.loop-place.observer r discipline s) there.seen so_far.1));
       stop = ok_always c.end_of_word-2.result _ stopped.stop;
       own = c.loop-place.invariant.own;

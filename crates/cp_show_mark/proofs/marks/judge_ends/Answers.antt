@@ -17,10 +17,10 @@ returns-in_ok-marked-2-clause-mark g c =
     let x = c.args.examinee in
     let marked = c.in_ok-marked-2 in
     let some = x.options.now.some_state in
-    IfOk-weaker c.ends_answer-else-is_at_once.result _ _ (λ a e. judged_in_turn x.options.now c.longest_limits.result x.program.now (processes_of x.legend.now) c.args.list.now marked.marked.mark a.verdict c.longest_limits.ensures e (sym c.is_at_once.ensures ∙ c.if-is_at_once.false) (marked.ensures some)) c.ends_answer-else-is_at_once.ensures.verdict
+    IfOk-weaker c.ends_answer-else-is_at_once.result _ _ (λ a e. judged_in_turn x.options.now c.longest_limits.result x.program.now (processes_of x.legend.now) c.args.list.now marked.marked.mark a.verdict c.longest_limits.ensures e (sym c.is_at_once.ensures ∙ c.if-is_at_once.false) (marked.ensures.mark some)) c.ends_answer-else-is_at_once.ensures.verdict
 
 pub returns-in_ok-marked-clause-text : goal.returns-in_ok-marked-clause-text
-returns-in_ok-marked-clause-text g c = ok_both c.ends_answer.result _ _ _ c.ends_answer.ensures.verdict c.ends_answer.ensures.text (λ a v t. (c.in_ok-marked.marked, v, t))
+returns-in_ok-marked-clause-text g c = ok_both c.ends_answer.result _ _ _ c.ends_answer.ensures.verdict c.ends_answer.ensures.text (λ a v t. (c.in_ok-marked.marked, c.in_ok-marked.ensures.said, v, t))
 
 pub returns-in_ok-marked-2-clause-text : goal.returns-in_ok-marked-2-clause-text
-returns-in_ok-marked-2-clause-text g c = ok_both c.ends_answer-else-is_at_once.result _ _ _ c.ends_answer-else-is_at_once.ensures.verdict c.ends_answer-else-is_at_once.ensures.text (λ a v t. (c.in_ok-marked-2.marked, v, t))
+returns-in_ok-marked-2-clause-text g c = ok_both c.ends_answer-else-is_at_once.result _ _ _ c.ends_answer-else-is_at_once.ensures.verdict c.ends_answer-else-is_at_once.ensures.text (λ a v t. (c.in_ok-marked-2.marked, c.in_ok-marked-2.ensures.said, v, t))

@@ -43,4 +43,4 @@ returns-then-is_empty-clause-ends_text g c = λ within.
     let o = x.options.now in
     let n = with_tables x.program.now (processes_of x.legend.now) in
     let none = sym c.is_empty.ensures ∙ c.if-is_empty.true in
-    IfOk-weaker c.misread.result _ (λ a. TellsGivenEnds s o n (words_of c.args.text.now) a.verdict (string_bytes a.text)) (λ a e. empty_misread (λ es. TellsIf (are_asked o n es) (TellsEndsText s a.verdict (string_bytes a.text)) a.verdict) a.verdict c.args.text.now none e) c.misread.ensures)
+    IfOk-weaker c.misread.result _ (λ a. TellsGivenEnds s o n (words_of c.args.text.now) a.verdict (string_bytes a.text)) (λ a e. empty_misread (λ es. TellsIf (are_asked o n es) (TellsEndsText s es a.verdict (string_bytes a.text)) a.verdict) a.verdict c.args.text.now none e) c.misread.ensures)

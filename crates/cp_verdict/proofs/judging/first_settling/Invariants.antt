@@ -1,7 +1,10 @@
-use Rattle.std.proofs.Common.{◌≡◌, drop, map}
-use Rattle.cp_verdict.specs.Expectations.{is_one_of}
-use Rattle.cp_verdict.specs.Judged as spec
+use Rattle.std.proofs.Common.{◌≡◌, drop}
+use Rattle.std.specs.Prelude.{find}
+use Rattle.cp_verdict.specs.endless.Naming.{processes_of}
+use Rattle.cp_verdict.specs.waiting.Matching.{settles}
 use Rattle.cp_verdict.proofs.judging.first_settling.Given as goal
 
 abbrev pub invariant-loop-one : goal.invariant-loop-one
-invariant-loop-one l = spec.first_settling l.expectation.claim (is_one_of l.program.names l.expectation.topics.items) (map spec.line_of l.seen) ≡ spec.first_settling l.expectation.claim (is_one_of l.program.names l.expectation.topics.items) (map spec.line_of (drop l.one-index l.seen))
+invariant-loop-one l =
+    find (λ x. settles l.program.names (processes_of l.legend) l.expectation x.who.now x.outcome.now) l.rows ≡
+    find (λ x. settles l.program.names (processes_of l.legend) l.expectation x.who.now x.outcome.now) (drop l.one-index l.rows)

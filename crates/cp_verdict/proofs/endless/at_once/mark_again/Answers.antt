@@ -1,6 +1,7 @@
-use Rattle.std.proofs.Common.{◌∙◌, inl, refl, sym}
+use Rattle.std.proofs.Common.{◌∙◌, false, inl, refl, sym}
 use Rattle.cp_verdict.specs.endless.Naming.{processes_of}
 use Rattle.cp_verdict.proofs.any_length.MeantAtOnce.{settles_more}
+use Rattle.cp_verdict.proofs.any_length.Saying.{alone}
 use Rattle.cp_verdict.proofs.endless.at_once.mark_again.Goals as goal
 
 pub returns-in_ok-again-clause-same : goal.returns-in_ok-again-clause-same
@@ -9,7 +10,13 @@ returns-in_ok-again-clause-same g c = λ cannot. (let said = c.can_be_at_once.en
 pub returns-in_ok-again-clause-again : goal.returns-in_ok-again-clause-again
 returns-in_ok-again-clause-again g c =
     let can = sym c.can_be_at_once.ensures ∙ c.if-can_be_at_once.true in
-    settles_more c.args.subject.program.now (processes_of c.args.subject.legend.now) c.args.subject.limits.discipline c.args.subject.limits.steps c.args.list.now c.args.marked.mark c.tell_again.result c.in_ok-again.again.mark can (c.in_ok-again.ensures can) c.tell_again.ensures
+    settles_more c.args.subject.program.now (processes_of c.args.subject.legend.now) c.args.subject.limits.discipline c.args.subject.limits.steps c.args.list.now c.args.marked.mark c.tell_again.result c.in_ok-again.again.mark can (c.in_ok-again.ensures.mark can) c.tell_again.ensures.mark
+
+pub returns-in_ok-again-clause-said : goal.returns-in_ok-again-clause-said
+returns-in_ok-again-clause-said g c = λ before. c.tell_again.ensures.said c.args.list.now before c.in_ok-again.ensures.said
+
+pub returns-else-can_be_at_once-clause-said : goal.returns-else-can_be_at_once-clause-said
+returns-else-can_be_at_once-clause-said g c = λ before. alone c.args.subject.most false c.args.list.now c.args.marked before
 
 pub returns-else-can_be_at_once-clause-again : goal.returns-else-can_be_at_once-clause-again
 returns-else-can_be_at_once-clause-again g c = inl refl

@@ -4,8 +4,8 @@ use Rattle.cp_verdict.specs.endless.Naming.{processes_of}
 use Rattle.cp_verdict.proofs.any_length.MeantAtOnce.{marked_at_once, of_the_book}
 use Rattle.cp_verdict.proofs.endless.at_once.search_at_once.Goals as goal
 
-pub returns : goal.returns
-returns g c = λ can.
+pub returns-clause-mark : goal.returns-clause-mark
+returns-clause-mark g c = λ can.
     let r = c.args.subject.program.now in
     let steps = c.args.subject.limits.steps in
     let k = c.in_ok-known.known in

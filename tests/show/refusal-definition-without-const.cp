@@ -1,0 +1,4 @@
+a = 3;
+begin
+  display(a)
+end.

@@ -1,0 +1,3 @@
+var x: integer;
+begin
+  x := 

@@ -1,0 +1,7 @@
+type p = process;
+  begin
+  end;
+var a: p;
+begin
+  run a
+end.

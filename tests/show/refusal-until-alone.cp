@@ -1,0 +1,3 @@
+begin
+  until true
+end.

@@ -1,0 +1,7 @@
+procedure p;
+begin
+end;
+y: integer;
+begin
+  p
+end.
