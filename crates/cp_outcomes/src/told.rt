@@ -1,6 +1,6 @@
 //! What is told of each outcome.
 
-ghost use Rattle.std.specs.Prelude.{◌≡◌, ◌-◌, ◌≤◌, ◌++◌, [], ◌∷◌, IfOk, length, map, option_map, string_bytes, slice_index_or};
+ghost use Rattle.std.specs.Prelude.{◌≡◌, ◌-◌, ◌++◌, [], ◌∷◌, IfOk, map, option_map, string_bytes, slice_index_or};
 ghost use Rattle.std.specs.List.{filter, AllByRecursion};
 ghost use Rattle.std.specs.Option.{option_to_list};
 ghost use Rattle.cp_legend.specs.Names.{legend_seen};
@@ -183,7 +183,6 @@ fn detail_of(
     name: ErrorName,
     word: &[u8],
 ) -> Result<Option<String>, AllocError>
-    requires { length word.now ≤ 100 }
     ensures { IfOk result (λ line. option_map string_bytes line ≡ detail_line (legend_seen subject.entry.legend.now) name (spec.cause_after (setting_of subject.entry subject.entry.limits.choices) word.now) (spec.violation_after (setting_of subject.entry subject.entry.limits.choices) word.now)) }
 {
     let story = story_of(alloc, subject, word)?;
@@ -192,7 +191,6 @@ fn detail_of(
 
 /// What is told of a schedule.
 pub fn story_of(alloc: Global, subject: Subject<'_>, word: &[u8]) -> Result<Story, AllocError>
-    requires { length word.now ≤ 100 }
     ensures waits { IfOk result (λ s. map wait_of s.waits.items ≡ spec.waits_after (setting_of subject.entry subject.entry.limits.choices) word.now) }
     ensures reasons { IfOk result (λ s. map reason_seen s.reasons.items ≡ spec.reasons_after (setting_of subject.entry subject.entry.limits.choices) word.now) }
     ensures cause { IfOk result (λ s. s.cause ≡ spec.cause_after (setting_of subject.entry subject.entry.limits.choices) word.now) }

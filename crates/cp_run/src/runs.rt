@@ -1,6 +1,6 @@
 //! Runs of schedule words.
 
-ghost use Rattle.std.specs.Prelude.{◌≡◌, ◌≤◌, ◌+◌, ◌*◌, ◌-◌, [], IfOk, length};
+ghost use Rattle.std.specs.Prelude.{◌≡◌, ◌≤◌, ◌+◌, ◌*◌, ◌-◌, [], IfOk};
 ghost use Rattle.cp_machine.specs.System.{machine_of, output_of, IsStateOf};
 ghost use Rattle.cp_run.specs.Run.{run, run_from};
 ghost use Rattle.cp_run.specs.Slots.{slots};
@@ -27,7 +27,6 @@ pub fn run<S: Count>(
     word: &[u8],
     ticks: &mut S,
 ) -> Result<RunEnd, AllocError>
-    requires { length word.now ≤ 100 }
     ensures answer { IfOk result (λ end. answer_of end ≡ run (slots job.now.program.now job.now.limits.discipline) job.now.limits.choices job.now.limits.steps word.now) }
     ensures ticks { S.count ticks.new ≤ S.count ticks.old + (job.now.limits.choices + 1) * job.now.limits.steps }
 {

@@ -133,7 +133,6 @@ pub fn trace<S: Count>(
     word: &[u8],
     ticks: &mut S,
 ) -> Result<(Vec<TraceLine>, RunEnd), AllocError>
-    requires { length word.now ≤ 100 }
     ensures lines { IfOk result (λ t. t.0.items ≡ trace (slots job.now.program.now job.now.limits.discipline) job.now.limits.choices job.now.limits.steps word.now) }
     ensures answer { IfOk result (λ t. answer_of t.1 ≡ run (slots job.now.program.now job.now.limits.discipline) job.now.limits.choices job.now.limits.steps word.now) }
     ensures few { IfOk result (λ t. length t.0.items ≤ (job.now.limits.choices + 1) * job.now.limits.steps + job.now.limits.choices) }

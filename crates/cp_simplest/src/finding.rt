@@ -1,6 +1,6 @@
 //! The simplest schedules of outcomes.
 
-ghost use Rattle.std.specs.Prelude.{◌≡◌, ◌≤◌, IfOk, length, true};
+ghost use Rattle.std.specs.Prelude.{◌≡◌, IfOk, true};
 ghost use Rattle.cp_run.specs.Slots.{slots};
 ghost use Rattle.cp_simplest.specs.Simple as spec;
 
@@ -66,7 +66,6 @@ pub fn is_schedule_of(
     word: &[u8],
     outcome: &Outcome,
 ) -> Result<bool, AllocError>
-    requires { length word.now ≤ 100 }
     ensures { IfOk result (λ is. is ≡ true → spec.IsScheduleOf (slots job.now.program.now job.now.limits.discipline) job.now.limits.choices job.now.limits.steps word.now outcome.now) }
 {
     let RunEnd::Ended {

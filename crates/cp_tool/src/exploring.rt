@@ -51,7 +51,6 @@ fn trace_schedule(
     program: &Resolved,
     word: &[u8],
 ) -> Result<Answer, AllocError>
-    requires word { length word.now ≤ 100 }
     ensures { IfOk result (λ a. spec.IsTraced options.now (on_slots.machine options.now program.now) program.now.names word.now a.verdict a.text) }
 {
     let limits = options.limits();
