@@ -13,13 +13,12 @@ use Rattle.cp_ends.specs.declared.end.End as code
 use Rattle.cp_ends.specs.declared.found.Arrived.{Arrived}
 use Rattle.cp_ends.specs.declared.found.Arrived.TheVariants.{At, Ended, Full}
 use Rattle.cp_ends.proofs.Finding.{found_later}
-use Rattle.cp_ends.proofs.Keeping.{row_here}
+use Rattle.cp_ends.proofs.Keeping.{owned}
+use Rattle.cp_ends.specs.Rows.{IsQuiet}
 use Rattle.cp_ends.proofs.Numbering.{at_end, numbered_known}
 use Rattle.cp_ends.proofs.Searching.Growing.{arrived_extends, going_at, searched_done, searched_length, searched_on}
 use Rattle.cp_ends.proofs.Searching.Lists.{grown_at, grows_joined, grows_same}
 use Rattle.cp_ends.specs.declared.origin.Origin.{Origin}
-use Rattle.cp_states.specs.Rows.{IsRowOf}
-use Rattle.cp_states.specs.declared.row.StateRow.{StateRow}
 
 pub ok_to : {A E : Type 0} (r : Result A E) (P Q : A → Type 0) → IfOk r P → ((a : A) → P a → Q a) → IfOk r Q
 ok_to (Ok a) P Q h f = f a h
@@ -147,13 +146,18 @@ module _ (r : Tables) (g : Graph Machine code.End Shown) (most : ℕ) (old new :
       subst (λ (x : Machine × List ℕ). HasNumber (gone_with g x (those_below p (g.may m) ++ p ∷ []) f).states s number) (same_Some within.from from (sym within.is ∙ is))
       (subst (λ (q : SlotFindings). HasNumber q.states s number) (sym more_is) here)
 
--- the row of the state that is gone on from
-pub row_within : (r : Tables) (g : Graph Machine code.End Shown) (most : ℕ) (found : Found) (at : ℕ) (m : Machine) (done : List ℕ) → IsWithin r g most found at m done → (e : StateRow × Origin) → slice_get found.states.known.entries at ≡ Some e → IsRowOf found.states.store e.0.numbers m
-row_within r g most found at m done within e is =
+-- the state that is gone on from stays where it is
+pub still_there : (r : Tables) (g : Graph Machine code.End Shown) (most : ℕ) (found : Found) (at : ℕ) (m : Machine) (done : List ℕ) (within : IsWithin r g most found at m done) → slice_get (gone_with g within.from done (searched g ends_tests at)).states at ≡ Some within.from
+still_there r g most found at m done within =
     let f : SlotFindings = searched g ends_tests at in
     let k : SlotFindings = gone_with g within.from done f in
-    let there : slice_get k.states at ≡ Some within.from = grown_at f.states k.states at within.from (list_grows g within.from done f) within.is in
-    subst (IsRowOf found.states.store e.0.numbers) (sym within.here) (row_here found.states.store found.states.known.entries k.states at e within.from within.holds.holds.states.rows is there)
+    grown_at f.states k.states at within.from (list_grows g within.from done f) within.is
+
+-- the machine that is gone on from is a state
+pub state_within : (r : Tables) (g : Graph Machine code.End Shown) (most : ℕ) (found : Found) (at : ℕ) (m : Machine) (done : List ℕ) → IsWithin r g most found at m done → IsQuiet r found.states m
+state_within r g most found at m done within =
+    let k : SlotFindings = gone_with g within.from done (searched g ends_tests at) in
+    subst (IsQuiet r found.states) (sym within.here) (owned r found.states k.states within.holds.holds.states at within.from (still_there r g most found at m done within))
 
 -- a state was gone on from with all its numbers
 pub all_gone : (r : Tables) (g : Graph Machine code.End Shown) (most : ℕ) (found : Found) (at : ℕ) (m : Machine) (within : IsWithin r g most found at m (those_below g.below (g.may m))) → gone_with g within.from (those_below g.below (g.may m)) (searched g ends_tests at) ≡ searched g ends_tests (suc at)

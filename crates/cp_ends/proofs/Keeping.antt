@@ -1,26 +1,26 @@
 -- The states of the code are those of the search.
-use Rattle.std.proofs.Common.{◌≡◌, ◌∙◌, ◌⊎◌, inl, inr, ◌<◌, ◌≤◌, ℕ, zero, suc, Bool, true, false, cond, if◌then◌else◌, List, [], ◌∷◌, ◌++◌, length, None, Some, is_some, get_or, refl, sym, ap, subst, arith}
-use Rattle.cp_ends.proofs.Vocabulary.{nat_eq, slice_get, bytes_decides, pointwise, Tables, Machine, has, Origin, States}
+use Rattle.std.proofs.Common.{◌≡◌, ◌∙◌, ◌⊎◌, inl, inr, ◌<◌, ◌≤◌, ℕ, zero, suc, Bool, true, false, cond, if◌then◌else◌, List, [], ◌∷◌, ◌++◌, length, Option, None, Some, is_some, get_or, refl, sym, ap, subst, arith}
+use Rattle.cp_ends.proofs.Vocabulary.{nat_eq, slice_get, pointwise, Tables, Machine, has, Origin, States, Discipline}
 use Rattle.std.specs.Map.{lookup}
-use Rattle.std.proofs.lemmas.Cmp.{nat_list_eq_equiv}
-use Rattle.std.proofs.lemmas.List.Elements.{All-push}
+use Rattle.std.proofs.lemmas.List.Elements.{All-nil, All-push, All-weaker}
 use Rattle.std.proofs.lemmas.Option.{same_Some, slice_get_cases, slice_get_past, slice_get_within}
 use Rattle.indexmap.specs.IndexMap.{insert_entry}
 use Rattle.cp_key.specs.Room.{IsMachineOf}
-use Rattle.cp_states.specs.Rows.{IsRowOf, KeepParts}
-use Rattle.cp_states.specs.declared.row.StateRow.{StateRow}
-use Rattle.cp_states.specs.declared.store.Store.{Store}
-use Rattle.cp_states.proofs.Alone.{one_machine, one_row}
-use Rattle.cp_states.proofs.Following.{row_on}
+use Rattle.cp_parts.specs.Placed.{IsPlaced}
+use Rattle.cp_states.specs.Pieces.{KeepPieces}
+use Rattle.cp_stretches.specs.Cached.{IsCache, IsStanding}
+use Rattle.cp_stretches.specs.declared.cache.LegCache.{LegCache}
+use Rattle.cp_stretches.specs.declared.cache.Standing.{Standing}
+use Rattle.cp_ends.specs.declared.row.HalvedRow.{HalvedRow}
+use Rattle.cp_ends.specs.Rows.{IsHalvedRow, IsQuiet, IsStated}
+use Rattle.cp_ends.proofs.Halves.{KeepRows, halved_row_on, same_kept, same_rows}
 use Rattle.cp_ends.specs.Holds.{same_key, AreRows, AreStates, IsBefore, IsWordOf}
 use Rattle.cp_ends.specs.declared.origin.Origin.TheVariants.{Start, Choice}
 use Rattle.cp_ends.proofs.Searching.Lists.{all_at}
-use Rattle.cp_ends.proofs.named.Keys.{key_same, key_self}
-use Rattle.cp_machine_laws.proofs.expressions.SetRanges.{same_truth as both_true}
 use Rattle.cp_resolved.proofs.names.Entries.{last_or_before as get_cases}
 
 abbrev pub Entry : Type 0
-Entry = StateRow × Origin
+Entry = HalvedRow × Origin
 
 abbrev pub Stated : Type 0
 Stated = Machine × List ℕ
@@ -40,69 +40,82 @@ word_more states y (Choice at number) word h = (h.0, get_more states y at h.0 h.
 
 -- ---- rows
 
--- in one store, rows are the same exactly where the machines of a program are
-same_rows : (r : Tables) (store : Store) (row other : List ℕ) (m n : Machine) → IsMachineOf r m → IsMachineOf r n → IsRowOf store row m → IsRowOf store other n → pointwise nat_eq row other ≡ same_key n m
-same_rows r store row other m n mine theirs a b = both_true (pointwise nat_eq row other) (same_key n m) on back
-  where
-    on : pointwise nat_eq row other ≡ true → same_key n m ≡ true
-    on h =
-        let e : row ≡ other = (bytes_decides row other).0 h in
-        let same : m ≡ n = one_machine store row m n (mine.fits.threads ∙ sym theirs.fits.threads) a (subst (λ l. IsRowOf store l n) (sym e) b) in
-        ap (same_key n) same ∙ key_self n
-
-    back : same_key n m ≡ true → pointwise nat_eq row other ≡ true
-    back h =
-        let same : n ≡ m = key_same n m h in
-        let e : row ≡ other = one_row store row other m a (subst (IsRowOf store other) same b) in
-        ap (pointwise nat_eq row) (sym e) ∙ nat_list_eq_equiv.refl row
-
-rows_length : (store : Store) (es : List Entry) (xs : List Stated) → AreRows store es xs → length es ≡ length xs
-rows_length store [] [] h = refl
-rows_length store (e ∷ es) (x ∷ xs) h = ap suc (rows_length store es xs h.1)
-rows_length store _ _ h = absurd h
+rows_length : (kept : States) (es : List Entry) (xs : List Stated) → AreRows kept es xs → length es ≡ length xs
+rows_length kept [] [] h = refl
+rows_length kept (e ∷ es) (x ∷ xs) h = ap suc (rows_length kept es xs h.1)
+rows_length kept _ _ h = absurd h
 
 -- what stands at one place is the row of the state there
-pub row_here : (store : Store) (es : List Entry) (xs : List Stated) (i : ℕ) (e : Entry) (x : Stated) → AreRows store es xs → slice_get es i ≡ Some e → slice_get xs i ≡ Some x → IsRowOf store e.0.numbers x.0
-row_here store [] xs i e x h at to = cc
-row_here store (k ∷ es) [] i e x h at to = absurd h
-row_here store (k ∷ es) (y ∷ xs) zero e x h at to = subst (λ (z : Entry). IsRowOf store z.0.numbers x.0) (same_Some k e at) (subst (λ (z : Stated). IsRowOf store k.0.numbers z.0) (same_Some y x to) h.0)
-row_here store (k ∷ es) (y ∷ xs) (suc i) e x h at to = row_here store es xs i e x h.1 at to
+pub row_here : (kept : States) (es : List Entry) (xs : List Stated) (i : ℕ) (e : Entry) (x : Stated) → AreRows kept es xs → slice_get es i ≡ Some e → slice_get xs i ≡ Some x → IsHalvedRow kept e.0.numbers x.0
+row_here kept [] xs i e x h at to = cc
+row_here kept (k ∷ es) [] i e x h at to = absurd h
+row_here kept (k ∷ es) (y ∷ xs) zero e x h at to = subst (λ (z : Entry). IsHalvedRow kept z.0.numbers x.0) (same_Some k e at) (subst (λ (z : Stated). IsHalvedRow kept k.0.numbers z.0) (same_Some y x to) h.0)
+row_here kept (k ∷ es) (y ∷ xs) (suc i) e x h at to = row_here kept es xs i e x h.1 at to
 
-rows_more : (store : Store) (es : List Entry) (xs : List Stated) (e : Entry) (x : Stated) → IsRowOf store e.0.numbers x.0 → AreRows store es xs → AreRows store (es ++ e ∷ []) (xs ++ x ∷ [])
-rows_more store [] [] e x is h = (is, tt)
-rows_more store (k ∷ es) (y ∷ xs) e x is h = (h.0, rows_more store es xs e x is h.1)
-rows_more store _ _ e x is h = absurd h
+rows_more : (kept : States) (es : List Entry) (xs : List Stated) (e : Entry) (x : Stated) → IsHalvedRow kept e.0.numbers x.0 → AreRows kept es xs → AreRows kept (es ++ e ∷ []) (xs ++ x ∷ [])
+rows_more kept [] [] e x is h = (is, tt)
+rows_more kept (k ∷ es) (y ∷ xs) e x is h = (h.0, rows_more kept es xs e x is h.1)
+rows_more kept _ _ e x is h = absurd h
 
--- rows stay where the store keeps its parts
-rows_on : (s t : Store) (es : List Entry) (xs : List Stated) → KeepParts s t → AreRows s es xs → AreRows t es xs
-rows_on s t [] [] kept h = tt
-rows_on s t (e ∷ es) (x ∷ xs) kept h = (row_on s t e.0.numbers x.0 kept h.0, rows_on s t es xs kept h.1)
-rows_on s t _ _ kept h = absurd h
+-- rows stay where what has a number keeps it
+rows_on : (old new : States) (es : List Entry) (xs : List Stated) → KeepRows old new → AreRows old es xs → AreRows new es xs
+rows_on old new [] [] kept h = tt
+rows_on old new (e ∷ es) (x ∷ xs) kept h = (halved_row_on old new e.0.numbers x.0 kept h.0, rows_on old new es xs kept h.1)
+rows_on old new _ _ kept h = absurd h
 
-pub states_on : (r : Tables) (old new : States) (xs : List Stated) → new.known ≡ old.known → KeepParts old.store new.store → AreStates r old xs → AreStates r new xs
-states_on r old new xs same kept h =
-    subst (λ k. AreStates r (record { known = k; store = new.store }) xs) (sym same)
-    (record {
-      rows = rows_on old.store new.store old.known.entries xs kept h.rows;
+pub states_on : (r : Tables) (old new : States) (xs : List Stated) → new.known ≡ old.known → KeepRows old new → IsCache r new.discipline new.cache → IsStanding r new.cache.store new.cache.table new.standing → AreStates r old xs → AreStates r new xs
+states_on r old new xs same kept cached standing h =
+    record {
+      cached = cached;
+      standing = standing;
+      rows = subst (λ es. AreRows new es xs) (sym entries) (rows_on old new old.known.entries xs kept h.rows);
       own = h.own;
       quiet = h.quiet;
-      words = h.words;
-      before = h.before;
-    })
+      ruled = All-weaker (λ (x : Stated). x.0.discipline ≡ old.discipline) (λ (x : Stated). x.0.discipline ≡ new.discipline) (λ x e. e ∙ sym kept.ruled) xs h.ruled;
+      words = λ i e x at to. h.words i e x (sym (ap (λ es. slice_get es i) entries) ∙ at) to;
+      before = λ i e at. h.before i e (sym (ap (λ es. slice_get es i) entries) ∙ at);
+    }
+  where
+    entries : new.known.entries ≡ old.known.entries
+    entries = ap (λ k. k.entries) same
+
+-- more halves
+pub halves_more : (r : Tables) (old new : States) (xs : List Stated) → new.known ≡ old.known → new.cache ≡ old.cache → new.standing ≡ old.standing → new.discipline ≡ old.discipline → KeepPieces old.halves.items.items old.halves.ends.items new.halves.items.items new.halves.ends.items → AreStates r old xs → AreStates r new xs
+halves_more r old new xs known cache standing ruled halves h =
+    states_on r old new xs known (same_kept old new cache ruled halves)
+    (subst (λ (d : Discipline). IsCache r d new.cache) (sym ruled) (subst (λ (c : LegCache). IsCache r old.discipline c) (sym cache) h.cached))
+    (subst (λ (x : Standing). IsStanding r new.cache.store new.cache.table x) (sym standing) (subst (λ (c : LegCache). IsStanding r c.store c.table old.standing) (sym cache) h.standing)) h
+
+-- no state
+pub no_states : (r : Tables) (kept : States) → IsCache r kept.discipline kept.cache → IsStanding r kept.cache.store kept.cache.table kept.standing → kept.known.entries ≡ [] → AreStates r kept []
+no_states r kept cached standing none =
+    record {
+      cached = cached;
+      standing = standing;
+      rows = subst (λ es. AreRows kept es []) (sym none) tt;
+      own = All-nil (λ (x : Stated). IsMachineOf r x.0);
+      quiet = All-nil (λ (x : Stated). x.0.output ≡ []);
+      ruled = All-nil (λ (x : Stated). x.0.discipline ≡ kept.discipline);
+      words = λ i e x at to. absurd (cc);
+      before = λ i e at. absurd (nothing i e (sym (ap (λ es. slice_get es i) none) ∙ at));
+    }
+  where
+    nothing : (i : ℕ) (e : Entry) → (◌≡◌ {A = Option Entry}) (slice_get [] i) (Some e) → ⊥
+    nothing i e at = cc
 
 -- a row is that of an entry exactly where its machine is a state
-pub found_same : (r : Tables) (store : Store) (es : List Entry) (xs : List Stated) (row : StateRow) (m : Machine) → AreRows store es xs → ((i : ℕ) (x : Stated) → slice_get xs i ≡ Some x → IsMachineOf r x.0) → IsMachineOf r m → IsRowOf store row.numbers m → is_some (lookup (λ j. pointwise nat_eq row.numbers j.numbers) es) ≡ has same_key xs m
-found_same r store [] [] row m h owns own is = refl
-found_same r store (e ∷ es) (x ∷ xs) row m h owns own is = by (pointwise nat_eq row.numbers e.0.numbers) (same_key x.0 m) (same_rows r store row.numbers e.0.numbers m x.0 own (owns 0 x refl) is h.0) (found_same r store es xs row m h.1 (λ i y at. owns (suc i) y at) own is)
+pub found_same : (r : Tables) (kept : States) (placed : IsPlaced r kept.cache.table) (es : List Entry) (xs : List Stated) (row : HalvedRow) (m : Machine) → AreRows kept es xs → ((i : ℕ) (x : Stated) → slice_get xs i ≡ Some x → IsQuiet r kept x.0) → IsStated r kept row.numbers m → is_some (lookup (λ j. pointwise nat_eq row.numbers j.numbers) es) ≡ has same_key xs m
+found_same r kept placed [] [] row m h owns is = refl
+found_same r kept placed (e ∷ es) (x ∷ xs) row m h owns is = by (pointwise nat_eq row.numbers e.0.numbers) (same_key x.0 m) (same_rows kept r placed row.numbers e.0.numbers m x.0 is.it (owns 0 x refl) is.row h.0) (found_same r kept placed es xs row m h.1 (λ i y at. owns (suc i) y at) is)
   where
     by : (b c : Bool) → b ≡ c → is_some (lookup (λ j. pointwise nat_eq row.numbers j.numbers) es) ≡ has same_key xs m → is_some (cond b (Some e.1) (lookup (λ j. pointwise nat_eq row.numbers j.numbers) es)) ≡ (if c then true else has same_key xs m)
     by true true t on = refl
     by false false t on = on
     by true false t on = cc
     by false true t on = cc
-found_same r store _ _ row m h owns own is = absurd h
+found_same r kept placed _ _ row m h owns is = absurd h
 
-insert_new : (eq : StateRow → StateRow → Bool) (es : List Entry) (k : StateRow) (o : Origin) → is_some (lookup (eq k) es) ≡ false → insert_entry eq es k o ≡ es ++ (k, o) ∷ []
+insert_new : (eq : HalvedRow → HalvedRow → Bool) (es : List Entry) (k : HalvedRow) (o : Origin) → is_some (lookup (eq k) es) ≡ false → insert_entry eq es k o ≡ es ++ (k, o) ∷ []
 insert_new eq [] k o new = refl
 insert_new eq (e ∷ es) k o new = by (eq k e.0) new (insert_new eq es k o)
   where
@@ -114,18 +127,23 @@ module _ (r : Tables) (kept : States) (xs : List Stated) (h : AreStates r kept x
   abbrev es : List Entry
   es = kept.known.entries
 
-  pub owned : (i : ℕ) (x : Stated) → slice_get xs i ≡ Some x → IsMachineOf r x.0
-  owned i x at = all_at (λ (x : Stated). IsMachineOf r x.0) xs i x h.own at
+  pub owned : (i : ℕ) (x : Stated) → slice_get xs i ≡ Some x → IsQuiet r kept x.0
+  owned i x at =
+      record {
+        own = all_at (λ (x : Stated). IsMachineOf r x.0) xs i x h.own at;
+        quiet = all_at (λ (x : Stated). x.0.output ≡ []) xs i x h.quiet at;
+        ruled = all_at (λ (x : Stated). x.0.discipline ≡ kept.discipline) xs i x h.ruled at;
+      }
 
   pub states_length : length kept.known.entries ≡ length xs
-  states_length = rows_length kept.store kept.known.entries xs h.rows
+  states_length = rows_length kept kept.known.entries xs h.rows
 
   -- the state of an entry
-  pub state_of : (i : ℕ) (e : Entry) → slice_get kept.known.entries i ≡ Some e → (x : Stated) × (slice_get xs i ≡ Some x) × IsMachineOf r x.0 × (x.0.output ≡ []) × IsRowOf kept.store e.0.numbers x.0
+  pub state_of : (i : ℕ) (e : Entry) → slice_get kept.known.entries i ≡ Some e → (x : Stated) × (slice_get xs i ≡ Some x) × IsStated r kept e.0.numbers x.0
   state_of i e at = by (slice_get_cases xs i).1
     where
-      by : ((z : Stated) × (i < length xs) × (slice_get xs i ≡ Some z) × (get_or xs i z ≡ z)) ⊎ ((length xs ≤ i) × (slice_get xs i ≡ None)) → (x : Stated) × (slice_get xs i ≡ Some x) × IsMachineOf r x.0 × (x.0.output ≡ []) × IsRowOf kept.store e.0.numbers x.0
-      by (inl z) = (z.0, z.2, all_at (λ (x : Stated). IsMachineOf r x.0) xs i z.0 h.own z.2, all_at (λ (x : Stated). x.0.output ≡ []) xs i z.0 h.quiet z.2, row_here kept.store es xs i e z.0 h.rows at z.2)
+      by : ((z : Stated) × (i < length xs) × (slice_get xs i ≡ Some z) × (get_or xs i z ≡ z)) ⊎ ((length xs ≤ i) × (slice_get xs i ≡ None)) → (x : Stated) × (slice_get xs i ≡ Some x) × IsStated r kept e.0.numbers x.0
+      by (inl z) = (z.0, z.2, record { it = owned i z.0 z.2; row = row_here kept es xs i e z.0 h.rows at z.2 })
       by (inr none) = let past = none.0 in let within = slice_get_within es i e at in let few = states_length in absurd (omega (arith, past, within, few))
 
   -- where there is none there is no entry
@@ -137,18 +155,18 @@ module _ (r : Tables) (kept : States) (xs : List Stated) (h : AreStates r kept x
       by (inr past) = let le = past.0 in let few = states_length in slice_get_past xs i (omega (arith, le, few))
 
   -- one more
-  module _ (k : StateRow) (o : Origin) (m : Machine) (word : List ℕ) where
-    pub states_more : has same_key xs m ≡ false → IsMachineOf r m → m.output ≡ [] → IsRowOf kept.store k.numbers m → IsWordOf xs o word → IsBefore (length xs) o → (new : States) → new.store ≡ kept.store → new.known.entries ≡ insert_entry (λ a b. pointwise nat_eq a.numbers b.numbers) kept.known.entries k o → AreStates r new (xs ++ (m, word) ∷ [])
-    states_more fresh own quiet row is before new same listed = more
+  module _ (k : HalvedRow) (o : Origin) (m : Machine) (word : List ℕ) where
+    pub states_more : has same_key xs m ≡ false → IsStated r kept k.numbers m → IsWordOf xs o word → IsBefore (length xs) o → (new : States) → KeepRows kept new → IsCache r new.discipline new.cache → IsStanding r new.cache.store new.cache.table new.standing → new.known.entries ≡ insert_entry (λ a b. pointwise nat_eq a.numbers b.numbers) kept.known.entries k o → AreStates r new (xs ++ (m, word) ∷ [])
+    states_more fresh is word_is before new same cached standing listed = more
       where
         put : insert_entry (λ a b. pointwise nat_eq a.numbers b.numbers) es k o ≡ es ++ (k, o) ∷ []
-        put = insert_new (λ a b. pointwise nat_eq a.numbers b.numbers) es k o (found_same r kept.store es xs k m h.rows owned own row ∙ fresh)
+        put = insert_new (λ a b. pointwise nat_eq a.numbers b.numbers) es k o (found_same r kept h.cached.placed es xs k m h.rows owned is ∙ fresh)
 
         words : (i : ℕ) (e : Entry) (x : Stated) → (slice_get es i ≡ Some e) ⊎ ((i ≡ length es) × (e ≡ (k, o))) → (slice_get xs i ≡ Some x) ⊎ ((i ≡ length xs) × (x ≡ (m, word))) → IsWordOf (xs ++ (m, word) ∷ []) e.1 x.1
         words i e x (inl at) (inl to) = word_more xs (m, word) e.1 x.1 (h.words i e x at to)
         words i e x (inl at) (inr to) = let within = slice_get_within es i e at in let here = to.0 in let few = states_length in absurd (omega (arith, within, here, few))
         words i e x (inr at) (inl to) = let within = slice_get_within xs i x to in let here = at.0 in let few = states_length in absurd (omega (arith, within, here, few))
-        words i e x (inr at) (inr to) = subst (λ (f : Entry). IsWordOf (xs ++ (m, word) ∷ []) f.1 x.1) (sym at.1) (subst (λ (y : Stated). IsWordOf (xs ++ (m, word) ∷ []) o y.1) (sym to.1) (word_more xs (m, word) o word is))
+        words i e x (inr at) (inr to) = subst (λ (f : Entry). IsWordOf (xs ++ (m, word) ∷ []) f.1 x.1) (sym at.1) (subst (λ (y : Stated). IsWordOf (xs ++ (m, word) ∷ []) o y.1) (sym to.1) (word_more xs (m, word) o word word_is))
 
         befores : (i : ℕ) (e : Entry) → (slice_get es i ≡ Some e) ⊎ ((i ≡ length es) × (e ≡ (k, o))) → IsBefore i e.1
         befores i e (inl at) = h.before i e at
@@ -157,15 +175,18 @@ module _ (r : Tables) (kept : States) (xs : List Stated) (h : AreStates r kept x
         all : new.known.entries ≡ es ++ (k, o) ∷ []
         all = listed ∙ put
 
-        rows : AreRows new.store new.known.entries (xs ++ (m, word) ∷ [])
-        rows = subst (λ s. AreRows s new.known.entries (xs ++ (m, word) ∷ [])) (sym same) (subst (λ l. AreRows kept.store l (xs ++ (m, word) ∷ [])) (sym all) (rows_more kept.store es xs (k, o) (m, word) row h.rows))
+        rows : AreRows new new.known.entries (xs ++ (m, word) ∷ [])
+        rows = subst (λ l. AreRows new l (xs ++ (m, word) ∷ [])) (sym all) (rows_on kept new (es ++ (k, o) ∷ []) (xs ++ (m, word) ∷ []) same (rows_more kept es xs (k, o) (m, word) is.row h.rows))
 
         more : AreStates r new (xs ++ (m, word) ∷ [])
         more =
             record {
+              cached = cached;
+              standing = standing;
               rows = rows;
-              own = All-push (λ (x : Stated). IsMachineOf r x.0) xs (m, word) h.own own;
-              quiet = All-push (λ (x : Stated). x.0.output ≡ []) xs (m, word) h.quiet quiet;
+              own = All-push (λ (x : Stated). IsMachineOf r x.0) xs (m, word) h.own is.it.own;
+              quiet = All-push (λ (x : Stated). x.0.output ≡ []) xs (m, word) h.quiet is.it.quiet;
+              ruled = All-push (λ (x : Stated). x.0.discipline ≡ new.discipline) xs (m, word) (All-weaker (λ (x : Stated). x.0.discipline ≡ kept.discipline) (λ (x : Stated). x.0.discipline ≡ new.discipline) (λ x e. e ∙ sym same.ruled) xs h.ruled) (is.it.ruled ∙ sym same.ruled);
               words = λ i e x at to. words i e x (get_cases es (k, o) i e (sym (ap (λ l. slice_get l i) all) ∙ at)) (get_cases xs (m, word) i x to);
               before = λ i e at. befores i e (get_cases es (k, o) i e (sym (ap (λ l. slice_get l i) all) ∙ at));
             }

@@ -3,17 +3,23 @@ pub mod Arriving
 pub mod Finding
 pub mod GoingOn
 pub mod Halting
+pub mod Halves
 pub mod Keeping
 pub mod Legs
 pub mod Listing
 pub mod Moving
 pub mod Numbering
 pub mod Returning
+pub mod Rowwise
+pub mod RowsVisited
+pub mod Ruled
+pub mod RuledStates
 pub mod Saying
 pub mod Searching
 pub mod Stepping
 pub mod Stretches
 pub mod Telling
+pub mod Thawing
 pub mod Unwinding
 pub mod Wanted
 mod Vocabulary

@@ -88,6 +88,26 @@ EndsSoFar kept depth ends i text count = (count ≤ i) × ((r : Tables) (states 
 abbrev pub ValuesSoFar : States → Spellings → Option ℕ → List FoundValue → ℕ → List ℕ → ℕ → Type 0
 ValuesSoFar kept names depth values i text count = (count ≤ i) × ((r : Tables) (states : List Stated) (fs : ValuesWithWords) → AreStates r kept states → AreFound states (map value_origin values) fs → FirstSoFar MOST_VALUES depth (value_line names) (take i fs) text count)
 
+-- nothing is told yet
+none_taken : {A : Type 0} (xs : List A) → take 0 xs ≡ []
+none_taken [] = refl
+none_taken (x ∷ xs) = refl
+
+taken_of_none : {A : Type 0} (n : ℕ) → (◌≡◌ {A = List A}) (take n []) []
+taken_of_none zero = refl
+taken_of_none (suc n) = refl
+
+none_told : {A : Type 0} (depth : Option ℕ) (fs : List (A × List ℕ)) → told depth (take 0 fs) ≡ []
+none_told None fs = none_taken fs
+none_told (Some d) fs = ap (told (Some d)) (none_taken fs)
+
+pub no_ends : (kept : States) (depth : Option ℕ) (ends : List FoundEnd) (text : List ℕ) → text ≡ [] → EndsSoFar kept depth ends 0 text 0
+no_ends kept depth ends text none = (omega arith, λ r states fs s a. (none ∙ sym (ap (each (λ x. end_line x.0 x.1)) (none_told depth fs)), sym (ap length (none_told depth fs))))
+
+pub no_values : (kept : States) (names : Spellings) (depth : Option ℕ) (values : List FoundValue) (text : List ℕ) → text ≡ [] → ValuesSoFar kept names depth values 0 text 0
+no_values kept names depth values text none =
+    (omega arith, λ r states fs s a. (none ∙ sym (ap (each (λ x. value_line names x.0 x.1)) (ap (take MOST_VALUES) (none_told depth fs) ∙ taken_of_none MOST_VALUES)), sym (ap length (none_told depth fs))))
+
 -- the next one
 module _ (kept : States) (depth : Option ℕ) (i : ℕ) (word : List ℕ) where
   -- its word is this

@@ -4,14 +4,12 @@ use Rattle.std.specs.Prelude.{nat_eq, position, slice_get}
 use Rattle.std.specs.Map.{keys_of, lookup}
 use Rattle.cp_ends.proofs.Vocabulary.{bytes_decides, same_Some, slice_get_cases, pointwise, Tables, Machine, has, States}
 use Rattle.std.proofs.lemmas.List.Quantifiers.{position-Some}
-use Rattle.cp_key.specs.Room.{IsMachineOf}
-use Rattle.cp_states.specs.Rows.{IsRowOf}
-use Rattle.cp_states.specs.declared.row.StateRow.{StateRow}
-use Rattle.cp_states.specs.declared.store.Store.{Store}
-use Rattle.cp_states.proofs.Alone.{one_machine}
-use Rattle.cp_ends.specs.Holds.{same_key, AreRows, AreStates, IsNumberOf}
+use Rattle.cp_ends.specs.declared.row.HalvedRow.{HalvedRow}
+use Rattle.cp_ends.specs.Rows.{IsHalvedRow, IsStated}
+use Rattle.cp_ends.proofs.Halves.{one_machine}
+use Rattle.cp_ends.specs.Holds.{same_key, AreStates, IsNumberOf}
 use Rattle.cp_ends.proofs.Keeping.{Entry, Stated, found_same, owned, state_of}
-use Rattle.cp_ends.proofs.named.Keys.{key_same, key_self}
+use Rattle.cp_ends.proofs.named.Keys.{key_self}
 
 pub at_end : {X : Type 0} (xs : List X) (x : X) → slice_get (xs ++ x ∷ []) (length xs) ≡ Some x
 at_end [] x = refl
@@ -34,7 +32,7 @@ numbered_known (y ∷ xs) m (suc number) is = later (same_key y.0 m) (numbered_k
     later true e = refl
     later false e = e
 
-key_at : (es : List Entry) (j : ℕ) (e : Entry) (d : StateRow) → slice_get es j ≡ Some e → get_or (keys_of es) j d ≡ e.0
+key_at : (es : List Entry) (j : ℕ) (e : Entry) (d : HalvedRow) → slice_get es j ≡ Some e → get_or (keys_of es) j d ≡ e.0
 key_at [] j e d at = absurd (cc)
 key_at (x ∷ es) zero e d at = ap (λ (y : Entry). y.0) (same_Some x e at)
 key_at (x ∷ es) (suc j) e d at = key_at es j e d at
@@ -43,34 +41,20 @@ long : (es : List Entry) → length (keys_of es) ≡ length es
 long [] = refl
 long (e ∷ es) = ap suc (long es)
 
--- a machine that has no row is no state
-unrowed : (store : Store) (es : List Entry) (xs : List Stated) (m : Machine) → AreRows store es xs → ((row : List ℕ) → IsRowOf store row m → ⊥) → has same_key xs m ≡ false
-unrowed store [] [] m h none = refl
-unrowed store (e ∷ es) (x ∷ xs) m h none = by (same_key x.0 m) refl (unrowed store es xs m h.1 none)
-  where
-    by : (b : Bool) → same_key x.0 m ≡ b → has same_key xs m ≡ false → (if b then true else has same_key xs m) ≡ false
-    by true e' on = absurd (none e.0.numbers (subst (IsRowOf store e.0.numbers) (key_same x.0 m e') h.0))
-    by false e' on = on
-unrowed store _ _ m h none = absurd h
+module _ (r : Tables) (kept : States) (states : List Stated) (held : AreStates r kept states) (m : Machine) (row : HalvedRow) (is : IsStated r kept row.numbers m) where
+  here : (j : ℕ) → position (λ k. pointwise nat_eq row.numbers k.numbers) (keys_of kept.known.entries) ≡ Some j → IsNumberOf states m (Some j)
+  here j at = by (slice_get_cases kept.known.entries j).1
+    where
+      found : (j < length (keys_of kept.known.entries)) × (pointwise nat_eq row.numbers (get_or (keys_of kept.known.entries) j row).numbers ≡ true) × ((k : ℕ) → k < j → pointwise nat_eq row.numbers (get_or (keys_of kept.known.entries) k row).numbers ≡ false)
+      found = position-Some (λ k. pointwise nat_eq row.numbers k.numbers) (keys_of kept.known.entries) j row at
 
-module _ (r : Tables) (kept : States) (states : List Stated) (held : AreStates r kept states) (m : Machine) where
-  pub no_number : ((row : List ℕ) → IsRowOf kept.store row m → ⊥) → IsNumberOf states m None
-  no_number none = unrowed kept.store kept.known.entries states m held.rows none
+      by : ((e : Entry) × (j < length kept.known.entries) × (slice_get kept.known.entries j ≡ Some e) × (get_or kept.known.entries j e ≡ e)) ⊎ ((length kept.known.entries ≤ j) × (slice_get kept.known.entries j ≡ None)) → IsNumberOf states m (Some j)
+      by (inr past) = let lt = found.0 in let le = past.0 in let same = long kept.known.entries in absurd (omega (arith, lt, le, same))
+      by (inl e) =
+          let x = state_of r kept states held j e.0 e.2 in
+          let same : row.numbers ≡ e.0.0.numbers = (bytes_decides row.numbers e.0.0.numbers).0 (ap (λ (k : HalvedRow). pointwise nat_eq row.numbers k.numbers) (sym (key_at kept.known.entries j e.0 row e.2)) ∙ found.1) in
+          (x.0, x.1, one_machine kept r held.cached.placed e.0.0.numbers e.0.0.numbers x.0.0 m x.2.it is.it x.2.row (subst (λ l. IsHalvedRow kept l m) same is.row))
 
-  module _ (row : StateRow) (own : IsMachineOf r m) (is : IsRowOf kept.store row.numbers m) where
-    here : (j : ℕ) → position (λ k. pointwise nat_eq row.numbers k.numbers) (keys_of kept.known.entries) ≡ Some j → IsNumberOf states m (Some j)
-    here j at = by (slice_get_cases kept.known.entries j).1
-      where
-        found : (j < length (keys_of kept.known.entries)) × (pointwise nat_eq row.numbers (get_or (keys_of kept.known.entries) j row).numbers ≡ true) × ((k : ℕ) → k < j → pointwise nat_eq row.numbers (get_or (keys_of kept.known.entries) k row).numbers ≡ false)
-        found = position-Some (λ k. pointwise nat_eq row.numbers k.numbers) (keys_of kept.known.entries) j row at
-
-        by : ((e : Entry) × (j < length kept.known.entries) × (slice_get kept.known.entries j ≡ Some e) × (get_or kept.known.entries j e ≡ e)) ⊎ ((length kept.known.entries ≤ j) × (slice_get kept.known.entries j ≡ None)) → IsNumberOf states m (Some j)
-        by (inr past) = let lt = found.0 in let le = past.0 in let same = long kept.known.entries in absurd (omega (arith, lt, le, same))
-        by (inl e) =
-            let x = state_of r kept states held j e.0 e.2 in
-            let same : row.numbers ≡ e.0.0.numbers = (bytes_decides row.numbers e.0.0.numbers).0 (ap (λ (k : StateRow). pointwise nat_eq row.numbers k.numbers) (sym (key_at kept.known.entries j e.0 row e.2)) ∙ found.1) in
-            (x.0, x.1, one_machine kept.store e.0.0.numbers x.0.0 m (x.2.fits.threads ∙ sym own.fits.threads) x.4 (subst (λ l. IsRowOf kept.store l m) same is))
-
-    pub numbered : (o : Option ℕ) → o ≡ position (λ k. pointwise nat_eq row.numbers k.numbers) (keys_of kept.known.entries) → is_some o ≡ is_some (lookup (λ k. pointwise nat_eq row.numbers k.numbers) kept.known.entries) → IsNumberOf states m o
-    numbered None index found = sym (found_same r kept.store kept.known.entries states row m held.rows (owned r kept states held) own is) ∙ sym found
-    numbered (Some j) index found = here j (sym index)
+  pub numbered : (o : Option ℕ) → o ≡ position (λ k. pointwise nat_eq row.numbers k.numbers) (keys_of kept.known.entries) → is_some o ≡ is_some (lookup (λ k. pointwise nat_eq row.numbers k.numbers) kept.known.entries) → IsNumberOf states m o
+  numbered None index found = sym (found_same r kept held.cached.placed kept.known.entries states row m held.rows (owned r kept states held) is) ∙ sym found
+  numbered (Some j) index found = here j (sym index)

@@ -4,7 +4,6 @@ use lib.Pointwise.{pointwise}
 use Rattle.cp_slots.specs.Tables.{Tables}
 use Rattle.cp_key.specs.Key.{key_of}
 use Rattle.cp_key.specs.Room.{IsMachineOf}
-use Rattle.cp_machine.specs.Bodies.{KeepBodies}
 use Rattle.cp_machine.specs.declared.shown.Shown.{Shown}
 use Rattle.cp_machine.specs.System.{Machine}
 use Rattle.cp_ends.specs.Graph.{Arrival}
@@ -16,9 +15,9 @@ use Rattle.cp_ends.specs.declared.found.FoundValue.{FoundValue}
 use Rattle.cp_ends.specs.declared.origin.Origin.{Origin}
 use Rattle.cp_ends.specs.declared.origin.Origin.TheVariants.{Start, Choice}
 use Rattle.cp_ends.specs.declared.states.States.{States}
-use Rattle.cp_states.specs.Rows.{IsRowOf}
-use Rattle.cp_states.specs.declared.row.StateRow.{StateRow}
-use Rattle.cp_states.specs.declared.store.Store.{Store}
+use Rattle.cp_stretches.specs.Cached.{IsCache, IsStanding}
+use Rattle.cp_ends.specs.Rows.{IsHalvedRow}
+use Rattle.cp_ends.specs.declared.row.HalvedRow.{HalvedRow}
 
 -- whether two machines have one key
 unfoldable pub same_key : Machine → Machine → Bool
@@ -35,11 +34,11 @@ IsBefore n Start = Unit {0}
 IsBefore n (Choice at number) = at < n
 
 -- the origin of the state of this number
-abbrev pub origin_or : Option (StateRow × Origin) → Origin
+abbrev pub origin_or : Option (HalvedRow × Origin) → Origin
 origin_or None = Start
 origin_or (Some e) = e.1
 
-abbrev pub origin_at : List (StateRow × Origin) → ℕ → Origin
+abbrev pub origin_at : List (HalvedRow × Origin) → ℕ → Origin
 origin_at entries at = origin_or (slice_get entries at)
 
 -- whether there is a state of this number, which is this machine
@@ -53,24 +52,22 @@ IsNumberOf states m (Some at) = (x : Machine × List ℕ) × (slice_get states a
 IsNumberOf states m None = has same_key states m ≡ false
 
 -- the entries are the rows of the states
-abbrev pub AreRows : Store → List (StateRow × Origin) → List (Machine × List ℕ) → Type 0
-AreRows store [] [] = Unit {0}
-AreRows store [] (x ∷ xs) = ⊥
-AreRows store (e ∷ es) [] = ⊥
-AreRows store (e ∷ es) (x ∷ xs) = IsRowOf store e.0.numbers x.0 × AreRows store es xs
+abbrev pub AreRows : States → List (HalvedRow × Origin) → List (Machine × List ℕ) → Type 0
+AreRows kept [] [] = Unit {0}
+AreRows kept [] (x ∷ xs) = ⊥
+AreRows kept (e ∷ es) [] = ⊥
+AreRows kept (e ∷ es) (x ∷ xs) = IsHalvedRow kept e.0.numbers x.0 × AreRows kept es xs
 
 -- what the code keeps are the states, each with its word
 pub record AreStates (r : Tables) (kept : States) (states : List (Machine × List ℕ)) : Type 0 where
-  pub rows : AreRows kept.store kept.known.entries states
+  pub cached : IsCache r kept.discipline kept.cache
+  pub standing : IsStanding r kept.cache.store kept.cache.table kept.standing
+  pub rows : AreRows kept kept.known.entries states
   pub own : All (λ x. IsMachineOf r x.0) states
   pub quiet : All (λ x. x.0.output ≡ []) states
-  pub words : (i : ℕ) (e : StateRow × Origin) (x : Machine × List ℕ) → slice_get kept.known.entries i ≡ Some e → slice_get states i ≡ Some x → IsWordOf states e.1 x.1
-  pub before : (i : ℕ) (e : StateRow × Origin) → slice_get kept.known.entries i ≡ Some e → IsBefore i e.1
-
--- these processes alone moved from the state before to this machine, where an origin tells of a state before, whose row is kept
-abbrev pub IsMovedFrom : States → Origin → (ℕ → Bool) → Machine → Machine → Type 0
-IsMovedFrom kept Start moved before m = Unit {0}
-IsMovedFrom kept (Choice at number) moved before m = ((e : StateRow × Origin) → slice_get kept.known.entries at ≡ Some e → IsRowOf kept.store e.0.numbers before) × KeepBodies moved before m
+  pub ruled : All (λ x. x.0.discipline ≡ kept.discipline) states
+  pub words : (i : ℕ) (e : HalvedRow × Origin) (x : Machine × List ℕ) → slice_get kept.known.entries i ≡ Some e → slice_get states i ≡ Some x → IsWordOf states e.1 x.1
+  pub before : (i : ℕ) (e : HalvedRow × Origin) → slice_get kept.known.entries i ≡ Some e → IsBefore i e.1
 
 -- things with their origins are things with their words
 abbrev pub AreFound : {A : Type 0} → List (Machine × List ℕ) → List (A × Origin) → List (A × List ℕ) → Type 0

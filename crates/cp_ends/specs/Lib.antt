@@ -1,5 +1,6 @@
 pub mod Answer
 pub mod Arrivals
+pub mod ByRows
 pub mod Ends
 pub mod Firsts
 pub mod ForEver
@@ -7,6 +8,7 @@ pub mod Graph
 pub mod Holds
 pub mod Legs
 pub mod Named
+pub mod Rows
 pub mod Searched
 pub mod Told
 pub mod Visited

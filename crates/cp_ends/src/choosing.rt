@@ -68,6 +68,7 @@ pub fn choose<P: Sight>(
     ensures shown { IfOk result (λ _. told.new.values.items ≡ told.old.values.items ++ (next_arrival (slots job.now.program.now job.now.limits.discipline) without_output same_key job.now.limits.steps (machine_of state.old) process).shown) }
     ensures leg { IfOk result (λ h. ComesTo (silent_slots job.now.program.now job.now.limits.discipline) (λ w. P.sees w job.now.program.now job.now.limits.discipline) job.now.limits.steps (choice_leg (silent_slots job.now.program.now job.now.limits.discipline) job.now.limits.steps (machine_of state.old) process) (machine_of state.old ∷ []) told.new.seen (with_round told.new.again h) (machine_of state.new)) }
     ensures kept { IfOk result (λ h. h ≡ halt.Choice → KeepBodies (has_moved told.new.moved) (machine_of state.old) (machine_of state.new)) }
+    ensures ruled { IfOk result (λ h. h ≡ halt.Choice → (machine_of state.new).discipline ≡ (machine_of state.old).discipline) }
 {
     told.moved = Moved::nobody();
     told.seen = P::begin(job.program);
@@ -87,6 +88,7 @@ pub fn open<P: Sight>(
     requires start { machine_of state.old ≡ opening job.now.program.now job.now.limits.discipline }
     ensures own { IsStateOf job.now.program.now state.new }
     ensures quiet { IfOk result (λ _. output_of (machine_of state.new) ≡ []) }
+    ensures ruled { IfOk result (λ h. h ≡ halt.Choice → (machine_of state.new).discipline ≡ job.now.limits.discipline) }
     ensures goal { IfOk result (λ h. goal_at h (machine_of state.new) ≡ (first_arrival (slots job.now.program.now job.now.limits.discipline) without_output same_key job.now.limits.steps).goal) }
     ensures shown { IfOk result (λ _. told.new.values.items ≡ told.old.values.items ++ (first_arrival (slots job.now.program.now job.now.limits.discipline) without_output same_key job.now.limits.steps).shown) }
     ensures leg { IfOk result (λ h. ComesTo (silent_slots job.now.program.now job.now.limits.discipline) (λ w. P.sees w job.now.program.now job.now.limits.discipline) job.now.limits.steps (first_leg (silent_slots job.now.program.now job.now.limits.discipline) job.now.limits.steps) [] told.new.seen (with_round told.new.again h) (machine_of state.new)) }

@@ -1,25 +1,31 @@
 //! What a search finds.
 
-ghost use Rattle.std.specs.Prelude.{◌≡◌, ◌<◌, ◌^◌, ◌∷◌, ℕ, List, [], IfOk, length};
+ghost use Rattle.std.specs.Prelude.{◌≡◌, ◌<◌, ◌≤◌, ◌^◌, ◌∷◌, ℕ, List, [], Some, IfOk, length, slice_get, true};
 ghost use Rattle.std.specs.List.{list_any};
 ghost use Rattle.cp_slots.specs.Tables.{Tables};
-ghost use Rattle.cp_machine.specs.Bodies.{has_moved};
-ghost use Rattle.cp_machine.specs.System.{machine_of, output_of, IsStateOf};
+ghost use Rattle.cp_machine.specs.System.{Machine, machine_of, opening, output_of, IsStateOf};
+ghost use Rattle.cp_run.specs.Run.{may};
+ghost use Rattle.cp_run.specs.Slots.{slots};
+ghost use Rattle.cp_run.specs.Silent.{without_output};
 ghost use Rattle.cp_run.specs.declared.outcome.Halt.TheVariants as halt;
 ghost use Rattle.cp_run.specs.declared.outcome.Halt.TheVariants.{Choice};
+ghost use Rattle.cp_parts.specs.Parts.{IsPartRow};
+ghost use Rattle.cp_parts.specs.Placed.{IsPlaced};
 ghost use Rattle.cp_ends.specs.declared.found.Arrived.TheVariants as arrived;
 ghost use Rattle.cp_ends.specs.Answer.{Arrives, Comes, HoldsFew, ends_tests, halt_of, has_room, number_of};
-ghost use Rattle.cp_ends.specs.Arrivals.{goal_at};
+ghost use Rattle.cp_ends.specs.Arrivals.{goal_at, next_arrival};
 ghost use Rattle.cp_ends.specs.Graph as graph;
-ghost use Rattle.cp_ends.specs.Holds.{Holds, IsBefore, IsMovedFrom, IsWordOf, SlotArrival, SlotFindings};
+ghost use Rattle.cp_ends.specs.Holds.{Holds, IsBefore, IsWordOf, SlotArrival, SlotFindings, same_key};
+ghost use Rattle.cp_ends.specs.declared.origin.Origin.TheVariants.{Start};
 ghost use Rattle.cp_ends.specs.Legs.{with_round};
+ghost use Rattle.cp_ends.specs.Rows.{IsRowFor, middle_of};
 ghost use Rattle.cp_ends.specs.Searched.{with_first, with_values};
 
 use crate::end::End;
 use crate::origin::Origin;
 use crate::states::States;
-use cp_machine::{Moved, Shown, State};
-use cp_run::Halt;
+use cp_machine::{Shown, State};
+use cp_run::{Halt, Job};
 use cp_search::SearchJob;
 use std::alloc::{AllocError, Global};
 
@@ -103,33 +109,103 @@ pub struct Found {
 
 impl Found {
     /// Nothing was found.
-    pub fn new(alloc: Global) -> Found
-        ensures { (r : Tables) → Holds r result (record { states = []; ends = []; values = [] }) }
+    pub fn new(alloc: Global, job: &Job<'_>) -> Result<Found, AllocError>
+        ensures nothing { IfOk result (λ found. Holds job.now.program.now found (record { states = []; ends = []; values = [] })) }
+        ensures ruled { IfOk result (λ found. found.states.discipline ≡ job.now.limits.discipline) }
+        ensures start { IfOk result (λ found. machine_of found.states.standing.state ≡ opening job.now.program.now job.now.limits.discipline) }
     {
-        Found {
-            states: States::new(alloc),
-            ends: Vec::new(alloc),
-            values: Vec::new(alloc),
+        let states = States::new(alloc, job)?;
+        let ends = Vec::new(alloc);
+        let values = Vec::new(alloc);
+        Ok(Found {
+            states,
+            ends,
+            values,
             stopped: None,
-        }
+        })
     }
 
-    /// A word leads to where a stretch came to, which displayed these values. Since the state before these processes moved.
-    pub fn arrive(
+    /// A word leads to where the opening stretch came to, in this state. It displayed these values.
+    pub fn arrive_first(
         &mut self,
         job: &SearchJob<'_>,
         state: &State,
         halt: Halt<End>,
         values: &[Shown],
-        origin: Origin,
-        before: &State,
-        moved: &Moved,
     ) -> Result<Arrived, AllocError>
         requires own { IsStateOf job.now.run.program.now state.now }
         requires quiet { output_of (machine_of state.now) ≡ [] }
-        requires moved { halt ≡ Choice → IsMovedFrom self.old.states origin (has_moved moved.now) (machine_of before.now) (machine_of state.now) }
-        ensures arrives { IfOk result (λ arrived. (f : SlotFindings) (word : List ℕ) (a : SlotArrival) → HoldsFew job.now.run.program.now job.now.most self.old f → IsWordOf f.states origin word → IsBefore (length f.states) origin → goal_at halt (machine_of state.now) ≡ a.goal → values.now ≡ a.shown → Arrives job.now.run.program.now job.now.most self.new f word a arrived) }
+        requires placed { IsPlaced job.now.run.program.now self.old.states.cache.table }
+        requires ruled { halt ≡ Choice → (machine_of state.now).discipline ≡ self.old.states.discipline }
+        ensures arrives { IfOk result (λ arrived. (f : SlotFindings) (word : List ℕ) (a : SlotArrival) → HoldsFew job.now.run.program.now job.now.most self.old f → IsWordOf f.states Start word → goal_at halt (machine_of state.now) ≡ a.goal → values.now ≡ a.shown → Arrives job.now.run.program.now job.now.most self.new f word a arrived) }
         ensures halt { IfOk result (λ arrived. halt_of arrived ≡ halt) }
+    {
+        let row = self.row_of(job, state, halt)?;
+        self.arrive(job, row.as_slice(), halt, values, Origin::Start)
+    }
+
+    // The row of a state where a choice is due.
+    fn row_of(
+        &mut self,
+        job: &SearchJob<'_>,
+        state: &State,
+        halt: Halt<End>,
+    ) -> Result<Vec<u32>, AllocError>
+        requires own { IsStateOf job.now.run.program.now state.now }
+        requires placed { IsPlaced job.now.run.program.now self.old.states.cache.table }
+        ensures row { IfOk result (λ row. halt ≡ Choice → IsPartRow self.new.states.cache.store self.new.states.cache.table (machine_of state.now) row.items) }
+        ensures kept { (r : Tables) (f : SlotFindings) → Holds r self.old f → Holds r self.new f }
+        ensures ruled { self.new.states.discipline ≡ self.old.states.discipline }
+    {
+        match halt {
+            Halt::Ended(_) => Ok(Vec::new(job.alloc)),
+            Halt::Choice => self.states.row_of(job.alloc, state),
+        }
+    }
+
+    /// The row of the state to which a choice in the state of a number leads. Mostly it is found by the legs that are known.
+    pub fn row_after(
+        &mut self,
+        job: &SearchJob<'_>,
+        at: u32,
+        process: u8,
+        state: &State,
+    ) -> Result<Vec<u32>, AllocError>
+        requires own { IsStateOf job.now.run.program.now state.now }
+        requires ruled { self.old.states.discipline ≡ job.now.run.limits.discipline }
+        requires here { (f : SlotFindings) × (x : Machine × List ℕ) × Holds job.now.run.program.now self.old f × (slice_get f.states at ≡ Some x) × (may (slots job.now.run.program.now job.now.run.limits.discipline) x.0 process ≡ true) × (graph.Place (machine_of state.now) ≡ (next_arrival (slots job.now.run.program.now job.now.run.limits.discipline) without_output same_key job.now.run.limits.steps x.0 process).goal) }
+        ensures row { IfOk result (λ row. IsPartRow self.new.states.cache.store self.new.states.cache.table (machine_of state.now) row.items) }
+        ensures kept { IfOk result (λ _. (f : SlotFindings) → Holds job.now.run.program.now self.old f → Holds job.now.run.program.now self.new f) }
+        ensures ruled { self.new.states.discipline ≡ self.old.states.discipline }
+    {
+        let Some(row) = self.states.row_at(at) else {
+            return self.states.row_of(job.alloc, state);
+        };
+        let mut row = Vec::from_slice(job.alloc, row.as_slice())?;
+        let mut shown = Vec::new(job.alloc);
+        let halt = self
+            .states
+            .leads(job.alloc, &job.run, &mut row, process, &mut shown)?;
+        match halt {
+            Some(_) => Ok(row),
+            None => self.states.row_of(job.alloc, state),
+        }
+    }
+
+    /// A word leads to where a stretch came to, in the state of this row, if it is one. It displayed these values.
+    pub fn arrive(
+        &mut self,
+        job: &SearchJob<'_>,
+        row: &[u32],
+        halt: Halt<End>,
+        values: &[Shown],
+        origin: Origin,
+    ) -> Result<Arrived, AllocError>
+        requires { halt ≡ Choice → middle_of self.old.states.cache.table ≤ length row.now }
+        ensures arrives { IfOk result (λ arrived. (f : SlotFindings) (word : List ℕ) (a : SlotArrival) (m : Machine) → HoldsFew job.now.run.program.now job.now.most self.old f → IsWordOf f.states origin word → IsBefore (length f.states) origin → (halt ≡ Choice → IsRowFor job.now.run.program.now self.old.states row.now m) → goal_at halt m ≡ a.goal → values.now ≡ a.shown → Arrives job.now.run.program.now job.now.most self.new f word a arrived) }
+        ensures halt { IfOk result (λ arrived. halt_of arrived ≡ halt) }
+        ensures cache { IfOk result (λ _. self.new.states.cache ≡ self.old.states.cache) }
+        ensures ruled { IfOk result (λ _. self.new.states.discipline ≡ self.old.states.discipline) }
     {
         self.add_values(values, origin)?;
         match halt {
@@ -137,41 +213,40 @@ impl Found {
                 self.add_end(end, origin)?;
                 Ok(Arrived::Ended(end))
             }
-            Halt::Choice => self.add_state(job, state, origin, before, moved),
+            Halt::Choice => self.add_state(job, row, origin),
         }
     }
 
-    // A word leads to a state, where a choice is due.
+    // A word leads to the state of this row, where a choice is due.
     fn add_state(
         &mut self,
         job: &SearchJob<'_>,
-        state: &State,
+        row: &[u32],
         origin: Origin,
-        before: &State,
-        moved: &Moved,
     ) -> Result<Arrived, AllocError>
-        requires own { IsStateOf job.now.run.program.now state.now }
-        requires quiet { output_of (machine_of state.now) ≡ [] }
-        requires moved { IsMovedFrom self.old.states origin (has_moved moved.now) (machine_of before.now) (machine_of state.now) }
-        ensures comes { IfOk result (λ arrived. (f : SlotFindings) (word : List ℕ) → HoldsFew job.now.run.program.now job.now.most self.old f → IsWordOf f.states origin word → IsBefore (length f.states) origin → Comes job.now.run.program.now job.now.most self.new f word (graph.Place (machine_of state.now)) arrived) }
+        requires { middle_of self.old.states.cache.table ≤ length row.now }
+        ensures comes { IfOk result (λ arrived. (f : SlotFindings) (word : List ℕ) (m : Machine) → HoldsFew job.now.run.program.now job.now.most self.old f → IsWordOf f.states origin word → IsBefore (length f.states) origin → IsRowFor job.now.run.program.now self.old.states row.now m → Comes job.now.run.program.now job.now.most self.new f word (graph.Place m) arrived) }
         ensures halt { IfOk result (λ arrived. halt_of arrived ≡ halt.Choice) }
+        ensures cache { IfOk result (λ _. self.new.states.cache ≡ self.old.states.cache) }
+        ensures ruled { IfOk result (λ _. self.new.states.discipline ≡ self.old.states.discipline) }
     {
         let most = job.most;
-        let row = self.states.row_of(job.alloc, state, origin, before, moved)?;
-        if let Some(number) = self.states.number(&row) {
+        let halved = self.states.halve(job.alloc, row)?;
+        if let Some(number) = self.states.number(&halved) {
             return Ok(Arrived::at(number));
         }
         let number = self.states.len();
         if number >= most as usize {
             return Ok(Arrived::Full);
         }
-        self.states.add(row, origin)?;
+        self.states.add(halved, origin)?;
         Ok(Arrived::at(number))
     }
 
     // A word leads to an end.
     fn add_end(&mut self, end: End, origin: Origin) -> Result<(), AllocError>
-        ensures { IfOk result (λ _. (r : Tables) (f : SlotFindings) (word : List ℕ) → Holds r self.old f → IsWordOf f.states origin word → Holds r self.new (record f { ends = with_first ends_tests.end f.ends end word })) }
+        ensures ends { IfOk result (λ _. (r : Tables) (f : SlotFindings) (word : List ℕ) → Holds r self.old f → IsWordOf f.states origin word → Holds r self.new (record f { ends = with_first ends_tests.end f.ends end word })) }
+        ensures states { self.new.states ≡ self.old.states }
     {
         if !has_end(&self.ends, end) {
             self.ends.push(FoundEnd { end, origin })?;

@@ -8,6 +8,8 @@ pub mod laws;
 pub mod origin;
 pub mod report;
 pub mod round;
+pub mod row;
+pub mod rows;
 pub mod search;
 pub mod sight;
 pub mod states;

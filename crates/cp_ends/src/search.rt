@@ -5,11 +5,14 @@ ghost use Rattle.cp_slots.specs.Tables.{Tables};
 ghost use Rattle.cp_machine.specs.Bodies.{KeepBodies, has_moved};
 ghost use Rattle.cp_machine.specs.System.{Machine, machine_of, opening, IsStateOf};
 ghost use Rattle.cp_run.specs.Run.{may, those_below};
-ghost use Rattle.cp_run.specs.Silent.{silent_slots};
+ghost use Rattle.cp_run.specs.Silent.{silent_slots, without_output};
+ghost use Rattle.cp_parts.specs.Parts.{IsPartRow};
 ghost use Rattle.cp_run.specs.Slots.{processes_of, slots};
 ghost use Rattle.cp_run.specs.declared.outcome.Halt.TheVariants as halt;
+ghost use Rattle.cp_run.specs.declared.outcome.Halt.TheVariants.{Choice};
 ghost use Rattle.cp_ends.specs.Answer.{HasNumber, HoldsFew, IsSearch, IsStopped, ends_tests, halt_of, has_room, slot_graph};
-ghost use Rattle.cp_ends.specs.Holds.{Holds, HasFindings};
+ghost use Rattle.cp_ends.specs.Arrivals.{goal_at, next_arrival};
+ghost use Rattle.cp_ends.specs.Holds.{Holds, HasFindings, SlotFindings, same_key};
 ghost use Rattle.cp_ends.specs.Legs.{ComesTo, choice_leg, first_leg, with_round};
 ghost use Rattle.cp_ends.specs.Searched.{nothing, searched};
 ghost use Rattle.cp_ends.specs.Visited.{IsWithin, gone_with};
@@ -17,13 +20,15 @@ ghost use Rattle.cp_ends.specs.Whole.{IsAnswer};
 ghost use Rattle.cp_ends.specs.declared.found.Arrived.TheVariants.{At};
 
 use crate::choosing::{choose, open};
+use crate::end::End;
 use crate::found::{Arrived, Found};
 use crate::origin::Origin;
+use crate::rows::search_rows;
 use crate::sight::{Sight, Unseen};
 use crate::told::Told;
 use cp_machine::State;
 use cp_progress::{ObserveProgress, Progress, Unobserved};
-use cp_run::Job;
+use cp_run::{Halt, Job};
 use cp_search::{SearchJob, Visit, visit_all};
 use std::alloc::{AllocError, Global};
 
@@ -60,33 +65,19 @@ pub fn search_ends_with<O: ObserveProgress>(
         run: *job,
         most: states,
     };
-    search_with(&job, observer)
-}
-
-fn search_with<O: ObserveProgress>(
-    job: &SearchJob<'_>,
-    observer: &mut O,
-) -> Result<Found, AllocError>
-    requires most { 1 ≤ job.now.most }
-    ensures { IfOk result (λ found. IsSearch job.now.run.program.now (slot_graph job.now.run.program.now job.now.run.limits.discipline job.now.run.limits.steps) job.now.most found found.stopped) }
-{
-    let mut visit: EndsVisit<Unseen> = EndsVisit::new(job.alloc, Unseen);
-    let mut state = State::start(job.alloc, job.run.program, job.run.limits.discipline)?;
-    visit.open(job, &mut state)?;
-    let mut next = state.copy(job.alloc)?;
-    visit.found.stopped = visit_all(job, &mut visit, &mut state, &mut next, observer)?;
-    Ok(visit.found)
+    search_rows(&job, observer)
 }
 
 impl<P: Sight> EndsVisit<P> {
     /// Nothing is found.
-    pub fn new(alloc: Global, seen: P) -> EndsVisit<P>
-        ensures { (r : Tables) → Holds r result.found nothing }
+    pub fn new(job: &SearchJob<'_>, seen: P) -> Result<EndsVisit<P>, AllocError>
+        ensures nothing { IfOk result (λ visit. Holds job.now.run.program.now visit.found nothing) }
+        ensures ruled { IfOk result (λ visit. visit.found.states.discipline ≡ job.now.run.limits.discipline) }
     {
-        EndsVisit {
-            found: Found::new(alloc),
-            told: Told::new(alloc, seen),
-        }
+        Ok(EndsVisit {
+            found: Found::new(job.alloc, &job.run)?,
+            told: Told::new(job.alloc, seen),
+        })
     }
 
     /// Follows the opening stretch, and notes where it arrives. Before it nothing is found.
@@ -95,6 +86,7 @@ impl<P: Sight> EndsVisit<P> {
         requires start { machine_of state.old ≡ opening job.now.run.program.now job.now.run.limits.discipline }
         requires most { 1 ≤ job.now.most }
         requires nothing { Holds job.now.run.program.now self.old.found nothing }
+        requires ruled { self.old.found.states.discipline ≡ job.now.run.limits.discipline }
         ensures own { IsStateOf job.now.run.program.now state.new }
         ensures begun { IfOk result (λ _. HoldsFew job.now.run.program.now job.now.most self.new.found (searched (slot_graph job.now.run.program.now job.now.run.limits.discipline job.now.run.limits.steps) ends_tests 0)) }
         ensures leg { IfOk result (λ arrived. ComesTo (silent_slots job.now.run.program.now job.now.run.limits.discipline) (λ w. P.sees w job.now.run.program.now job.now.run.limits.discipline) job.now.run.limits.steps (first_leg (silent_slots job.now.run.program.now job.now.run.limits.discipline) job.now.run.limits.steps) [] self.new.told.seen (with_round self.new.told.again (halt_of arrived)) (machine_of state.new)) }
@@ -102,9 +94,7 @@ impl<P: Sight> EndsVisit<P> {
         self.told.values.clear();
         let halt = open(job.alloc, &job.run, state, &mut self.told)?;
         let values = self.told.values.as_slice();
-        let moved = &self.told.moved;
-        self.found
-            .arrive(job, state, halt, values, Origin::Start, state, moved)
+        self.found.arrive_first(job, state, halt, values)
     }
 
     /// Takes a choice in a copy of the state of this number, and notes where it arrives.
@@ -135,10 +125,9 @@ impl<P: Sight> EndsVisit<P> {
             state: at,
             number: process,
         };
+        let row = row_after(&mut self.found, job, at, process, next, halt)?;
         let values = self.told.values.as_slice();
-        let moved = &self.told.moved;
-        self.found
-            .arrive(job, next, halt, values, origin, state, moved)
+        self.found.arrive(job, row.as_slice(), halt, values, origin)
     }
 
     /// After a choice was taken in a copy of a state, it is one again.
@@ -152,6 +141,28 @@ impl<P: Sight> EndsVisit<P> {
             Arrived::At(_) => next.take_moved(state, &self.told.moved),
             Arrived::Ended(_) | Arrived::Full => next.take_from(state),
         }
+    }
+}
+
+// The row of the state to which a choice in the state of a number led, where a choice is due there.
+fn row_after(
+    found: &mut Found,
+    job: &SearchJob<'_>,
+    at: u32,
+    process: u8,
+    state: &State,
+    halt: Halt<End>,
+) -> Result<Vec<u32>, AllocError>
+    requires own { IsStateOf job.now.run.program.now state.now }
+    requires ruled { found.old.states.discipline ≡ job.now.run.limits.discipline }
+    requires here { (f : SlotFindings) × (x : Machine × List ℕ) × Holds job.now.run.program.now found.old f × (slice_get f.states at ≡ Some x) × (may (slots job.now.run.program.now job.now.run.limits.discipline) x.0 process ≡ true) × (goal_at halt (machine_of state.now) ≡ (next_arrival (slots job.now.run.program.now job.now.run.limits.discipline) without_output same_key job.now.run.limits.steps x.0 process).goal) }
+    ensures row { IfOk result (λ row. halt ≡ Choice → IsPartRow found.new.states.cache.store found.new.states.cache.table (machine_of state.now) row.items) }
+    ensures kept { IfOk result (λ _. (f : SlotFindings) → Holds job.now.run.program.now found.old f → Holds job.now.run.program.now found.new f) }
+    ensures ruled { found.new.states.discipline ≡ found.old.states.discipline }
+{
+    match halt {
+        Halt::Ended(_) => Ok(Vec::new(job.alloc)),
+        Halt::Choice => found.row_after(job, at, process, state),
     }
 }
 

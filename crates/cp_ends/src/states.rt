@@ -1,38 +1,58 @@
 //! The states that were found.
 
-ghost use Rattle.std.specs.Prelude.{◌≡◌, ◌<◌, ◌^◌, ◌∷◌, ◌++◌, ℕ, List, [], length, false, IfOk};
+ghost use Rattle.std.specs.Prelude.{◌≡◌, ◌<◌, ◌≤◌, ◌^◌, ◌∷◌, ◌++◌, ℕ, List, [], length, false, true, slice_get, None, Some, IfNone, IfOk, IfSome};
 ghost use Rattle.cp_slots.specs.Tables.{Tables};
-ghost use Rattle.cp_key.specs.Room.{IsMachineOf};
-ghost use Rattle.cp_states.specs.Rows.{IsRowOf};
-ghost use Rattle.cp_machine.specs.Bodies.{has_moved};
-ghost use Rattle.cp_machine.specs.System.{Machine, machine_of, IsStateOf};
-ghost use Rattle.cp_ends.specs.Holds.{same_key, AreStates, IsAt, IsBefore, IsMovedFrom, IsNumberOf, IsWordOf, origin_at};
+ghost use Rattle.cp_machine.specs.Fits.{MachineFits};
+ghost use Rattle.cp_machine.specs.System.{Machine, machine_of, opening, IsStateOf};
+ghost use Rattle.cp_run.specs.Run.{may};
+ghost use Rattle.cp_run.specs.Slots.{slots};
+ghost use Rattle.cp_stretches.specs.Stretching.{LeadsTo};
+ghost use Rattle.cp_parts.specs.Parts.{IsPartRow};
+ghost use Rattle.cp_parts.specs.Placed.{IsPlaced};
+ghost use Rattle.cp_ends.specs.Holds.{same_key, AreStates, IsAt, IsBefore, IsNumberOf, IsWordOf, origin_at};
+ghost use Rattle.cp_ends.specs.Rows.{IsHalved, IsRowFor, IsStated, middle_of};
 ghost use Rattle.cp_ends.specs.Searched.{has};
 
 use crate::origin::Origin;
-use cp_machine::{Moved, State};
-use cp_states::{StateRow, Store};
+use crate::row::{HalvedRow, append};
+use arrayvec::ArrayVec;
+use cp_machine::{Discipline, Shown, State};
+use cp_run::{Halt, Job, OutcomeKind};
+use cp_states::ListStore;
+use cp_stretches::{LegCache, Standing};
 use indexmap::IndexMap;
 use std::alloc::{AllocError, Global};
 
 /// The states that were found, each once, in the order in which they were found, with the words that led there first.
 #[derive(Drop)]
 pub struct States {
-    /// The row of each state.
-    pub known: IndexMap<StateRow, Origin>,
-    /// The parts of the states.
-    pub store: Store,
+    /// The row of each state, by the numbers of its halves.
+    pub known: IndexMap<HalvedRow, Origin>,
+    pub halves: ListStore<u32>,
+    /// The parts of the states, and the legs that are known.
+    pub cache: LegCache,
+    /// Room for a state with its row, in which legs are made.
+    pub standing: Standing,
+    pub discipline: Discipline,
 }
 
 impl States {
-    /// No state was found.
-    pub fn new(alloc: Global) -> States
-        ensures { result.known.entries ≡ [] }
+    /// No state was found. The opening state stands in the room for one.
+    pub fn new(alloc: Global, job: &Job<'_>) -> Result<States, AllocError>
+        ensures states { IfOk result (λ states. AreStates job.now.program.now states []) }
+        ensures ruled { IfOk result (λ states. states.discipline ≡ job.now.limits.discipline) }
+        ensures start { IfOk result (λ states. machine_of states.standing.state ≡ opening job.now.program.now job.now.limits.discipline) }
     {
-        States {
-            known: IndexMap::new(alloc),
-            store: Store::new(alloc),
-        }
+        let mut cache = LegCache::new(alloc, job.program)?;
+        let standing = cache.start(alloc, job)?;
+        let known = IndexMap::new(alloc);
+        Ok(States {
+            known,
+            halves: ListStore::new(alloc),
+            cache,
+            standing,
+            discipline: job.limits.discipline,
+        })
     }
 
     /// How many states were found.
@@ -43,48 +63,102 @@ impl States {
         self.known.len()
     }
 
-    /// The row of a state, whether it was found or not. Mostly it differs little from that of the state before, since which these processes moved.
-    pub fn row_of(
-        &mut self,
-        alloc: Global,
-        state: &State,
-        origin: Origin,
-        before: &State,
-        moved: &Moved,
-    ) -> Result<StateRow, AllocError>
-        requires { IsMovedFrom self.old origin (has_moved moved.now) (machine_of before.now) (machine_of state.now) }
-        ensures row { IfOk result (λ row. IsRowOf self.new.store row.numbers (machine_of state.now)) }
+    /// The row of a state, whether it was found or not.
+    pub fn row_of(&mut self, alloc: Global, state: &State) -> Result<Vec<u32>, AllocError>
+        requires { (r : Tables) × IsPlaced r self.old.cache.table × MachineFits r (machine_of state.now) }
+        ensures row { IfOk result (λ row. IsPartRow self.new.cache.store self.new.cache.table (machine_of state.now) row.items) }
         ensures kept { (r : Tables) (states : List (Machine × List ℕ)) → AreStates r self.old states → AreStates r self.new states }
+        ensures table { self.new.cache.table ≡ self.old.cache.table }
+        ensures ruled { self.new.discipline ≡ self.old.discipline }
         ensures known { self.new.known ≡ self.old.known }
     {
-        let Origin::Choice { state: at, .. } = origin else {
-            return self.store.row_anew(alloc, state);
-        };
-        let Some((known, _)) = self.known.get_index(at as usize) else {
-            return self.store.row_anew(alloc, state);
-        };
-        let bindings = state.bindings.as_slice();
-        if bindings != before.bindings.as_slice() {
-            return self.store.row_anew(alloc, state);
-        }
-        let mut row = *known;
-        self.store.follow(alloc, state, before, moved, &mut row)?;
-        Ok(row)
+        self.cache.store.row_of(alloc, &self.cache.table, state)
+    }
+
+    /// Where a choice leads in the state of a row, by the legs that are known or are made now, and what it displays; the row becomes the one
+    /// there. `None` where they don't tell.
+    pub fn leads(
+        &mut self,
+        alloc: Global,
+        job: &Job<'_>,
+        row: &mut [u32],
+        process: u8,
+        shown: &mut Vec<Shown>,
+    ) -> Result<Option<Halt<OutcomeKind>>, AllocError>
+        requires ruled { self.old.discipline ≡ job.now.limits.discipline }
+        requires here { (states : List (Machine × List ℕ)) × (m : Machine) × AreStates job.now.program.now self.old states × IsRowFor job.now.program.now self.old row.old m × (may (slots job.now.program.now job.now.limits.discipline) m process ≡ true) }
+        ensures kept { IfOk result (λ _. (states : List (Machine × List ℕ)) → AreStates job.now.program.now self.old states → AreStates job.now.program.now self.new states) }
+        ensures rows { (list : List ℕ) (m : Machine) → IsRowFor job.now.program.now self.old list m → IsRowFor job.now.program.now self.new list m }
+        ensures table { self.new.cache.table ≡ self.old.cache.table }
+        ensures ruled { self.new.discipline ≡ self.old.discipline }
+        ensures leads { IfOk result (λ halts. IfSome halts (λ halt. (m : Machine) → IsRowFor job.now.program.now self.old row.old m → may (slots job.now.program.now job.now.limits.discipline) m process ≡ true → LeadsTo job.now.program.now job.now.limits.discipline self.new.cache.store self.new.cache.table job.now.limits.steps m process shown.old.items halt row.new shown.new.items)) }
+    {
+        let standing = &mut self.standing;
+        self.cache.choose(alloc, job, row, process, standing, shown)
+    }
+
+    // Where a row is halved.
+    fn middle(&self) -> usize
+        ensures { result ≡ middle_of self.now.cache.table }
+    {
+        self.cache.table.width() / 2
+    }
+
+    /// The numbers of the halves of a row.
+    pub fn halve(&mut self, alloc: Global, row: &[u32]) -> Result<HalvedRow, AllocError>
+        requires { middle_of self.old.cache.table ≤ length row.now }
+        ensures halved { IfOk result (λ halved. IsHalved self.new halved.numbers row.now) }
+        ensures kept { (r : Tables) (states : List (Machine × List ℕ)) → AreStates r self.old states → AreStates r self.new states }
+        ensures cache { self.new.cache ≡ self.old.cache }
+        ensures ruled { self.new.discipline ≡ self.old.discipline }
+        ensures known { self.new.known ≡ self.old.known }
+    {
+        let middle = self.middle();
+        let first = self.halves.number_of(alloc, &row[..middle])?;
+        let second = self.halves.number_of(alloc, &row[middle..])?;
+        Ok(HalvedRow {
+            numbers: [first, second],
+        })
     }
 
     /// The number of the state with this row, if it was found.
-    pub fn number(&self, row: &StateRow) -> Option<usize>
-        ensures { (r : Tables) (states : List (Machine × List ℕ)) (m : Machine) → AreStates r self.now states → IsMachineOf r m → IsRowOf self.now.store row.now.numbers m → IsNumberOf states m result }
+    pub fn number(&self, row: &HalvedRow) -> Option<usize>
+        ensures { (r : Tables) (states : List (Machine × List ℕ)) (m : Machine) → AreStates r self.now states → IsStated r self.now row.now.numbers m → IsNumberOf states m result }
     {
         self.known.get_index_of(row)
     }
 
     /// A state that was not found is.
-    pub fn add(&mut self, row: StateRow, origin: Origin) -> Result<(), AllocError>
-        ensures { IfOk result (λ _. (r : Tables) (states : List (Machine × List ℕ)) (m : Machine) (word : List ℕ) → AreStates r self.old states → has same_key states m ≡ false → IsMachineOf r m → m.output ≡ [] → IsRowOf self.old.store row.numbers m → IsWordOf states origin word → IsBefore (length states) origin → AreStates r self.new (states ++ (m, word) ∷ [])) }
+    pub fn add(&mut self, row: HalvedRow, origin: Origin) -> Result<(), AllocError>
+        ensures states { IfOk result (λ _. (r : Tables) (states : List (Machine × List ℕ)) (m : Machine) (word : List ℕ) → AreStates r self.old states → has same_key states m ≡ false → IsStated r self.old row.numbers m → IsWordOf states origin word → IsBefore (length states) origin → AreStates r self.new (states ++ (m, word) ∷ [])) }
+        ensures cache { self.new.cache ≡ self.old.cache }
+        ensures ruled { self.new.discipline ≡ self.old.discipline }
     {
         self.known.insert(row, origin)?;
         Ok(())
+    }
+
+    /// The row with these halves.
+    pub fn row_with(&self, halved: HalvedRow) -> ArrayVec<u32, 97>
+        requires { (row : List ℕ) × IsHalved self.now halved.numbers row × (length row ≤ 97) }
+        ensures { (row : List ℕ) → IsHalved self.now halved.numbers row → result.items ≡ row }
+    {
+        let mut row = ArrayVec::new();
+        append(&mut row, self.halves.at(halved.numbers[0] as usize));
+        append(&mut row, self.halves.at(halved.numbers[1] as usize));
+        row
+    }
+
+    /// The row of the state of this number, if there is one.
+    pub fn row_at(&self, number: u32) -> Option<ArrayVec<u32, 97>>
+        requires { (r : Tables) × (states : List (Machine × List ℕ)) × AreStates r self.now states }
+        ensures found { IfSome result (λ row. (r : Tables) (states : List (Machine × List ℕ)) → AreStates r self.now states → (x : Machine × List ℕ) × (slice_get states number ≡ Some x) × IsRowFor r self.now row.items x.0) }
+        ensures none { IfNone result ((r : Tables) (states : List (Machine × List ℕ)) → AreStates r self.now states → slice_get states number ≡ None) }
+    {
+        let Some((halved, _)) = self.known.get_index(number as usize) else {
+            return None;
+        };
+        Some(self.row_with(*halved))
     }
 
     /// A state becomes the one that was found with this number; `false` where there is none.
@@ -93,10 +167,14 @@ impl States {
         ensures own { (r : Tables) (states : List (Machine × List ℕ)) → IsStateOf r state.old → AreStates r self.now states → IsStateOf r state.new }
         ensures at { (r : Tables) (states : List (Machine × List ℕ)) → IsStateOf r state.old → AreStates r self.now states → IsAt states number result (machine_of state.new) }
     {
-        let Some((row, _)) = self.known.get_index(number as usize) else {
+        let Some((halved, _)) = self.known.get_index(number as usize) else {
             return false;
         };
-        self.store.take_anew(row, state);
+        let row = self.row_with(*halved);
+        state.discipline = self.discipline;
+        self.cache
+            .store
+            .take_row_anew(&self.cache.table, row.as_slice(), state);
         true
     }
 

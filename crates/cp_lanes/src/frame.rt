@@ -1,7 +1,7 @@
 //! What stands around the lanes: patterns, ground, heads, the end and the key.
 
 use crate::draw::all_wait;
-use crate::heading::signals_words;
+use crate::heading::schedule_words;
 use crate::labels::{BOLD, WIDTH, bold_width, plain_width, points};
 use crate::palette::{FAINT, GREEN, GREY, Hue, INK, PALE, PATTERNS, RED, SLATE, WHITE, hue_of};
 use crate::pictures::{Layout, Scene};
@@ -39,11 +39,9 @@ pub fn draw_patterns(svg: &mut Svg, scene: Scene<'_>, title: &str) {
         svg.escape_made(end_words(scene.alloc, scene.story));
         svg.raw(", ");
     }
-    svg.raw("schedule ");
-    svg.escape(scene.schedule);
-    svg.raw(signals_words(scene.story));
+    svg.escape_made(schedule_words(scene));
     svg.raw("</title>\n<desc>");
-    svg.escape(scene.end.trim());
+    svg.escape(scene.end);
     svg.raw("</desc>\n<defs>\n");
     for number in 0..scene.legend.monitors().max(1).min(PATTERNS) {
         draw_patterns_of(svg, number, hue_of(number));
@@ -333,7 +331,7 @@ fn push_lines(
 // How the run stops, with the last line of the trace beside it.
 fn draw_outcome(svg: &mut Svg, scene: Scene<'_>, plan: &Plan, top: f64, words: &str) {
     let width = bold_width(words, 12.5) + 26.0;
-    svg.open(scene.end.trim());
+    svg.open(scene.end);
     svg.block(Block {
         radius: 13.0,
         ..Block::plain(20.0, top, width, 26.0, end_colour(scene.story))
@@ -341,21 +339,8 @@ fn draw_outcome(svg: &mut Svg, scene: Scene<'_>, plan: &Plan, top: f64, words: &
     svg.words(33.0, top + 17.5, bold(12.5, "#fff"), words);
     let beside = 20.0 + width + 14.0;
     let room = LineRoom::new(scene.alloc, plan.width - beside - 20.0, 12.0 * WIDTH);
-    let outcome = room.cut(outcome_of(scene.end));
-    svg.words_made(beside, top + 17.5, light(12.0), outcome);
+    svg.words_made(beside, top + 17.5, light(12.0), room.cut(scene.outcome));
     svg.close();
-}
-
-// The last line of a trace without its first words.
-fn outcome_of(end: &str) -> &str {
-    let end = end.trim();
-    match end.strip_prefix("ended ") {
-        Some(rest) => match rest.split_once(' ') {
-            Some((_, outcome)) => outcome,
-            None => rest,
-        },
-        None => end,
-    }
 }
 
 fn end_colour(story: &Story) -> &'static str {

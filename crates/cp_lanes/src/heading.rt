@@ -37,25 +37,30 @@ pub fn heading_of(scene: Scene<'_>, width: f64) -> Result<PictureHeading, AllocE
 }
 
 fn schedule_in_lines(scene: Scene<'_>, room: f64) -> Result<Vec<String>, AllocError> {
-    let (alloc, schedule) = (scene.alloc, scene.schedule);
-    let signals = signals_words(scene.story);
-    if scene.is_plain && signals.is_empty() {
-        return Ok(Vec::new(alloc));
-    }
-    let words = if scene.is_plain {
-        String::from_str(alloc, signals.strip_prefix(", ").unwrap_or(signals))?
+    let words = if !scene.is_plain {
+        schedule_words(scene)?
+    } else if let Some(signals) = signals_words(scene.story) {
+        String::from_str(scene.alloc, signals)?
     } else {
-        format!(in alloc; "schedule {schedule}{signals}")?
+        return Ok(Vec::new(scene.alloc));
     };
-    LineRoom::new(alloc, room, 12.5 * WIDTH).break_at(words.as_str(), '.')
+    LineRoom::new(scene.alloc, room, 12.5 * WIDTH).break_at(words.as_str(), '.')
 }
 
-/// The discipline behind a comma, where it is another one than `return`.
-pub fn signals_words(story: &Story) -> &'static str {
+/// The schedule, and the discipline where it is another one than `return`.
+pub fn schedule_words(scene: Scene<'_>) -> Result<String, AllocError> {
+    let (alloc, schedule) = (scene.alloc, scene.schedule);
+    match signals_words(scene.story) {
+        Some(signals) => format!(in alloc; "schedule {schedule}, {signals}"),
+        None => format!(in alloc; "schedule {schedule}"),
+    }
+}
+
+fn signals_words(story: &Story) -> Option<&'static str> {
     match story.signals {
-        Signals::Return => "",
-        Signals::Continue => ", signals continue",
-        Signals::Wait => ", signals wait",
+        Signals::Return => None,
+        Signals::Continue => Some("signals continue"),
+        Signals::Wait => Some("signals wait"),
     }
 }
 

@@ -72,64 +72,43 @@ fn plain_hue(number: u8) -> Hue {
 }
 
 fn hatched_hue(number: u8) -> Hue {
-    let hue = plain_hue(number);
+    let (gate, queue) = waiting_patterns(number);
+    let (stay, bar) = filling_patterns(number);
+    Hue {
+        stay,
+        bar,
+        gate,
+        queue,
+        is_hatched: true,
+        ..plain_hue(number)
+    }
+}
+
+// Of waiting at the gate and in a queue, with a hatch.
+fn waiting_patterns(number: u8) -> (&'static str, &'static str) {
     match number {
-        0 => hatched(
-            hue,
-            "url(#gate8)",
-            "url(#queue8)",
-            "url(#stay8)",
-            "url(#bar8)",
-        ),
-        1 => hatched(
-            hue,
-            "url(#gate9)",
-            "url(#queue9)",
-            "url(#stay9)",
-            "url(#bar9)",
-        ),
-        2 => hatched(
-            hue,
-            "url(#gate10)",
-            "url(#queue10)",
-            "url(#stay10)",
-            "url(#bar10)",
-        ),
-        3 => hatched(
-            hue,
-            "url(#gate11)",
-            "url(#queue11)",
-            "url(#stay11)",
-            "url(#bar11)",
-        ),
-        4 => hatched(
-            hue,
-            "url(#gate12)",
-            "url(#queue12)",
-            "url(#stay12)",
-            "url(#bar12)",
-        ),
-        5 => hatched(
-            hue,
-            "url(#gate13)",
-            "url(#queue13)",
-            "url(#stay13)",
-            "url(#bar13)",
-        ),
-        6 => hatched(
-            hue,
-            "url(#gate14)",
-            "url(#queue14)",
-            "url(#stay14)",
-            "url(#bar14)",
-        ),
-        _ => hatched(
-            hue,
-            "url(#gate15)",
-            "url(#queue15)",
-            "url(#stay15)",
-            "url(#bar15)",
-        ),
+        0 => ("url(#gate8)", "url(#queue8)"),
+        1 => ("url(#gate9)", "url(#queue9)"),
+        2 => ("url(#gate10)", "url(#queue10)"),
+        3 => ("url(#gate11)", "url(#queue11)"),
+        4 => ("url(#gate12)", "url(#queue12)"),
+        5 => ("url(#gate13)", "url(#queue13)"),
+        6 => ("url(#gate14)", "url(#queue14)"),
+        _ => ("url(#gate15)", "url(#queue15)"),
+    }
+}
+
+// Of boxes and bars, with a hatch.
+fn filling_patterns(number: u8) -> (&'static str, &'static str) {
+    match number {
+        0 => ("url(#stay8)", "url(#bar8)"),
+        1 => ("url(#stay9)", "url(#bar9)"),
+        2 => ("url(#stay10)", "url(#bar10)"),
+        3 => ("url(#stay11)", "url(#bar11)"),
+        4 => ("url(#stay12)", "url(#bar12)"),
+        5 => ("url(#stay13)", "url(#bar13)"),
+        6 => ("url(#stay14)", "url(#bar14)"),
+        _ => ("url(#stay15)", "url(#bar15)"),
     }
 }
 
@@ -149,22 +128,5 @@ fn plain(
         gate,
         queue,
         is_hatched: false,
-    }
-}
-
-fn hatched(
-    hue: Hue,
-    gate: &'static str,
-    queue: &'static str,
-    stay: &'static str,
-    bar: &'static str,
-) -> Hue {
-    Hue {
-        stay,
-        bar,
-        gate,
-        queue,
-        is_hatched: true,
-        ..hue
     }
 }

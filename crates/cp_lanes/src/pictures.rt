@@ -35,6 +35,8 @@ pub struct Scene<'a> {
     pub schedule: &'a str,
     /// The last line of the plain trace.
     pub end: &'a str,
+    /// The outcome as that line has it; the line itself, where the run has not ended.
+    pub outcome: &'a str,
     pub source: &'a [String],
     /// The event with which a round begins that can be gone again and again.
     pub again: Option<usize>,

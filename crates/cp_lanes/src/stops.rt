@@ -9,7 +9,8 @@ use crate::spans::Spans;
 use crate::svg::{BOLD_TYPE, Block, Style, Svg};
 use crate::wrapping::label_lines;
 use crate::written::expression_at;
-use cp_story::{AbruptEnd, Annotation, Violation, violation_words};
+use cp_run::{OutcomeKind, RunEnd};
+use cp_story::{AbruptEnd, Annotation, Violation, error_words, violation_words};
 use std::alloc::AllocError;
 
 /// Draws the row of a run error or of a limit.
@@ -104,15 +105,20 @@ fn stop_label(scene: Scene<'_>, stop: &AbruptEnd) -> Result<PictureLabel, AllocE
         return Ok(PictureLabel::new(expression, Face::Bold));
     }
     let mut label = PictureLabel::new(stop.words.clone()?, Face::Bold);
-    label.brief = Some(String::from_str(scene.alloc, stop_name(stop.words.as_str()))?);
+    label.brief = Some(String::from_str(scene.alloc, stop_name(scene, stop))?);
     Ok(label)
 }
 
 // The name of a run error, or which limit it is.
-fn stop_name(words: &str) -> &str {
-    let name = words.strip_prefix("stops with ").unwrap_or(words);
-    let name = name.strip_prefix("goes on to the ").unwrap_or(name);
-    name.split_once(':').map_or(name, |(name, _)| name)
+fn stop_name<'a>(scene: Scene<'_>, stop: &'a AbruptEnd) -> &'a str {
+    let RunEnd::Ended { outcome, .. } = &scene.story.end else {
+        return stop.words.as_str();
+    };
+    match outcome.kind {
+        OutcomeKind::RunError { name, .. } => error_words(name),
+        OutcomeKind::StepLimit => "limit of steps",
+        _ => stop.words.as_str(),
+    }
 }
 
 /// The width of what is said of the stop in the lane of a process; 0 where it is not there.

@@ -18,6 +18,8 @@ use Rattle.cp_tool.specs.declared.options.Options.{Options}
 use Rattle.cp_expectation.specs.declared.expectation.Expectation.{Expectation}
 use Rattle.cp_verdict.specs.endless.AtOnce.{IsEndsMark, IsMarkAtOnce, can_be_at_once}
 use Rattle.cp_verdict.specs.endless.Naming.{Processes, processes_of}
+use Rattle.cp_verdict.specs.endless.Said.{IsSaid}
+use Rattle.cp_verdict.specs.declared.endless.saying.MarkedEnds.{MarkedEnds}
 use Rattle.cp_verdict.specs.declared.endless.verdict.EndsMark as ends_mark
 use Rattle.cp_verdict.specs.waiting.Who.{who_at}
 use Rattle.cp_outcomes.specs.Findings.{IsKnownOf}
@@ -73,6 +75,9 @@ known_told x l es doubtful e k said same known (inr t) =
     (e, inr (record { choices = k.choices; marked = t.1.0; fewer = within.fewer; is_marked = t.1.2 within.tallies; is = t.2 ∙ ap (λ s. excess_saying (setting_of x) e (Some (k.choices, s))) t.1.1 }))
 
 -- ---- by schedules of any length
+
+pub said_so : (o : Options) (l : Limits) (r : Tables) (ps : Processes) (es : List Expectation) (m : MarkedEnds) {choices : ℕ} → (l.choices ≡ choices) × (l.steps ≡ o.steps) × (l.discipline ≡ o.discipline) → IsSaid r ps l.discipline l.steps o.states es m → IsSaid r ps o.discipline o.steps o.states es m
+said_so o l r ps es m same h = subst (λ (g : Discipline). IsSaid r ps g o.steps o.states es m) same.2 (subst (λ (n : ℕ). IsSaid r ps l.discipline n o.states es m) same.1 h)
 
 module _ (o : Options) (l : Limits) (r : Tables) (ps : Processes) (es : List Expectation) (m : ends_mark.EndsMark) (verdict : ShowVerdict) {choices : ℕ} (same : (l.choices ≡ choices) × (l.steps ≡ o.steps) × (l.discipline ≡ o.discipline)) (is : verdict ≡ ends_verdict_of m) where
   by_states : IsEndsMark r ps l.discipline l.steps o.states es m → TellsEndsMark r ps o.discipline o.steps o.states es verdict

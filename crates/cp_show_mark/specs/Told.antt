@@ -77,6 +77,6 @@ TellsSaying s es doubtful told said = ((m : Marked) × IsMarkTold s es doubtful 
 abbrev pub TellsText : Setting → List Expectation → Option (List ℕ) → ShowVerdict → List ℕ → Type 0
 TellsText s es doubtful told text = (said : List ℕ) × TellsSaying s es doubtful told said × (text ≡ ended s.as_json said)
 
--- By schedules of any length: what is told has each expectation in its turn, what is said of all, and how the mark was found.
+-- By schedules of any length: what is told has each expectation in its turn, with its judgement and why, what is said of all, and by which search the mark was found.
 abbrev pub TellsEndsText : Setting → List Expectation → ShowVerdict → List ℕ → Type 0
-TellsEndsText s es told text = (m : MarkedEnds) × IsSaid s.states es m × (told ≡ ends_verdict_of m.mark) × (text ≡ ended s.as_json (ends_saying s m))
+TellsEndsText s es told text = (m : MarkedEnds) × IsSaid s.program (processes_in s.legend) s.discipline s.steps s.states es m × (told ≡ ends_verdict_of m.mark) × (text ≡ ended s.as_json (ends_saying s m))

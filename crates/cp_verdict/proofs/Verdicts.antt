@@ -1,6 +1,5 @@
--- The judgements of some expectations and one more, and the mark of all.
-use Rattle.std.proofs.Common.{◌≡◌, ◌⊎◌, inl, inr, ◌∙◌, ◌+◌, ◌<◌, ◌≤◌, ℕ, Bool, true, false, ◌||◌, if◌then◌else◌, List, [], ◌∷◌, ◌++◌, length, get_or, take, Option, None, Some, refl, sym, ap, subst}
-use Rattle.std.proofs.lemmas.List.{take_all, take_more}
+-- The mark of some expectations by their judgements.
+use Rattle.std.proofs.Common.{◌≡◌, ◌⊎◌, inl, inr, Bool, true, false, ◌||◌, if◌then◌else◌, List, [], ◌∷◌, Option, None, Some, refl}
 use Rattle.cp_walk.specs.Text.{Spellings}
 use Rattle.cp_run.specs.Table.{Line, IsAmong, Here, There}
 use Rattle.cp_verdict.specs.Judged.{row_line, IsJudged}
@@ -11,24 +10,6 @@ use Rattle.cp_verdict.specs.declared.judging.Judgement.TheVariants as judgement
 use Rattle.cp_verdict.specs.declared.marking.Standing.TheVariants as mark
 
 module _ (names : Spellings) (lines : List Line) where
-  pub judged_none : (list : List Expectation) (js : List Judgement) → js ≡ [] → AreJudged names lines (take 0 list) js
-  judged_none list js is = subst (AreJudged names lines []) (sym is) tt
-
-  one_more : (es : List Expectation) (js : List Judgement) (e : Expectation) (j : Judgement) → AreJudged names lines es js → IsJudged names e lines j → AreJudged names lines (es ++ e ∷ []) (js ++ j ∷ [])
-  one_more [] [] e j m h = (h, tt)
-  one_more (f ∷ es) (k ∷ js) e j m h = (m.0, one_more es js e j m.1 h)
-  one_more _ _ e j m h = absurd m
-
-  pub judged_more : (list : List Expectation) (i : ℕ) (e : Expectation) (js all : List Judgement) (j : Judgement) → i < length list → e ≡ get_or list i e → all ≡ js ++ j ∷ [] → AreJudged names lines (take i list) js → IsJudged names e lines j → AreJudged names lines (take (i + 1) list) all
-  judged_more list i e js all j less item is m h =
-      let longer : take (i + 1) list ≡ take i list ++ e ∷ [] = take_more list i e less ∙ ap (λ x. take i list ++ x ∷ []) (sym item) in
-      subst (λ es. AreJudged names lines es all) (sym longer) (subst (AreJudged names lines (take i list ++ e ∷ [])) (sym is) (one_more (take i list) js e j m h))
-
-  pub judged_all : (list : List Expectation) (i : ℕ) (js : List Judgement) → length list ≤ i → AreJudged names lines (take i list) js → AreJudged names lines list js
-  judged_all list i js le m = subst (λ es. AreJudged names lines es js) (take_all i list le) m
-
-  -- ---- the mark
-
   fails_by : (e : Expectation) (j : Judgement) → IsJudged names e lines j → is_against j ≡ true → (against : Option Line) × FailsOf names lines e against
   fails_by e (judgement.Against r) h a = (Some (row_line r), (h.1, h.0, h.2))
   fails_by e judgement.Missing h a = (None, (h.1, h.0, h.2))

@@ -45,12 +45,16 @@ IsMarkOf names es lines mark.Holds = Each (HoldsOf names lines) es
 IsMarkOf names es lines mark.Fails = (e : Expectation) × (against : Option Line) × IsAmong e es × FailsOf names lines e against
 IsMarkOf names es lines mark.Open = Each (λ x. HoldsOf names lines x ⊎ OpenOf names lines x) es × ((e : Expectation) × IsAmong e es × OpenOf names lines e)
 
--- the judgements are those of the expectations, one after the other
+-- one for each expectation, in their order
+abbrev pub OneForEach : {B : Type 0} → (Expectation → B → Type 0) → List Expectation → List B → Type 0
+OneForEach J [] [] = Unit {0}
+OneForEach J [] (j ∷ js) = ⊥
+OneForEach J (e ∷ es) [] = ⊥
+OneForEach J (e ∷ es) (j ∷ js) = J e j × OneForEach J es js
+
+-- the judgements are those of the expectations
 abbrev pub AreJudged : Spellings → List Line → List Expectation → List Judgement → Type 0
-AreJudged names lines [] [] = Unit {0}
-AreJudged names lines [] (j ∷ js) = ⊥
-AreJudged names lines (e ∷ es) [] = ⊥
-AreJudged names lines (e ∷ es) (j ∷ js) = IsJudged names e lines j × AreJudged names lines es js
+AreJudged names lines es js = OneForEach (λ e j. IsJudged names e lines j) es js
 
 abbrev pub is_against : Judgement → Bool
 is_against (judgement.Against r) = true

@@ -65,10 +65,9 @@ fn build_graph<O: ObserveProgress>(
     requires most { 1 ≤ job.now.most }
     ensures { IfOk result (λ x. IsSearchedGraph job.now.run.program.now job.now.run.limits.discipline job.now.run.limits.steps job.now.most x.found x.graph x.found.stopped) }
 {
-    let mut visit: GraphVisit = GraphVisit {
-        ends: EndsVisit::new(job.alloc, PassingSets::begin(job.run.program)),
-        graph: Graph::new(job.alloc, job.run.program.processes()),
-    };
+    let ends = EndsVisit::new(job, PassingSets::begin(job.run.program))?;
+    let graph = Graph::new(job.alloc, job.run.program.processes());
+    let mut visit: GraphVisit = GraphVisit { ends, graph };
     let mut state = State::start(job.alloc, job.run.program, job.run.limits.discipline)?;
     let arrived = visit.ends.open(job, &mut state)?;
     let halt = arrived.halt(visit.ends.told.again);

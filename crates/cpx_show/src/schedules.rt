@@ -12,9 +12,10 @@ use crate::missing::rows_beyond;
 use crate::selecting::{ChosenSchedule, Selection, select_schedule};
 use cp_lanes::{PictureView, Scene, SheetExtent, picture, row_count};
 use cp_progress::ObserveProgress;
+use cp_run::RunEnd;
 use cp_show_mark::{ShowAnswer, ShowVerdict, story_of};
 use cp_story::{Story, first_of_round, json, text};
-use cp_walk::text::push_word;
+use cp_walk::text::{push_outcome, push_word};
 use cp_walk::trace_report;
 use std::alloc::{AllocError, Global};
 
@@ -121,13 +122,16 @@ fn story_in(
         ScheduleForm::Lines => text(alloc, legend, story, again, end.text.as_str()),
         ScheduleForm::Json => json(alloc, legend, story, again, word, lines),
         ScheduleForm::Picture(view) => {
+            let line = end.text.as_str().trim();
             let schedule = schedule_text(alloc, word)?;
+            let outcome = outcome_text(inquiry, &story.end, line)?;
             picture(Scene {
                 alloc,
                 legend,
                 story,
                 schedule: schedule.as_str(),
-                end: end.text.as_str(),
+                end: line,
+                outcome: outcome.as_str(),
                 source: lines,
                 again,
                 extent: view.extent,
@@ -135,6 +139,18 @@ fn story_in(
             })
         }
     }
+}
+
+// The outcome as the last line of a trace has it; that line, where the run has not ended.
+fn outcome_text(inquiry: Inquiry<'_>, end: &RunEnd, line: &str) -> Result<String, AllocError> {
+    let mut text = String::new(inquiry.alloc);
+    match end {
+        RunEnd::Ended { outcome, .. } => {
+            push_outcome(&mut text, &inquiry.loaded.program, outcome)?;
+        }
+        RunEnd::Wants { .. } | RunEnd::NotReady { .. } => text.push_str(line)?,
+    }
+    Ok(text)
 }
 
 // A word as it is written; the empty one by a name.

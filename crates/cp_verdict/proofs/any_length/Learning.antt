@@ -13,7 +13,7 @@ use Rattle.cp_ends.specs.declared.found.FoundEnd.{FoundEnd}
 use Rattle.cp_ends.specs.declared.found.FoundValue.{FoundValue}
 use Rattle.cp_ends.specs.declared.origin.Origin.{Origin}
 use Rattle.cp_ends.specs.declared.states.States.{States}
-use Rattle.cp_states.specs.declared.row.StateRow.{StateRow}
+use Rattle.cp_ends.specs.declared.row.HalvedRow.{HalvedRow}
 use Rattle.cp_ends.proofs.Keeping.{no_state}
 use Rattle.cp_verdict.specs.endless.Knowledge.{HasMore, HasTexts, IsKnown, IsLookedAt, KnowsWaits, Looked, end_pair, is_looked_at, those_looked_at, value_pair}
 use Rattle.cp_verdict.proofs.any_length.Finding.{at_map, some_same}
@@ -24,7 +24,7 @@ module _ (r : Tables) (kept : States) (states : List (Machine × List ℕ)) (h :
   pub state_word : (at : ℕ) (x : Machine × List ℕ) → slice_get states at ≡ Some x → IsWordOf states (origin_at kept.known.entries at) x.1
   state_word at x is = by (slice_get kept.known.entries at) refl
     where
-      by : (o : Option (StateRow × Origin)) → slice_get kept.known.entries at ≡ o → IsWordOf states (origin_at kept.known.entries at) x.1
+      by : (o : Option (HalvedRow × Origin)) → slice_get kept.known.entries at ≡ o → IsWordOf states (origin_at kept.known.entries at) x.1
       by None e = absurd (let none = no_state r kept states h at e in cc)
       by (Some y) e = subst (λ o. IsWordOf states (origin_or o) x.1) (sym e) (h.words at y x e is)
 

@@ -1,15 +1,14 @@
 -- What a table says of some expectations together, where they may name who waits at an end.
-use Rattle.std.specs.Prelude.{◌≡◌, ◌≢◌, ◌⊎◌, ℕ, List, [], ◌∷◌, true, false, Option, None, Some}
+use Rattle.std.specs.Prelude.{◌≡◌, ◌≢◌, ◌⊎◌, ℕ, List, true, false, Option, None, Some}
 use Rattle.std.specs.List.{list_any}
 use Rattle.cp_walk.specs.Text.{Spellings}
 use Rattle.cp_run.specs.Table.{Line, IsAmong}
 use Rattle.cp_expectation.specs.declared.expectation.Claim.TheVariants.{Sometimes}
 use Rattle.cp_expectation.specs.declared.expectation.Expectation.{Expectation}
 use Rattle.cp_verdict.specs.Limits.{AreStopsOf}
-use Rattle.cp_verdict.specs.Marked.{Each}
+use Rattle.cp_verdict.specs.Marked.{Each, OneForEach}
 use Rattle.cp_verdict.specs.endless.Naming.{Processes}
 use Rattle.cp_verdict.specs.waiting.Judged.{IsJudgedAny, IsSettling, is_left_open, is_true_of, settles_at}
-use Rattle.cp_verdict.specs.declared.judging.Judgement.{Judgement}
 use Rattle.cp_verdict.specs.declared.marking.Standing.{Standing}
 use Rattle.cp_verdict.specs.declared.marking.Standing.TheVariants as mark
 use Rattle.cp_verdict.specs.declared.program.Marked.{Marked}
@@ -33,15 +32,8 @@ IsMarkOf names ps who es lines mark.Holds = Each (HoldsOf names ps who lines) es
 IsMarkOf names ps who es lines mark.Fails = (e : Expectation) × (against : Option Line) × IsAmong e es × FailsOf names ps who lines e against
 IsMarkOf names ps who es lines mark.Open = Each (λ x. HoldsOf names ps who lines x ⊎ OpenOf names ps who lines x) es × ((e : Expectation) × IsAmong e es × OpenOf names ps who lines e)
 
--- the judgements are those of the expectations, one after the other
-abbrev pub AreJudged : (Expectation → Judgement → Type 0) → List Expectation → List Judgement → Type 0
-AreJudged J [] [] = Unit {0}
-AreJudged J [] (j ∷ js) = ⊥
-AreJudged J (e ∷ es) [] = ⊥
-AreJudged J (e ∷ es) (j ∷ js) = J e j × AreJudged J es js
-
 -- each expectation is judged, they are marked together, and the limits are those at which rows ended
 pub record IsMarked (names : Spellings) (ps : Processes) (who : List ℕ → List ℕ) (es : List Expectation) (lines : List Line) (m : Marked) : Type 0 where
-  pub judged : AreJudged (IsJudgedAny names ps who lines) es m.judgements.items
+  pub judged : OneForEach (IsJudgedAny names ps who lines) es m.judgements.items
   pub together : IsMarkOf names ps who es lines m.mark
   pub stops : AreStopsOf lines m.stops

@@ -27,7 +27,7 @@ pub fn mark_in_turn<O: ObserveProgress>(
     observer: &mut O,
 ) -> Result<MarkedEnds, AllocError>
     ensures mark { 1 ≤ subject.entry.most → IfOk result (λ m. spec.IsEndsMark subject.entry.program.now (processes_of subject.entry.legend.now) subject.entry.limits.discipline subject.entry.limits.steps subject.entry.most list.now m.mark) }
-    ensures said { IfOk result (λ m. IsSaid subject.entry.most list.now m) }
+    ensures said { 1 ≤ subject.entry.most → IfOk result (IsSaid subject.entry.program.now (processes_of subject.entry.legend.now) subject.entry.limits.discipline subject.entry.limits.steps subject.entry.most list.now) }
 {
     let marked = mark_list(alloc, subject, list, observer)?;
     match marked.mark {
@@ -46,7 +46,7 @@ fn mark_again<O: ObserveProgress>(
 ) -> Result<MarkedEnds, AllocError>
     ensures same { spec.can_be_at_once subject.entry.limits.discipline list.now ≡ false → IfOk result (λ m. m.mark ≡ marked.mark) }
     ensures again { IfOk result (λ m. spec.IsAgain subject.entry.program.now (processes_of subject.entry.legend.now) subject.entry.limits.discipline subject.entry.limits.steps list.now marked.mark m.mark) }
-    ensures said { IsSaidAlone subject.entry.most false list.now marked → IfOk result (λ m. IsSaid subject.entry.most list.now m) }
+    ensures said { IsSaidAlone false subject.entry.program.now (processes_of subject.entry.legend.now) subject.entry.limits.discipline subject.entry.limits.steps subject.entry.most list.now marked → IfOk result (IsSaid subject.entry.program.now (processes_of subject.entry.legend.now) subject.entry.limits.discipline subject.entry.limits.steps subject.entry.most list.now) }
 {
     if can_be_at_once(subject.limits.discipline, list) {
         let again = search_at_once(alloc, subject, list, observer)?;
@@ -64,7 +64,7 @@ fn tell_again(
     again: MarkedEnds,
 ) -> Result<MarkedEnds, AllocError>
     ensures mark { IfOk result (λ m. (m.mark ≡ marked.mark) ⊎ (m.mark ≡ again.mark)) }
-    ensures said { (es : List Expectation) → IsSaidAlone subject.entry.most false es marked → IsSaidAlone subject.entry.most true es again → IfOk result (λ m. IsSaid subject.entry.most es m) }
+    ensures said { (es : List Expectation) → IsSaidAlone false subject.entry.program.now (processes_of subject.entry.legend.now) subject.entry.limits.discipline subject.entry.limits.steps subject.entry.most es marked → IsSaidAlone true subject.entry.program.now (processes_of subject.entry.legend.now) subject.entry.limits.discipline subject.entry.limits.steps subject.entry.most es again → IfOk result (IsSaid subject.entry.program.now (processes_of subject.entry.legend.now) subject.entry.limits.discipline subject.entry.limits.steps subject.entry.most es) }
 {
     match again.mark {
         EndsMark::TooMany => marked.with_line("so there are with kernel calls at once\n"),
@@ -95,7 +95,7 @@ pub fn mark_at_once<O: ObserveProgress>(
 ) -> Result<MarkedEnds, AllocError>
     ensures mark { spec.can_be_at_once subject.entry.limits.discipline list.now ≡ true → IfOk result (λ m. spec.IsMarkAtOnce subject.entry.program.now (processes_of subject.entry.legend.now) subject.entry.limits.steps list.now m.mark) }
     ensures states { 1 ≤ subject.entry.most → spec.can_be_at_once subject.entry.limits.discipline list.now ≡ false → IfOk result (λ m. spec.IsEndsMark subject.entry.program.now (processes_of subject.entry.legend.now) subject.entry.limits.discipline subject.entry.limits.steps subject.entry.most list.now m.mark) }
-    ensures said { IfOk result (λ m. IsSaid subject.entry.most list.now m) }
+    ensures said { 1 ≤ subject.entry.most → IfOk result (IsSaid subject.entry.program.now (processes_of subject.entry.legend.now) subject.entry.limits.discipline subject.entry.limits.steps subject.entry.most list.now) }
 {
     if can_be_at_once(subject.limits.discipline, list) {
         search_at_once(alloc, subject, list, observer)
@@ -112,7 +112,7 @@ fn search_at_once<O: ObserveProgress>(
     observer: &mut O,
 ) -> Result<MarkedEnds, AllocError>
     ensures mark { spec.can_be_at_once subject.entry.limits.discipline list.now ≡ true → IfOk result (λ m. spec.IsMarkAtOnce subject.entry.program.now (processes_of subject.entry.legend.now) subject.entry.limits.steps list.now m.mark) }
-    ensures said { IfOk result (λ m. IsSaidAlone subject.entry.most true list.now m) }
+    ensures said { spec.can_be_at_once subject.entry.limits.discipline list.now ≡ true → IfOk result (IsSaidAlone true subject.entry.program.now (processes_of subject.entry.legend.now) subject.entry.limits.discipline subject.entry.limits.steps subject.entry.most list.now) }
 {
     let MarkSubject {
         program,

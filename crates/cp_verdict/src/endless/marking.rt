@@ -1,23 +1,25 @@
 //! Whether all of some expectations hold of schedules of any length.
 
-ghost use Rattle.std.specs.Prelude.{◌≡◌, ◌≤◌, ◌<◌, ◌^◌, ℕ, Bool, IfOk, false, true};
+ghost use Rattle.std.specs.Prelude.{◌≡◌, ◌≤◌, ◌<◌, ◌^◌, ℕ, Bool, [], IfOk, false, string_bytes, true};
 ghost use Rattle.cp_slots.specs.Tables.{Tables};
 ghost use Rattle.cp_machine.specs.declared.discipline.Discipline as slot_discipline;
+ghost use Rattle.cp_walk.specs.Text.{Spellings};
 ghost use Rattle.cp_ends.specs.Whole.{IsAnswer};
 ghost use Rattle.cp_ends.specs.declared.found.Found.{Found};
 ghost use Rattle.cp_waits.specs.Named.{TellAsked};
-ghost use Rattle.cp_verdict.specs.endless.Knowledge.{IsKnown, KnowsWaits, stops_of};
+ghost use Rattle.cp_verdict.specs.endless.Knowledge.{HasTexts, IsKnown, KnowsWaits, is_whole, stops_of};
 ghost use Rattle.cp_verdict.specs.endless.Marked as spec;
 ghost use Rattle.cp_verdict.specs.endless.Naming.{processes_of};
-ghost use Rattle.cp_verdict.specs.endless.Said.{IsSaidAlone};
+ghost use Rattle.cp_verdict.specs.endless.Said.{AreSaid, IsSaidAlone, note_text};
 ghost use Rattle.cp_verdict.specs.waiting.Asking.{name_who};
+ghost use Rattle.cp_verdict.specs.waiting.EndsJudged.{IsJudgedAny, IsJudgedByAny};
 ghost use Rattle.cp_verdict.specs.waiting.EndsMarked as who_spec;
 ghost use Rattle.cp_verdict.specs.waiting.Known.{KnowsWho};
 
 use crate::endless::judging::stops_of;
 use crate::endless::knowing::knowledge_of;
 use crate::endless::known::KnownEnds;
-use crate::endless::saying::{MarkedEnds, note_on, open_words, sayings_of};
+use crate::endless::saying::{MarkedEnds, note_on, sayings_of};
 use crate::endless::verdict::{EndsVerdict, mark_of, verdict_on};
 use crate::endless::waiting::waiting_ends;
 use crate::waiting::asking::name_who;
@@ -50,20 +52,21 @@ pub fn mark_list<O: ObserveProgress>(
     ensures meaning { 1 ≤ subject.entry.most → name_who list.now ≡ false → IfOk result (λ m. spec.IsMeantMark subject.entry.program.now (processes_of subject.entry.legend.now) subject.entry.limits.discipline subject.entry.limits.steps list.now m.mark) }
     ensures who { 1 ≤ subject.entry.most → IfOk result (λ m. who_spec.IsMarkOf subject.entry.program.now (processes_of subject.entry.legend.now) subject.entry.limits.discipline subject.entry.limits.steps subject.entry.most list.now m.mark) }
     ensures who_meant { 1 ≤ subject.entry.most → IfOk result (λ m. who_spec.IsMeantMark subject.entry.program.now (processes_of subject.entry.legend.now) subject.entry.limits.discipline subject.entry.limits.steps list.now m.mark) }
-    ensures said { IfOk result (λ m. IsSaidAlone subject.entry.most false list.now m) }
+    ensures said { 1 ≤ subject.entry.most → IfOk result (IsSaidAlone false subject.entry.program.now (processes_of subject.entry.legend.now) subject.entry.limits.discipline subject.entry.limits.steps subject.entry.most list.now) }
 {
     let known = knowledge(alloc, subject, list, observer)?;
     let verdict = verdict_on(subject.legend, &known, list);
     tell(alloc, subject, &known, list, verdict, false)
 }
 
-fn is_of_waiting(topic: &Topic) -> bool
+/// Whether a topic asks who waits for ever.
+pub fn is_of_waiting(topic: &Topic) -> bool
     ensures { result ≡ spec.is_of_waiting topic.now }
 {
     matches!(topic, Topic::Waiting(_))
 }
 
-/// Whether an expectation asks who waits for ever.
+/// Whether an expectation does.
 pub fn asks_waits(expectation: &Expectation) -> bool
     ensures { result ≡ spec.asks_waits expectation.now }
 {
@@ -128,17 +131,14 @@ pub fn tell(
 ) -> Result<MarkedEnds, AllocError>
     ensures mark { IfOk result (λ m. m.mark ≡ spec.mark_of verdict.entry known.now.looked) }
     ensures stops { IfOk result (λ m. m.stops ≡ stops_of known.now) }
-    ensures said { IfOk result (λ m. IsSaidAlone subject.entry.most at_once list.now m) }
+    ensures note { IfOk result (λ m. string_bytes m.note ≡ note_text subject.entry.most at_once m.mark (is_whole known.now)) }
+    ensures slots { (r : Tables) (discipline : slot_discipline.Discipline) (steps most : ℕ) → IsKnown r discipline steps most known.now → IfOk result (λ m. AreSaid (processes_of subject.entry.legend.now) at_once known.now (IsJudgedAny r (processes_of subject.entry.legend.now) discipline steps known.now) list.now m.each.items) }
+    ensures known { (values : Spellings) → HasTexts values known.now.values.items → IfOk result (λ m. AreSaid (processes_of subject.entry.legend.now) at_once known.now (IsJudgedByAny (record { values = values; processes = processes_of subject.entry.legend.now }) known.now) list.now m.each.items) }
+    ensures last { IfOk result (λ m. string_bytes m.last ≡ []) }
 {
     let mark = mark_of(verdict, known);
     let note = note_on(alloc, subject.most, known, mark, at_once)?;
-    let before = if at_once {
-        "a schedule against it: "
-    } else {
-        "first against it: "
-    };
-    let open = open_words(alloc, known, at_once)?;
-    let each = sayings_of(alloc, subject.legend, known, list, before, open.as_str())?;
+    let each = sayings_of(alloc, subject.legend, known, list, at_once)?;
     Ok(MarkedEnds {
         mark,
         note,

@@ -1,14 +1,18 @@
 //! What is said with a mark.
 
-ghost use Rattle.std.specs.Prelude.{◌≡◌, ◌++◌, IfOk, string_bytes};
-ghost use Rattle.cp_expectation.specs.Written.{expectation_text};
+ghost use Rattle.std.specs.Prelude.{◌≡◌, ◌++◌, ℕ, IfOk, codes, string_bytes};
+ghost use Rattle.cp_machine.specs.declared.discipline.Discipline.{Discipline};
+ghost use Rattle.cp_slots.specs.Tables.{Tables};
+ghost use Rattle.cp_walk.specs.Text.{Spellings};
 ghost use Rattle.cp_verdict.specs.endless.Knowledge as known_spec;
+ghost use Rattle.cp_verdict.specs.endless.Naming.{processes_of};
 ghost use Rattle.cp_verdict.specs.endless.Said as spec;
+ghost use Rattle.cp_verdict.specs.waiting.EndsJudged.{IsJudgedAny, IsJudgedByAny};
 
 use crate::endless::judging::{EndsJudgement, is_whole, judge};
 use crate::endless::known::{KnownEnd, KnownEnds, Witness};
 use crate::endless::verdict::EndsMark;
-use crate::endless::words::{missing_words, push_witness};
+use crate::endless::words::{before_words, missing_words, open_words, push_witness};
 use crate::marking::Standing;
 use crate::program::Stops;
 use cp_expectation::{Expectation, push_expectation};
@@ -69,84 +73,114 @@ impl MarkedEnds {
     }
 }
 
-/// What is said of each expectation; before a schedule, and where it is not settled, these words.
+/// What is said of each expectation, by what is known.
 pub fn sayings_of(
     alloc: Global,
     legend: &Legend,
     known: &KnownEnds,
     list: &[Expectation],
-    before: &str,
-    open: &str,
+    at_once: bool,
 ) -> Result<Vec<Said>, AllocError>
-    ensures { IfOk result (λ each. spec.AreSaid list.now each.items) }
+    ensures slots { (r : Tables) (discipline : Discipline) (steps most : ℕ) → known_spec.IsKnown r discipline steps most known.now → IfOk result (λ each. spec.AreSaid (processes_of legend.now) at_once known.now (IsJudgedAny r (processes_of legend.now) discipline steps known.now) list.now each.items) }
+    ensures known { (values : Spellings) → known_spec.HasTexts values known.now.values.items → IfOk result (λ each. spec.AreSaid (processes_of legend.now) at_once known.now (IsJudgedByAny (record { values = values; processes = processes_of legend.now }) known.now) list.now each.items) }
 {
     let mut each = Vec::new(alloc);
     for expectation in list {
-        each.push(saying_of(alloc, legend, known, expectation, before, open)?)?;
+        let judgement = judge(legend, known, expectation);
+        each.push(said_of(alloc, legend, known, expectation, judgement, at_once)?)?;
     }
     Ok(each)
 }
 
-fn saying_of(
+fn said_of(
     alloc: Global,
     legend: &Legend,
     known: &KnownEnds,
     expectation: &Expectation,
-    before: &str,
-    open: &str,
+    judgement: EndsJudgement<'_>,
+    at_once: bool,
 ) -> Result<Said, AllocError>
-    ensures { IfOk result (λ said. string_bytes said.expectation ≡ expectation_text expectation.now) }
+    ensures { IfOk result (λ said. spec.IsSaidOf (processes_of legend.now) at_once known.now expectation.now judgement.entry said) }
 {
-    let mut reason = String::new(alloc);
-    let mut against = None;
-    let standing = match judge(legend, known, expectation) {
-        EndsJudgement::Holds => Standing::Holds,
-        EndsJudgement::Against(witness) => {
-            reason.push_str(before)?;
-            push_witness(legend, &mut reason, witness)?;
-            reason.push('\n')?;
-            against = Some(against_by(alloc, witness)?);
-            Standing::Fails
-        }
-        EndsJudgement::Missing => {
-            reason.push_str(missing_words(expectation))?;
-            Standing::Fails
-        }
-        EndsJudgement::Open => {
-            reason.push_str(open)?;
-            Standing::Open
-        }
-    };
     let mut text = String::new(alloc);
     push_expectation(&mut text, expectation)?;
+    let reason = reason_of(alloc, legend, known, expectation, judgement, at_once)?;
+    let against = against_of(alloc, judgement)?;
     Ok(Said {
         expectation: text,
-        standing,
+        standing: standing_of(judgement),
         reason,
         against,
     })
 }
 
-// What a schedule shows, apart from what is known.
-fn against_by(alloc: Global, witness: Witness<'_>) -> Result<Against, AllocError> {
-    match witness {
-        Witness::End(known) => Ok(Against::End(KnownEnd {
-            end: known.end,
-            word: copy_of(alloc, &known.word)?,
-        })),
-        Witness::Value(known) => Ok(Against::Value(copy_of(alloc, &known.word)?)),
-        Witness::Waiting(waiting) => Ok(Against::Round {
-            process: waiting.process,
-            first: copy_of(alloc, &waiting.first)?,
-            again: copy_of(alloc, &waiting.again)?,
-        }),
+fn standing_of(judgement: EndsJudgement<'_>) -> Standing
+    ensures { result ≡ spec.standing_of judgement.entry }
+{
+    match judgement {
+        EndsJudgement::Holds => Standing::Holds,
+        EndsJudgement::Against(_) | EndsJudgement::Missing => Standing::Fails,
+        EndsJudgement::Open => Standing::Open,
     }
 }
 
-fn copy_of(alloc: Global, word: &[u8]) -> Result<Vec<u8>, AllocError> {
-    let mut copy = Vec::new(alloc);
-    copy.extend_from_slice(word)?;
-    Ok(copy)
+fn reason_of(
+    alloc: Global,
+    legend: &Legend,
+    known: &KnownEnds,
+    expectation: &Expectation,
+    judgement: EndsJudgement<'_>,
+    at_once: bool,
+) -> Result<String, AllocError>
+    ensures { IfOk result (λ text. string_bytes text ≡ spec.reason_text (processes_of legend.now) at_once known.now expectation.now judgement.entry) }
+{
+    match judgement {
+        EndsJudgement::Holds => Ok(String::new(alloc)),
+        EndsJudgement::Against(witness) => against_text(alloc, legend, witness, at_once),
+        EndsJudgement::Missing => String::from_str(alloc, missing_words(&expectation.topics)),
+        EndsJudgement::Open => open_text(alloc, known, at_once),
+    }
+}
+
+fn against_text(
+    alloc: Global,
+    legend: &Legend,
+    witness: Witness<'_>,
+    at_once: bool,
+) -> Result<String, AllocError>
+    ensures { IfOk result (λ text. string_bytes text ≡ spec.before_text at_once ++ spec.witness_text (processes_of legend.now) witness.entry ++ codes "\n") }
+{
+    let mut text = String::from_str(alloc, before_words(at_once))?;
+    push_witness(legend, &mut text, witness)?;
+    text.push_str("\n")?;
+    Ok(text)
+}
+
+fn against_of(alloc: Global, judgement: EndsJudgement<'_>) -> Result<Option<Against>, AllocError>
+    ensures { IfOk result (spec.IsAgainstBy judgement.entry) }
+{
+    match judgement {
+        EndsJudgement::Against(witness) => Ok(Some(against_by(alloc, witness)?)),
+        EndsJudgement::Holds | EndsJudgement::Missing | EndsJudgement::Open => Ok(None),
+    }
+}
+
+// What a schedule shows, apart from what is known.
+fn against_by(alloc: Global, witness: Witness<'_>) -> Result<Against, AllocError>
+    ensures { IfOk result (spec.ShowsIt witness.entry) }
+{
+    match witness {
+        Witness::End(known) => Ok(Against::End(KnownEnd {
+            end: known.end,
+            word: Vec::from_slice(alloc, &known.word)?,
+        })),
+        Witness::Value(known) => Ok(Against::Value(Vec::from_slice(alloc, &known.word)?)),
+        Witness::Waiting(waiting) => Ok(Against::Round {
+            process: waiting.process,
+            first: Vec::from_slice(alloc, &waiting.first)?,
+            again: Vec::from_slice(alloc, &waiting.again)?,
+        }),
+    }
 }
 
 /// What is said of all expectations: by what they hold, or that there are too many states.
@@ -157,7 +191,7 @@ pub fn note_on(
     mark: EndsMark,
     at_once: bool,
 ) -> Result<String, AllocError>
-    ensures { IfOk result (λ note. string_bytes note ≡ spec.note_text most at_once mark (known_spec.stops_of known.now)) }
+    ensures { IfOk result (λ note. string_bytes note ≡ spec.note_text most at_once mark (known_spec.is_whole known.now)) }
 {
     match mark {
         EndsMark::Holds => String::from_str(alloc, held_words(known, at_once)),
@@ -181,21 +215,20 @@ fn held_words(known: &KnownEnds, at_once: bool) -> &'static str
     }
 }
 
-/// What is said of an expectation that is not settled.
-pub fn open_words(alloc: Global, known: &KnownEnds, at_once: bool) -> Result<String, AllocError> {
-    let words = match known.looked {
+// What is said of an expectation that is not settled.
+fn open_text(alloc: Global, known: &KnownEnds, at_once: bool) -> Result<String, AllocError>
+    ensures { IfOk result (λ text. string_bytes text ≡ spec.open_text known.now.looked at_once (known_spec.is_whole known.now)) }
+{
+    match known.looked {
         Some(choices) if !at_once => {
-            return format!(in alloc;
+            format!(in alloc;
                 "no schedule of at most {choices} choices settles it (try greater --states)\n"
-            );
+            )
         }
-        Some(_) => "no schedule that was found settles it (try greater --states)\n",
-        None if is_whole(known) => {
-            "it is not known to hold, and no schedule is known to be against it\n"
-        }
-        None => {
-            "some schedules ended at step-limit, and none so far settles it (try greater --steps)\n"
-        }
-    };
-    String::from_str(alloc, words)
+        Some(_) => String::from_str(
+            alloc,
+            "no schedule that was found settles it (try greater --states)\n",
+        ),
+        None => String::from_str(alloc, open_words(is_whole(known))),
+    }
 }

@@ -10,6 +10,7 @@ ghost use Rattle.cp_merged.specs.Tallies.{tally};
 ghost use Rattle.cp_verdict.specs.Judged as judged_by_rows;
 ghost use Rattle.cp_verdict.specs.Judged.{line_of};
 ghost use Rattle.cp_verdict.specs.Marked as by_rows;
+ghost use Rattle.cp_verdict.specs.Marked.{OneForEach};
 ghost use Rattle.cp_verdict.specs.Meant as meant_by_rows;
 ghost use Rattle.cp_verdict.specs.endless.Naming.{processes_of};
 ghost use Rattle.cp_verdict.specs.waiting.Asking as asking;
@@ -73,34 +74,25 @@ pub fn mark_known<O: ObserveProgress>(
     ensures mark { IfOk result (λ m. map tally_of tallies.now ≡ tally same_outcome (table (slots job.entry.program.now job.entry.limits.discipline) job.entry.limits.choices job.entry.limits.steps) → IsSlotMark job.entry.program.now (processes_of legend.now) job.entry.limits.discipline job.entry.limits.choices job.entry.limits.steps expectations.now m) }
     ensures rows { asking.name_who expectations.now ≡ false → IfOk result (λ m. (lines : List Line) → map tally_of tallies.now ≡ tally same_outcome lines → by_rows.IsMarked job.entry.program.now.names expectations.now lines m) }
 {
-    if name_who(expectations) {
-        let ends = ends_of(alloc, job, states, observer)?;
-        let marked = mark_rows(alloc, job.program, legend, expectations, tallies, &ends)?;
-        Ok(marked)
-    } else {
-        let ends = no_ends(alloc);
-        let marked = mark_rows(alloc, job.program, legend, expectations, tallies, &ends)?;
-        Ok(marked)
-    }
+    let ends = ends_asked(alloc, job, states, expectations, observer)?;
+    let marked = mark_rows(alloc, job.program, legend, expectations, tallies, &ends)?;
+    Ok(marked)
 }
 
-// Where nobody is named, no end is asked for.
-fn no_ends(alloc: Global) -> WaitingEnds
-    ensures { HaveShortEnds result }
-{
-    WaitingEnds::none(alloc)
-}
-
-// Who waits at the ends of all schedules of a job.
-fn ends_of<O: ObserveProgress>(
+// Who waits at the ends of all schedules of a job, where somebody is named.
+fn ends_asked<O: ObserveProgress>(
     alloc: Global,
     job: Job,
     states: u32,
+    expectations: &[Expectation],
     observer: &mut O,
 ) -> Result<WaitingEnds, MarkFault>
     ensures short { IfOk result (λ ends. HaveShortEnds ends) }
-    ensures ends { IfOk result (λ ends. AreEndsIn (who_at (slots job.entry.program.now job.entry.limits.discipline) waits_on_slots job.entry.limits.choices job.entry.limits.steps) (table (slots job.entry.program.now job.entry.limits.discipline) job.entry.limits.choices job.entry.limits.steps) ends) }
+    ensures ends { asking.name_who expectations.now ≡ true → IfOk result (λ ends. AreEndsIn (who_at (slots job.entry.program.now job.entry.limits.discipline) waits_on_slots job.entry.limits.choices job.entry.limits.steps) (table (slots job.entry.program.now job.entry.limits.discipline) job.entry.limits.choices job.entry.limits.steps) ends) }
 {
+    if !name_who(expectations) {
+        return Ok(WaitingEnds::none(alloc));
+    }
     let noted = find_waiting(alloc, &job, states, observer)?;
     if noted.choices < job.limits.choices {
         return Err(MarkFault::TooManyStates);
@@ -143,7 +135,7 @@ fn judge_each(
     rows: &[SeenWaiting],
 ) -> Result<Vec<Judgement>, AllocError>
     requires { HaveShortWords rows.now }
-    ensures { IfOk result (λ js. (who : List ℕ → List ℕ) (lines : List Line) → map line_of seen.now ≡ outcomes_of lines → (asking.name_who expectations.now ≡ true → AreRowsOf who lines rows.now) → spec.AreJudged (IsJudgedAny program.now.names (processes_of legend.now) who lines) expectations.now js.items) }
+    ensures { IfOk result (λ js. (who : List ℕ → List ℕ) (lines : List Line) → map line_of seen.now ≡ outcomes_of lines → (asking.name_who expectations.now ≡ true → AreRowsOf who lines rows.now) → OneForEach (IsJudgedAny program.now.names (processes_of legend.now) who lines) expectations.now js.items) }
 {
     let mut judgements = Vec::new(alloc);
     for expectation in expectations {

@@ -10,6 +10,7 @@ use Rattle.cp_ends.proofs.GoingOn.{ok_to}
 use Rattle.cp_ends.proofs.Halting.{choice_comes, comes_to, shows}
 use Rattle.cp_ends.proofs.Legs.{choice_sets_out, sees_choice}
 use Rattle.cp_ends.proofs.Moving.{HaveMoved, at_due}
+use Rattle.cp_ends.proofs.Ruled.{chosen_ruled, still_ruled}
 use Rattle.cp_ends.proofs.choosing.choose.Goals as goal
 
 -- what is told and seen
@@ -95,3 +96,11 @@ returns-clause-kept g c =
     let all : HaveMoved moved last (s ∷ []) = subst (λ (y : Told). HaveMoved moved last y.1.0) (sees_choice quiet (teller sys) steps s p before) now.4 in
     let kept : KeepBodies (has_moved moved) s last = All-head (λ before. KeepBodies (has_moved moved) before last) s [] all in
     ok_to c.arrive.result _ _ c.arrive.ensures.still (λ h still due. subst (λ (k : Moved). KeepBodies (has_moved k) s (machine_of c.arrive.new.state)) (sym (still due).0) (subst (KeepBodies (has_moved moved) s) (sym (still due).1) kept))
+
+pub returns-clause-ruled : goal.returns-clause-ruled
+returns-clause-ruled g c =
+    let r = c.args.job.now.program.now in
+    let discipline = c.args.job.now.limits.discipline in
+    let steps = c.args.job.now.limits.steps in
+    let s = machine_of c.args.state.now in
+    ok_to c.arrive.result _ _ c.arrive.ensures.still (λ h still due. still_ruled s.discipline (machine_of c.arrive.new.state) (machine_of c.observe_choice.new.state) (walked_chosen (silent_slots r discipline) steps s c.args.process) c.in_ok-turn.turn (still due).1 c.in_ok-turn.ensures.walked (chosen_ruled r discipline steps s c.args.process))

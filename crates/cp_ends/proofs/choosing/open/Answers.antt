@@ -6,6 +6,7 @@ use Rattle.cp_ends.proofs.GoingOn.{ok_to}
 use Rattle.cp_ends.proofs.Halting.{opening_comes, comes_to, shows}
 use Rattle.cp_ends.proofs.Legs.{first_sets_out, sees_opening}
 use Rattle.cp_ends.proofs.Moving.{none_due}
+use Rattle.cp_ends.proofs.Ruled.{opened_ruled, still_ruled}
 use Rattle.cp_ends.proofs.choosing.open.Goals as goal
 
 -- what is told and seen
@@ -66,3 +67,10 @@ returns-clause-leg g c =
     ok_to c.arrive.result _ _ c.arrive.ensures.leg (λ h comes.
     subst (λ (leg : Leg Machine). ComesTo quiet (λ w. g.P.Sight.sees w r discipline) steps leg ([]) c.arrive.new.told.seen (with_round c.arrive.new.told.again h) (machine_of c.arrive.new.state)) (sym out.2)
     (comes out.0 out.1 ([]) (sym out.3 ∙ c.in_ok-turn.ensures.walked) (subst (λ (leg : Leg Machine). g.P.Sight.sees observer.seen r discipline ([]) (leg.moments steps)) out.2 seen)))
+
+pub returns-clause-ruled : goal.returns-clause-ruled
+returns-clause-ruled g c =
+    let r = c.args.job.now.program.now in
+    let discipline = c.args.job.now.limits.discipline in
+    let steps = c.args.job.now.limits.steps in
+    ok_to c.arrive.result _ _ c.arrive.ensures.still (λ h still due. still_ruled discipline (machine_of c.arrive.new.state) (machine_of c.observe_opening.new.state) (walked_opened (silent_slots r discipline) steps) c.in_ok-turn.turn (still due).1 c.in_ok-turn.ensures.walked (opened_ruled r discipline steps))

@@ -1,7 +1,10 @@
 use Rattle.cp_ends.proofs.Vocabulary.{◌≡◌, ◌∙◌, true, false, string_bytes, sym, ap, subst, arith, end_origin, end_line, is_told}
-use Rattle.cp_ends.proofs.Listing.{SoFar, ends_more, ends_left_out, take_found}
+use Rattle.cp_ends.proofs.Listing.{SoFar, ends_more, ends_left_out, no_ends, take_found}
 use Rattle.cp_ends.proofs.report.end_lines.Goals as goal
 use Rattle.cp_ends.proofs.report.end_lines.Goals.{then-is_told+in_ok-push_end_line, else-is_told}
+
+pub loop-end-init : goal.loop-end-init
+loop-end-init c = no_ends c.args.states.now c.args.depth c.args.ends.now (string_bytes c.new-text.result) c.new-text.ensures.bytes
 
 pub loop-end-preserved : goal.loop-end-preserved
 loop-end-preserved c =

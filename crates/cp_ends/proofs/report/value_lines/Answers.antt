@@ -1,8 +1,11 @@
 use Rattle.cp_ends.proofs.Vocabulary.{◌≡◌, ◌∙◌, true, false, string_bytes, sym, ap, subst, arith, value_origin, MOST_VALUES}
 use Rattle.cp_ends.specs.Told.{value_line, is_told}
-use Rattle.cp_ends.proofs.Listing.{FirstSoFar, values_more, values_left_out, take_found}
+use Rattle.cp_ends.proofs.Listing.{FirstSoFar, no_values, values_more, values_left_out, take_found}
 use Rattle.cp_ends.proofs.report.value_lines.Goals as goal
 use Rattle.cp_ends.proofs.report.value_lines.Goals.{then-is_told+in_ok-push_early, else-is_told}
+
+pub loop-value-init : goal.loop-value-init
+loop-value-init c = no_values c.args.states.now c.args.program.now.names c.args.depth c.args.values.now (string_bytes c.new-text.result) c.new-text.ensures.bytes
 
 pub loop-value-preserved : goal.loop-value-preserved
 loop-value-preserved c =

@@ -12,3 +12,10 @@ returns g c = λ most f holds answer.
     let count = c.len.ensures.count in
     let all : length f.states ≤ c.loop-number.number = omega (arith, same, count) in
     ends_of r limits.discipline limits.steps most f c.loop-number.number c.loop-number.ends all found.stopped c.in_ok-looked.looked (λ depth is. c.in_ok-looked.ensures r f depth holds is) answer (c.loop-number.invariant.met f holds))
+
+pub loop-number-init : goal.loop-number-init
+loop-number-init g c = record {
+  own = c.begin.ensures.own;
+  next = c.in_ok-next.ensures.own c.args.job.now.program.now c.begin.ensures.own;
+  met = c.in_ok-begin.ensures.met;
+}

@@ -5,7 +5,7 @@ use Rattle.cp_waits.proofs.Visiting.{graph_noted}
 use Rattle.cp_waits.proofs.building.build_graph.Goals as goal
 
 pub open-requires-clause-nothing : goal.open-requires-clause-nothing
-open-requires-clause-nothing g c = c.new.ensures c.args.job.now.run.program.now
+open-requires-clause-nothing g c = c.in_ok-ends.ensures.nothing
 
 pub visit_all-requires-clause-begun : goal.visit_all-requires-clause-begun
 visit_all-requires-clause-begun g c =
@@ -16,12 +16,12 @@ visit_all-requires-clause-begun g c =
     let quiet = silent_slots r discipline in
     let told = c.open.new.self.told in
     let last = machine_of c.open.new.state in
-    let count = c.new-2.ensures.processes ∙ c.processes.ensures.value in
+    let count = c.new-graph.ensures.processes ∙ c.processes.ensures.value in
     let comes : Comes r discipline steps (first_leg quiet steps) [] told.seen c.halt-halt.result last = subst (λ h. Comes r discipline steps (first_leg quiet steps) [] told.seen h last) (sym c.halt-halt.ensures) c.in_ok-arrived.ensures.leg in
     let still = c.in_ok-note_standstill.ensures.still r discipline steps (first_leg quiet steps) [] told.seen last c.processes.ensures.sound.few count (first_of_stretch quiet steps) comes in
     record {
       ends = c.in_ok-arrived.ensures.begun;
-      graph = λ states more. graph_begun quiet in_call_on_slots waits_on_slots steps states c.new-2.result _ c.new-2.ensures.standstills c.new-2.ensures.edges c.new-2.ensures.ends count still c.note_standstill.ensures.processes c.note_standstill.ensures.ends c.note_standstill.ensures.edges;
+      graph = λ states more. graph_begun quiet in_call_on_slots waits_on_slots steps states c.new-graph.result _ c.new-graph.ensures.standstills c.new-graph.ensures.edges c.new-graph.ensures.ends count still c.note_standstill.ensures.processes c.note_standstill.ensures.ends c.note_standstill.ensures.edges;
     }
 
 pub returns : goal.returns

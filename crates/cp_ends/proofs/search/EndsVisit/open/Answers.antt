@@ -13,7 +13,7 @@ returns-clause-begun g c =
     let job = c.args.job.now in
     let r = job.run.program.now in
     let a : SlotArrival = (slot_graph r job.run.limits.discipline job.run.limits.steps).start in
-    ok_to c.arrive.result _ _ c.arrive.ensures.arrives (λ b on. start_found r job.most c.arrive.new.self a b c.requires.most (on nothing [] a (record { holds = c.requires.nothing; few = omega arith }) refl tt c.in_ok-halt.ensures.goal (c.as_slice-values.ensures.value ∙ c.in_ok-halt.ensures.shown ∙ ap (λ l. l ++ a.shown) c.clear.ensures.items)))
+    ok_to c.arrive_first.result _ _ c.arrive_first.ensures.arrives (λ b on. start_found r job.most c.arrive_first.new.self a b c.requires.most (on nothing [] a (record { holds = c.requires.nothing; few = omega arith }) refl c.in_ok-halt.ensures.goal (c.as_slice-values.ensures.value ∙ c.in_ok-halt.ensures.shown ∙ ap (λ l. l ++ a.shown) c.clear.ensures.items)))
 
 pub returns-clause-leg : goal.returns-clause-leg
 returns-clause-leg g c =
@@ -22,7 +22,10 @@ returns-clause-leg g c =
     let discipline = job.run.limits.discipline in
     let quiet = silent_slots r discipline in
     let told = c.open.new.told in
-    ok_to c.arrive.result _ _ c.arrive.ensures.halt (λ b halts. subst (λ (h : Halt End). ComesTo quiet (λ w. g.P.Sight.sees w r discipline) job.run.limits.steps (first_leg quiet job.run.limits.steps) [] told.seen (with_round told.again h) (machine_of c.open.new.state)) (sym halts) c.in_ok-halt.ensures.leg)
+    ok_to c.arrive_first.result _ _ c.arrive_first.ensures.halt (λ b halts. subst (λ (h : Halt End). ComesTo quiet (λ w. g.P.Sight.sees w r discipline) job.run.limits.steps (first_leg quiet job.run.limits.steps) [] told.seen (with_round told.again h) (machine_of c.open.new.state)) (sym halts) c.in_ok-halt.ensures.leg)
 
-pub arrive-requires-clause-moved : goal.arrive-requires-clause-moved
-arrive-requires-clause-moved g c = λ due. tt
+pub arrive_first-requires-clause-placed : goal.arrive_first-requires-clause-placed
+arrive_first-requires-clause-placed g c = c.requires.nothing.states.cached.placed
+
+pub arrive_first-requires-clause-ruled : goal.arrive_first-requires-clause-ruled
+arrive_first-requires-clause-ruled g c = λ due. c.in_ok-halt.ensures.ruled due ∙ sym c.requires.ruled

@@ -28,7 +28,9 @@ returns-in_default-clause-mark g c = λ some.
     is_ends_mark s.program.now (processes_of s.legend.now) s.limits.discipline s.limits.steps c.args.list.now s.most marked.marked.mark (marked.ensures.mark some) (marked.ensures.meaning some) (marked.ensures.who some) (marked.ensures.who_meant some)
 
 pub returns-in-TooMany-clause-said : goal.returns-in-TooMany-clause-said
-returns-in-TooMany-clause-said g c = c.mark_again.ensures.said c.in_ok-marked.ensures.said
+returns-in-TooMany-clause-said g c = λ some. c.mark_again.ensures.said (c.in_ok-marked.ensures.said some)
 
 pub returns-in_default-clause-said : goal.returns-in_default-clause-said
-returns-in_default-clause-said g c = alone c.args.subject.most false c.args.list.now c.in_ok-marked.marked c.in_ok-marked.ensures.said
+returns-in_default-clause-said g c = λ some.
+    let s = c.args.subject in
+    alone false s.program.now (processes_of s.legend.now) s.limits.discipline s.limits.steps s.most c.args.list.now c.in_ok-marked.marked (c.in_ok-marked.ensures.said some)

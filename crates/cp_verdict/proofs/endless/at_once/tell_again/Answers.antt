@@ -13,10 +13,12 @@ returns-in_ok-line-in_default-clause-mark c = other c.args.subject.program.now (
 
 pub returns-in-TooMany-clause-said : goal.returns-in-TooMany-clause-said
 returns-in-TooMany-clause-said c = λ es before again.
-    (let told = c.with_line.ensures in
-    with_line c.args.subject.most false es c.args.marked before (last_text c.args.subject.most false) refl c.with_line.result told.mark told.note told.each told.stops told.last)
+    (let s = c.args.subject in
+    let told = c.with_line.ensures in
+    with_line false s.program.now (processes_of s.legend.now) s.limits.discipline s.limits.steps s.most es c.args.marked before (last_text s.most false) refl c.with_line.result told.mark told.note told.each told.stops told.last)
 
 pub returns-in_ok-line-in_default-clause-said : goal.returns-in_ok-line-in_default-clause-said
 returns-in_ok-line-in_default-clause-said c = λ es before again.
-    (let told = c.with_line-in_default.ensures in
-    with_line c.args.subject.most true es c.args.again again c.as_str.result.now (c.as_str.ensures.value ∙ c.in_ok-line-in_default.ensures.ok) c.with_line-in_default.result told.mark told.note told.each told.stops told.last)
+    (let s = c.args.subject in
+    let told = c.with_line-in_default.ensures in
+    with_line true s.program.now (processes_of s.legend.now) s.limits.discipline s.limits.steps s.most es c.args.again again c.as_str.result.now (c.as_str.ensures.value ∙ c.in_ok-line-in_default.ensures.ok) c.with_line-in_default.result told.mark told.note told.each told.stops told.last)

@@ -1,4 +1,5 @@
 use Rattle.std.proofs.Common.{rules, ◌<◌, ◌^◌, refl, subst, sym}
+use Rattle.cp_run.proofs.Failing.{none_well}
 use Rattle.cp_verdict.specs.endless.Knowledge.{IsKnown}
 use Rattle.cp_verdict.specs.waiting.Known.{KnowsWho}
 use Rattle.cp_verdict.proofs.who.Knowing.{known_with, knows_who, place_of_stop}
@@ -32,3 +33,9 @@ returns-clause-who g c = λ some asks.
     subst (KnowsWho r s.limits.discipline s.limits.steps) (sym c.with_waiting.ensures)
     (knows_who r s.limits.discipline s.limits.steps f.states found.stopped c.in_ok-known.known.looked (c.in_ok-known.ensures.looked r f answer.holds) c.in_ok-ends.ends (c.in_ok-ends.ensures s.most f answer.holds answer.answer)
     (place_of_stop r s.limits.discipline s.limits.steps s.most f found.stopped answer.answer) (record c.in_ok-known.known { waiting = c.in_ok-waiting.waiting }) refl c.in_ok-waiting.ensures)
+
+pub returns-in_err-waiting-clause-known : goal.returns-in_err-waiting-clause-known
+returns-in_err-waiting-clause-known g c = λ some. none_well c.from_residual-in_err-waiting.result _ _ c.from_residual-in_err-waiting.ensures.1
+
+pub returns-in_err-waiting-clause-who : goal.returns-in_err-waiting-clause-who
+returns-in_err-waiting-clause-who g c = λ some asks. none_well c.from_residual-in_err-waiting.result _ _ c.from_residual-in_err-waiting.ensures.1

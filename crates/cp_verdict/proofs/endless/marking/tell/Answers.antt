@@ -1,11 +1,13 @@
-use Rattle.std.proofs.Common.{◌∙◌, ap, sym}
-use Rattle.cp_verdict.specs.endless.Said.{note_text}
 use Rattle.cp_verdict.proofs.endless.marking.tell.Goals as goal
 
-pub returns-clause-said : goal.returns-clause-said
-returns-clause-said c =
-    record {
-      each = c.in_ok-each.ensures;
-      note = c.in_ok-note.ensures ∙ ap (note_text c.args.subject.most c.args.at_once c.mark_of-mark.result) (sym c.stops_of.ensures);
-      last = c.new.ensures.bytes;
-    }
+pub returns-clause-note : goal.returns-clause-note
+returns-clause-note c = c.in_ok-note.ensures
+
+pub returns-clause-slots : goal.returns-clause-slots
+returns-clause-slots c = c.in_ok-each.ensures.slots
+
+pub returns-clause-known : goal.returns-clause-known
+returns-clause-known c = c.in_ok-each.ensures.known
+
+pub returns-clause-last : goal.returns-clause-last
+returns-clause-last c = c.new.ensures.bytes

@@ -70,3 +70,12 @@ returns-then-not-has_room-clause-within c = λ room. absurd (cc)
 
 pub returns-then-not-has_room-clause-stops : goal.returns-then-not-has_room-clause-stops
 returns-then-not-has_room-clause-stops c = λ full. c.in_ok-arrived.ensures.stops (sym c.has_room.ensures ∙ c.if-not-has_room.true)
+
+pub returns-in_err-note_standstill-clause-next : goal.returns-in_err-note_standstill-clause-next
+returns-in_err-note_standstill-clause-next c = c.restore.ensures.own c.args.job.now.run.program.now c.take_choice.ensures.next c.requires.own
+
+pub returns-in_err-push-clause-next : goal.returns-in_err-push-clause-next
+returns-in_err-push-clause-next c = c.restore.ensures.own c.args.job.now.run.program.now c.take_choice.ensures.next c.requires.own
+
+pub returns-clause-next : goal.returns-clause-next
+returns-clause-next c = c.restore.ensures.own c.args.job.now.run.program.now c.take_choice.ensures.next c.requires.own

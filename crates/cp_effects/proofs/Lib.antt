@@ -1,0 +1,13 @@
+pub mod Noted
+pub mod Written
+pub mod Changing
+pub mod Statuses
+pub mod Wider
+pub mod Touching
+pub mod Watching
+pub mod Looking
+pub mod Remembering
+pub mod Renewed
+pub mod Knowing
+pub mod Admitting
+pub mod Admitted

@@ -1,0 +1,13 @@
+pub mod Spans
+pub mod Codes
+pub mod Pieces
+pub mod Pushing
+pub mod Places
+pub mod Keeping
+pub mod Making
+pub mod Same
+pub mod Rows
+pub mod Laid
+pub mod Becoming
+pub mod Anew
+pub mod Whole

@@ -1,0 +1,7 @@
+pub mod Statuses
+pub mod Turns
+pub mod Ending
+pub mod Growing
+pub mod Going
+pub mod Becoming
+pub mod Knowing

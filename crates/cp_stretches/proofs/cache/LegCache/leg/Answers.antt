@@ -1,0 +1,39 @@
+use Rattle.std.proofs.Common.{refl}
+use Rattle.cp_parts.proofs.Keeping.{store_same}
+use Rattle.cp_stretches.proofs.Growing.{cache_on}
+use Rattle.cp_stretches.proofs.Knowing.{pid_within, row_long}
+use Rattle.cp_stretches.proofs.cache.LegCache.leg.Goals as goal
+
+pub look-requires-clause-pid : goal.look-requires-clause-pid
+look-requires-clause-pid c = pid_within c.args.job.now.program.now c.args.job.now.limits.discipline c.args.self.now c.requires.row.0 c.args.row.now c.args.pid c.requires.cache c.requires.row.1
+
+pub look-requires-clause-long : goal.look-requires-clause-long
+look-requires-clause-long c = row_long c.args.job.now.program.now c.args.job.now.limits.discipline c.args.self.now c.requires.row.0 c.args.row.now c.args.pid c.requires.cache c.requires.row.1
+
+pub returns-in-Leg-clause-told : goal.returns-in-Leg-clause-told
+returns-in-Leg-clause-told c =
+    c.in_ok-known.ensures.told c.args.self.now.store c.args.job.now.program.now c.args.job.now.limits.discipline c.in-Leg.leg c.requires.cache.placed c.requires.cache.known c.in-Leg.is
+
+pub returns-in-Leg-clause-cache : goal.returns-in-Leg-clause-cache
+returns-in-Leg-clause-cache c =
+    let self = c.args.self.now in
+    cache_on c.args.job.now.program.now c.args.job.now.limits.discipline self (record self { legs = c.look.new.self }) c.requires.cache (store_same self.store) refl refl
+    (λ known. c.look.ensures.known self.store self.table c.args.job.now.program.now c.args.job.now.limits.discipline known)
+
+pub returns-in-TooMuch-clause-cache : goal.returns-in-TooMuch-clause-cache
+returns-in-TooMuch-clause-cache c =
+    let self = c.args.self.now in
+    cache_on c.args.job.now.program.now c.args.job.now.limits.discipline self (record self { legs = c.look.new.self }) c.requires.cache (store_same self.store) refl refl
+    (λ known. c.look.ensures.known self.store self.table c.args.job.now.program.now c.args.job.now.limits.discipline known)
+
+pub learn_leg-requires-clause-cache : goal.learn_leg-requires-clause-cache
+learn_leg-requires-clause-cache c =
+    let self = c.args.self.now in
+    cache_on c.args.job.now.program.now c.args.job.now.limits.discipline self (record self { legs = c.look.new.self }) c.requires.cache (store_same self.store) refl refl
+    (λ known. c.look.ensures.known self.store self.table c.args.job.now.program.now c.args.job.now.limits.discipline known)
+
+pub returns-in-Leg-clause-kept : goal.returns-in-Leg-clause-kept
+returns-in-Leg-clause-kept c = store_same c.args.self.now.store
+
+pub returns-in-TooMuch-clause-kept : goal.returns-in-TooMuch-clause-kept
+returns-in-TooMuch-clause-kept c = store_same c.args.self.now.store

@@ -1,0 +1,4 @@
+pub mod Numbers
+pub mod Telling
+pub mod Cached
+pub mod Stretching

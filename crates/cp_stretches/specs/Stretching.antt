@@ -1,0 +1,51 @@
+-- Where a stretch leads to, by rows.
+use Rattle.std.specs.Prelude.{◌≡◌, ◌++◌, List, true, false, ℕ}
+use Rattle.cp_slots.specs.Tables.{Tables}
+use Rattle.cp_machine.specs.declared.discipline.Discipline.{Discipline}
+use Rattle.cp_machine.specs.declared.shown.Shown.{Shown}
+use Rattle.cp_machine.specs.Machine.{Machine, is_pending, is_ready}
+use Rattle.cp_machine.specs.Step.{step_at}
+use Rattle.cp_run.specs.declared.outcome.Halt.{Halt}
+use Rattle.cp_run.specs.declared.outcome.Halt.TheVariants.{Choice, Ended}
+use Rattle.cp_run.specs.declared.outcome.OutcomeKind.{OutcomeKind}
+use Rattle.cp_run.specs.declared.outcome.Turn.{Turn}
+use Rattle.cp_run.specs.declared.outcome.Turn.TheVariants.{Due, Goes, Over}
+use Rattle.cp_run.specs.Code.{IfGoes}
+use Rattle.cp_run.specs.Fold.{Fold, fold_chosen, fold_stretch, fold_turn, walked, walked_chosen}
+use Rattle.cp_run.specs.Silent.{silent_slots}
+use Rattle.cp_parts.specs.declared.placing.PlaceTable.{PlaceTable}
+use Rattle.cp_parts.specs.declared.store.PartStore.{PartStore}
+use Rattle.cp_stretches.specs.Cached.{StandsFor}
+
+-- the values that steps display, one after another
+abbrev pub shower : Tables → Fold Machine (List Shown)
+shower r = record { on_step = λ m p event after shown. shown ++ (step_at r m p).machine.output; on_admission = λ p m shown. shown; on_choice = λ m p shown. shown }
+
+-- what comes next where a stretch halted
+abbrev pub turn_of : Halt OutcomeKind → Turn
+turn_of Choice = Due
+turn_of (Ended kind) = Over kind
+
+-- A choice that a machine takes leads to where a stretch halts, whose machine has this row, and displays these values after those before.
+pub record LeadsTo (r : Tables) (discipline : Discipline) (s : PartStore) (t : PlaceTable) (steps : ℕ) (m : Machine) (pid : ℕ) (before : List Shown) (halt : Halt OutcomeKind) (row : List ℕ) (shown : List Shown) : Type 0 where
+  pub after : Machine
+  pub stands : StandsFor r discipline s t after row
+  pub walked : walked_chosen (silent_slots r discipline) steps m pid ≡ (after, turn_of halt)
+  pub told : fold_chosen (silent_slots r discipline) (shower r) steps m pid before ≡ shown
+
+-- ---- a stretch that is made leg by leg
+
+-- a process may make a leg in the machine of a row
+pub record MayGo (r : Tables) (discipline : Discipline) (s : PartStore) (t : PlaceTable) (m : Machine) (row : List ℕ) (pid : ℕ) : Type 0 where
+  pub machine : StandsFor r discipline s t m row
+  pub ready : is_ready m pid ≡ true
+  pub free : is_pending m ≡ false
+
+-- where so many steps are left, the stretch of a process leads to a machine with this row, this comes next, and so many are left then
+pub record GoesOn (r : Tables) (discipline : Discipline) (s : PartStore) (t : PlaceTable) (m : Machine) (pid left : ℕ) (before : List Shown) (turn : Turn) (rest : ℕ) (row : List ℕ) (shown : List Shown) : Type 0 where
+  pub after : Machine
+  pub stands : StandsFor r discipline s t after row
+  pub ready : IfGoes turn (λ q. is_ready after q ≡ true)
+  pub free : IfGoes turn (λ q. is_pending after ≡ false)
+  pub walked : walked (silent_slots r discipline) left m (Goes pid) ≡ walked (silent_slots r discipline) rest after turn
+  pub told : fold_stretch (silent_slots r discipline) (shower r) left m pid before ≡ fold_turn (fold_stretch (silent_slots r discipline) (shower r) rest after) turn shown
