@@ -204,7 +204,7 @@ glued ?x|: a name begins with a letter
 ?(|: a parenthesis may be missing before it";
 
 /// What may have been meant; empty where nothing is known of it.
-pub fn advice(teller: &mut Teller) -> &'static str {
+pub fn advice(teller: &Teller) -> &'static str {
     let said = said_by(teller, FIRST);
     if !said.is_empty() {
         return said;
@@ -221,7 +221,7 @@ pub fn advice(teller: &mut Teller) -> &'static str {
 }
 
 // What the first of these rules says whose conditions all hold.
-fn said_by(teller: &mut Teller, rules: &'static str) -> &'static str {
+fn said_by(teller: &Teller, rules: &'static str) -> &'static str {
     for rule in rules.split('\n') {
         if let Some((conditions, said)) = rule.split_once('|')
             && all_hold(teller, conditions)
@@ -232,7 +232,7 @@ fn said_by(teller: &mut Teller, rules: &'static str) -> &'static str {
     ""
 }
 
-fn all_hold(teller: &mut Teller, conditions: &'static str) -> bool {
+fn all_hold(teller: &Teller, conditions: &str) -> bool {
     for condition in conditions.split(' ') {
         let holds = match condition.strip_prefix('!') {
             Some(negated) => !holds(teller, negated),
@@ -246,9 +246,9 @@ fn all_hold(teller: &mut Teller, conditions: &'static str) -> bool {
 }
 
 // Whether a condition holds, but for a `!` before it.
-fn holds(teller: &mut Teller, condition: &'static str) -> bool {
+fn holds(teller: &Teller, condition: &str) -> bool {
     if let Some(words) = condition.strip_prefix('?') {
-        return takes_one(teller, words);
+        return words.split('/').any(|word| teller.takes(word));
     }
     match condition.split_once(':') {
         Some((place, words)) => {
@@ -257,15 +257,6 @@ fn holds(teller: &mut Teller, condition: &'static str) -> bool {
         }
         None => is_so(teller, condition),
     }
-}
-
-fn takes_one(teller: &mut Teller, words: &'static str) -> bool {
-    for word in words.split('/') {
-        if teller.takes(word) {
-            return true;
-        }
-    }
-    false
 }
 
 // The token that stands at a place of a condition.

@@ -9,7 +9,7 @@ ghost use Rattle.cp_refusal.specs.Explaining as spec;
 ghost use Rattle.cp_refusal.specs.Lines.{last_line};
 
 use crate::advice::advice;
-use crate::candidates::put_wanted;
+use crate::candidates::{put_wanted, wanted_words};
 use crate::foreign::sign_sentence;
 use crate::further_up::{Missing, what_is_missing};
 use crate::hints::hints;
@@ -204,13 +204,13 @@ fn after(span: ByteRange) -> ByteRange
 }
 
 // What is expected in the place of the token, what stands there, and what may have been meant.
-fn put_unexpected(teller: &mut Teller, missing: &Missing) {
+fn put_unexpected(teller: &mut Teller, missing: &Missing) -> Result<(), AllocError> {
     if teller.tokens.count() == 0 {
         teller.put("a program is missing");
-        return;
+        return Ok(());
     }
     teller.put("expected ");
-    put_wanted(teller);
+    put_wanted(teller)?;
     teller.say(
         match teller.mark() {
             Some(Mark::Assert) => ", found an assertion",
@@ -222,6 +222,7 @@ fn put_unexpected(teller: &mut Teller, missing: &Missing) {
         &[],
     );
     put_missing(teller, missing);
+    Ok(())
 }
 
 // What is missing further up, or else what may have been meant.
@@ -325,8 +326,9 @@ fn explain_unexpected(
     ensures { IfOk result (spec.IsRefusedAt (codes "parse") source.now tokens.now at) }
 {
     let mut teller = Teller::new(alloc, source, tokens, at);
-    let missing = what_is_missing(&mut teller)?;
-    put_unexpected(&mut teller, &missing);
+    teller.wanted = wanted_words(&teller)?;
+    let missing = what_is_missing(&teller)?;
+    put_unexpected(&mut teller, &missing)?;
     let earlier = earlier(source, tokens, &missing);
     not_parsed(source, tokens, at, teller.text.finish(), earlier)
 }

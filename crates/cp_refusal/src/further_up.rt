@@ -29,7 +29,7 @@ pub enum Missing {
 }
 
 /// What is missing before the token that the parser refuses.
-pub fn what_is_missing(teller: &mut Teller) -> Result<Missing, AllocError> {
+pub fn what_is_missing(teller: &Teller) -> Result<Missing, AllocError> {
     if let Some((at, word)) = misspelt_word(teller)? {
         return Ok(if at == teller.at {
             Missing::WordHere(word)
@@ -47,7 +47,7 @@ pub fn what_is_missing(teller: &mut Teller) -> Result<Missing, AllocError> {
 }
 
 // What is missing, whatever the layout is.
-fn missing_by_words(teller: &mut Teller) -> Missing {
+fn missing_by_words(teller: &Teller) -> Missing {
     if let Some(open) = open_block(teller) {
         return Missing::End(open);
     }
@@ -64,7 +64,7 @@ fn missing_by_words(teller: &mut Teller) -> Missing {
 }
 
 // The word without an `end` before what follows a whole block.
-fn open_block(teller: &mut Teller) -> Option<usize> {
+fn open_block(teller: &Teller) -> Option<usize> {
     let open = open_before(teller.tokens, teller.at, &OPENING, &CLOSING)?;
     // The name before `=` has been read as that of a field.
     let is_behind_fields = teller.mark() == Some(Mark::Equal)
@@ -158,14 +158,14 @@ pub fn is_after_a_block(teller: &Teller) -> bool {
 }
 
 // Whether an `end` can stand at the token, or before the period that is the last one.
-fn takes_end(teller: &mut Teller) -> bool {
+fn takes_end(teller: &Teller) -> bool {
     let is_behind_period = teller.at >= teller.tokens.count()
         && teller.back(1) == Some(Mark::Period);
     is_behind_period || teller.takes("end")
 }
 
 // The last token of an earlier line, after which a semicolon can stand and does not.
-fn line_without_semicolon(teller: &mut Teller) -> Option<usize> {
+fn line_without_semicolon(teller: &Teller) -> Option<usize> {
     let (tokens, at) = (teller.tokens, teller.at);
     let before = at.checked_sub(1)?;
     let is_ending = matches!(
@@ -241,7 +241,7 @@ const OPENING_BRACKETS: [Mark; 2] = [Mark::OpenParenthesis, Mark::OpenBracket];
 const CLOSING_BRACKETS: [Mark; 2] = [Mark::CloseParenthesis, Mark::CloseBracket];
 
 // The bracket that is open before a token that stands in none, and is not closed behind it.
-fn open_bracket(teller: &mut Teller) -> Option<usize> {
+fn open_bracket(teller: &Teller) -> Option<usize> {
     let is_outside = is_mark_of(teller.tokens, teller.at, &NEVER_INSIDE)
         || is_mark_of(teller.tokens, teller.at, &[Mark::Semicolon, Mark::Colon]);
     if !is_outside || is_closed_behind(teller) || !is_closing_wanted(teller) {
@@ -256,7 +256,7 @@ fn open_bracket(teller: &mut Teller) -> Option<usize> {
 }
 
 // Whether a bracket may be closed at the token, or before the semicolon in front of it.
-fn is_closing_wanted(teller: &mut Teller) -> bool {
+fn is_closing_wanted(teller: &Teller) -> bool {
     let is_behind_parameters = teller.back(1) == Some(Mark::Semicolon)
         && is_mark_of(teller.tokens, teller.at, &NEVER_INSIDE);
     is_behind_parameters || teller.takes_one_of(&[")", "]"])
@@ -290,7 +290,7 @@ fn is_closed_behind(teller: &Teller) -> bool {
 
 // What the `end` before the token closes, where the program is whole with it and does not end, or another `end` follows that closes nothing, or an `else` that may
 // belong to what it closes.
-fn closed_too_often(teller: &mut Teller) -> Option<usize> {
+fn closed_too_often(teller: &Teller) -> Option<usize> {
     let before = teller.at.checked_sub(1)?;
     if teller.mark_at(before) != Some(Mark::End)
         || teller.at >= teller.tokens.count()

@@ -11,8 +11,7 @@ use cp_text::{Mark, ScanCause, Tokens, scan};
 use cp_tree::{ParseFault, parse};
 use std::alloc::{AllocError, Global};
 
-/// A source that is refused at a token, and what has been told of it. It is asked whether other tokens would be accepted; where memory is refused
-/// for that, the text is refused.
+/// A source that is refused at a token, and what has been told of it.
 #[derive(Drop)]
 pub struct Teller<'a> {
     pub alloc: Global,
@@ -20,15 +19,8 @@ pub struct Teller<'a> {
     pub tokens: &'a Tokens,
     pub at: usize,
     pub text: Prose,
-    /// What was found of the tokens that were asked for.
-    answers: Vec<Answer>,
-}
-
-/// Whether a program can go on with a token in the place of the one that is refused.
-#[derive(Clone, Copy, Drop)]
-struct Answer {
-    word: &'static str,
-    is_taken: bool,
+    /// With what a program can go on in the place of the token, where that is known.
+    pub wanted: Vec<&'static str>,
 }
 
 /// What stands in a sentence for a `@`.
@@ -47,9 +39,6 @@ pub enum Piece<'a> {
     Number(i64),
 }
 
-/// What ends an annotation.
-const CLOSING: &str = "*)\"";
-
 impl<'a> Teller<'a> {
     pub fn new(alloc: Global, source: &'a [u8], tokens: &'a Tokens, at: usize) -> Teller<'a> {
         Teller {
@@ -58,7 +47,7 @@ impl<'a> Teller<'a> {
             tokens,
             at,
             text: Prose::new(alloc),
-            answers: Vec::new(alloc),
+            wanted: Vec::new(alloc),
         }
     }
 
@@ -171,40 +160,13 @@ impl<'a> Teller<'a> {
     }
 
     /// Whether a program can go on with this token in the place of the one that is refused.
-    pub fn takes(&mut self, word: &'static str) -> bool {
-        if let Some(answer) = self.answers.iter().find(|answer| answer.word == word) {
-            return answer.is_taken;
-        }
-        let Ok(is_taken) = self.may_stand(word) else {
-            self.text.refuse();
-            return false;
-        };
-        if self.answers.push(Answer { word, is_taken }).is_err() {
-            self.text.refuse();
-        }
-        is_taken
+    pub fn takes(&self, word: &str) -> bool {
+        self.wanted.iter().any(|wanted| *wanted == word)
     }
 
     /// Whether a program can go on with one of these tokens in its place.
-    pub fn takes_one_of(&mut self, words: &[&'static str]) -> bool {
-        for word in words {
-            if self.takes(word) {
-                return true;
-            }
-        }
-        false
-    }
-
-    /// Whether the parser refuses none of the tokens up to this one in the place of the one that is refused: the source is read up to there, and this word.
-    fn may_stand(&self, word: &'static str) -> Result<bool, AllocError> {
-        let mut draft = Vec::new(self.alloc);
-        draft.extend_from_slice(self.around(self.at).0)?;
-        draft.extend_from_slice(b" ")?;
-        draft.extend_from_slice(word.as_bytes())?;
-        if self.is_in_annotation() && word != CLOSING {
-            draft.extend_from_slice(CLOSING.as_bytes())?;
-        }
-        Ok(tokens_read(self.alloc, &draft)? > self.at)
+    pub fn takes_one_of(&self, words: &[&str]) -> bool {
+        words.iter().any(|word| self.takes(word))
     }
 
     /// How many tokens the parser reads where this word stands in the place of one.

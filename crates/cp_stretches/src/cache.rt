@@ -15,7 +15,7 @@ ghost use Rattle.cp_stretches.specs.Cached.{IsCache, IsStanding, StandsFor};
 use crate::legs::LegTable;
 use crate::numbers::StatusNumbers;
 use arrayvec::ArrayVec;
-use cp_effects::{Effect, write_row};
+use cp_effects::{AdmissionTable, Effect, write_row};
 use cp_machine::State;
 use cp_parts::{PartStore, PlaceTable};
 use cp_run::Job;
@@ -36,6 +36,7 @@ pub struct LegCache {
     pub store: PartStore,
     pub numbers: StatusNumbers,
     pub legs: LegTable,
+    pub admissions: AdmissionTable,
 }
 
 impl LegCache {
@@ -53,6 +54,7 @@ impl LegCache {
             store,
             numbers,
             legs: LegTable::new(alloc),
+            admissions: AdmissionTable::new(alloc),
         })
     }
 

@@ -151,7 +151,7 @@ impl StatusNumbers {
 
     // What comes next where nothing is pending and the last step was a kernel call.
     #[inline(always)]
-    fn settled_turn(&self, table: &PlaceTable, row: &[u32]) -> Turn
+    pub fn settled_turn(&self, table: &PlaceTable, row: &[u32]) -> Turn
         requires { table.now.processes < length row.now }
         ensures { (r : Tables) (s : PartStore) (m : Machine) (discipline : Discipline) (process : ℕ) → CanRead r s table.now self.now m row.now → result ≡ run.settled_turn (slots r discipline) m true process }
     {

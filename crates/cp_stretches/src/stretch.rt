@@ -20,7 +20,7 @@ ghost use Rattle.cp_stretches.specs.Telling.{IsTold};
 
 use crate::cache::{LegCache, Standing};
 use crate::numbers::is_free;
-use cp_effects::{Known, KnownLeg, make_effect, write_row};
+use cp_effects::{Known, KnownLeg, make_admission, make_effect, write_admission, write_row};
 use cp_machine::Shown;
 use cp_run::{Halt, Job, OutcomeKind, Turn};
 use std::alloc::{AllocError, Global};
@@ -206,7 +206,7 @@ impl LegCache {
         alloc: Global,
         job: &Job<'_>,
         row: &mut [u32],
-        process: u8,
+        turn: Turn,
         standing: &mut Standing,
         shown: &mut Vec<Shown>,
     ) -> Result<Option<Halt<OutcomeKind>>, AllocError>
@@ -219,7 +219,7 @@ impl LegCache {
         ensures table { self.new.table ≡ self.old.table }
         ensures leads { IfOk result (λ halts. IfSome halts (λ halt. (m : Machine) → MayGo job.now.program.now job.now.limits.discipline self.old.store self.old.table m row.old process → LeadsTo job.now.program.now job.now.limits.discipline self.new.store self.new.table job.now.limits.steps m process shown.old.items halt row.new shown.new.items)) }
     {
-        let mut turn = Turn::Goes(process);
+        let mut turn = turn;
         let mut left = job.limits.steps;
         for _ in 0..job.limits.steps {
             let Turn::Goes(pid) = turn else {
@@ -231,6 +231,65 @@ impl LegCache {
             turn = next;
         }
         Ok(halt_of(turn))
+    }
+
+    // A process is let in at the pending monitor in the state of a row, and that is remembered. Answers the number of the part of the monitor's place afterwards.
+    #[inline(never)]
+    fn learn_admission(
+        &mut self,
+        alloc: Global,
+        job: &Job<'_>,
+        row: &[u32],
+        process: u8,
+        monitor: u8,
+        key: u32,
+        standing: &mut Standing,
+    ) -> Result<u32, AllocError> {
+        self.stand(job, row, standing);
+        let part = make_admission(
+            alloc,
+            job.program,
+            &self.table,
+            &mut self.store,
+            &mut standing.state,
+            process,
+            monitor,
+        )?;
+        write_admission(
+            &self.store,
+            &self.table,
+            &mut standing.row,
+            process,
+            monitor,
+            part,
+        );
+        self.admissions.remember(key, part)?;
+        Ok(part)
+    }
+
+    // The row after a process is taken: it is let in where a monitor is pending, else the row stays. Answers what comes next.
+    #[inline(always)]
+    fn begin(
+        &mut self,
+        alloc: Global,
+        job: &Job<'_>,
+        row: &mut [u32],
+        process: u8,
+        standing: &mut Standing,
+    ) -> Result<Turn, AllocError> {
+        if is_free(&self.table, row) {
+            return Ok(Turn::Goes(process));
+        }
+        let monitor = (row[self.table.pending_position()] - 1) as u8;
+        let key = self
+            .admissions
+            .number_key(alloc, &self.table, row, process, monitor)?;
+        let part = match self.admissions.at(key) {
+            Some(part) => part,
+            None => self.learn_admission(alloc, job, row, process, monitor, key, standing)?,
+        };
+        write_admission(&self.store, &self.table, row, process, monitor, part);
+        Ok(self.numbers.settled_turn(&self.table, row))
     }
 
     /// Takes a due choice in the state of a row, and makes the stretch after it by the legs that are known. Answers where it halts, whose row it is then, and
@@ -255,10 +314,8 @@ impl LegCache {
         ensures table { self.new.table ≡ self.old.table }
         ensures leads { IfOk result (λ halts. IfSome halts (λ halt. (m : Machine) → StandsFor job.now.program.now job.now.limits.discipline self.old.store self.old.table m row.old → may (slots job.now.program.now job.now.limits.discipline) m process ≡ true → LeadsTo job.now.program.now job.now.limits.discipline self.new.store self.new.table job.now.limits.steps m process shown.old.items halt row.new shown.new.items)) }
     {
-        if !is_free(&self.table, row) {
-            return Ok(None);
-        }
-        let halts = self.go(alloc, job, row, process, standing, shown)?;
+        let turn = self.begin(alloc, job, row, process, standing)?;
+        let halts = self.go(alloc, job, row, turn, standing, shown)?;
         Ok(halts)
     }
 }
