@@ -3,9 +3,9 @@ import re
 from pathlib import Path
 
 ROOT = Path(__file__).resolve().parents[2]
-SIGNS = set("+ - * / ( ) [ ] , ; : . = < > <= >= <> := .. & 1 'A'".split())
-NAMES = {"continue", "delay", "display", "is"}
-PLACE = re.compile(r"[+-]?[0-9]|(open|paren)(-1)?")
+SIGNS = set("+ - * / ( ) [ ] , ; : . = < > <= >= <> := .. &".split())
+NAMES = {"as", "continue", "delay", "display", "down", "empty", "false", "is", "till", "true", "upto", "val", "value"}
+PLACE = re.compile(r"[+-]?[0-9]|(open|paren)(-1)?|ahead")
 
 
 def arms(source, function):
@@ -19,6 +19,8 @@ def misspelt():
     source = (ROOT / "crates/cp_refusal/src/advice.rt").read_text()
     reserved = set(re.findall(r'\("(\w+)", Mark::', (ROOT / "crates/cp_text/src/word.rt").read_text()))
     alone, kinds = arms(source, "is_so"), arms(source, "is_kind")
+    table = (ROOT / "crates/cp_refusal/src/candidates.rt").read_text().split("static CHOICES", 1)[1].split("];", 1)[0]
+    choices = {word for words in re.findall(r'\(&\[.*?\], "((?:[^"\\]|\\.)*)", ', table) for word in words.split(" ")}
     rules = [line for text in re.findall(r'= "\\\n(.*?)";', source, re.DOTALL) for line in text.splitlines()]
     faults = [] if rules else [("no rule stands where rules are looked for", "")]
     for rule in rules:
@@ -26,7 +28,7 @@ def misspelt():
             asked = condition.removeprefix("!")
             place, colon, words = asked.partition(":")
             if asked.startswith("?"):
-                is_known = all(word in reserved | SIGNS | {"x"} for word in asked[1:].split("/")) or asked[1:] in SIGNS
+                is_known = all(word in choices for word in asked[1:].split("/"))
             elif colon:
                 is_known = PLACE.fullmatch(place) and (words in SIGNS or all(word in kinds | reserved | SIGNS | NAMES for word in words.split("/")))
             else:

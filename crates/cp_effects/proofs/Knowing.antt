@@ -14,6 +14,7 @@ use Rattle.cp_parts.specs.declared.placing.PlaceTable.{PlaceTable}
 use Rattle.cp_parts.specs.declared.store.PartStore.{PartStore}
 use Rattle.cp_parts.specs.Parts.{KeepStore}
 use Rattle.cp_parts.specs.Placed.{IsPlaced}
+use Rattle.cp_parts.proofs.Keeping.{row_on}
 use Rattle.cp_parts.proofs.Pieces.{piece_on, pieces_same}
 use Rattle.cp_effects.specs.declared.changes.Write.{Write}
 use Rattle.cp_effects.specs.declared.leg.WatchedLeg.{WatchedLeg}
@@ -25,7 +26,6 @@ use Rattle.cp_effects.specs.Changes.{numbers_at}
 use Rattle.cp_effects.specs.Known.{AreKnown, IsKeyOf, IsKnown, Tells, known_at, writes_of}
 use Rattle.cp_effects.specs.Remembered.{IsRemembered}
 use Rattle.cp_effects.proofs.Looking.{look_law}
-use Rattle.cp_effects.proofs.Remembering.{row_on}
 
 -- ---- parts of lists with more behind them
 

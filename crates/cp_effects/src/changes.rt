@@ -12,7 +12,7 @@ use std::alloc::{AllocError, Global};
 /// A number that a row has afterwards, and where.
 #[derive(Clone, Copy, Drop)]
 pub struct Write {
-    pub position: usize,
+    pub position: u32,
     pub number: u32,
 }
 
@@ -57,6 +57,10 @@ fn add_change(
     if !may_change(table, touched, position) {
         return Ok(false);
     }
+    if position > u32::MAX as usize {
+        return Ok(false);
+    }
+    let position = position as u32;
     writes.push(Write { position, number })?;
     Ok(true)
 }
@@ -88,6 +92,6 @@ pub fn write_row(row: &mut [u32], writes: &[Write])
     ensures { row.new ≡ written writes.now row.old }
 {
     for write in writes {
-        row[write.position] = write.number;
+        row[write.position as usize] = write.number;
     }
 }

@@ -95,8 +95,7 @@ impl EffectTable {
     ghost use Rattle.cp_machine.specs.declared.discipline.Discipline.{Discipline};
     ghost use Rattle.cp_states.specs.Pieces.{IsPiece, KeepPieces, piece_at};
     ghost use Rattle.cp_parts.specs.declared.store.PartStore.{PartStore};
-    ghost use Rattle.cp_parts.specs.Placed.{IsPlaced};
-    ghost use Rattle.cp_effects.specs.Known.{AreKnown, IsKeyOf, Tells};
+    ghost use Rattle.cp_effects.specs.Known.{AreKnown, IsKeyOf};
     ghost use Rattle.cp_effects.specs.Remembered.{IsRemembered};
 
     /// Nothing is known.
@@ -157,25 +156,6 @@ impl EffectTable {
         }
     }
 
-    /// What is known of the leg of a process in the state of a row, if it touches the places of a number.
-    pub fn look(
-        &mut self,
-        alloc: Global,
-        key: &mut Vec<u32>,
-        table: &PlaceTable,
-        row: &[u32],
-        pid: u8,
-        scope: u32,
-    ) -> Result<Known, AllocError>
-        requires { scope < length self.old.scopes.ends.items }
-        ensures tells { IfOk result (λ known. (s : PartStore) (r : Tables) (discipline : Discipline) (e : KnownLeg) → IsPlaced r table.now → AreKnown s table.now r discipline self.old → known ≡ Known.Leg e → Tells s table.now r discipline self.new row.now pid e) }
-        ensures known { (s : PartStore) (t : PlaceTable) (r : Tables) (discipline : Discipline) → AreKnown s t r discipline self.old → AreKnown s t r discipline self.new }
-        ensures scopes { self.new.scopes ≡ self.old.scopes }
-    {
-        let number = self.number_key(alloc, key, table, row, pid, scope)?;
-        Ok(self.at(number))
-    }
-
     // This is known of a key.
     fn set(&mut self, key: u32, known: Known) -> Result<(), AllocError>
         ensures here { OnOk result (known_at self.new.known.items key ≡ known) }
@@ -203,6 +183,7 @@ impl EffectTable {
         ensures here { IfOk result (λ leg. known_at self.new.known.items key ≡ Known.Leg leg) }
         ensures known { IfOk result (λ _. (s : PartStore) (t : PlaceTable) (r : Tables) (discipline : Discipline) (pid scope : ℕ) (numbers : List ℕ) → AreKnown s t r discipline self.old → IsKeyOf self.old key pid scope numbers → IsRemembered s t r discipline pid (piece_at self.old.scopes.items.items self.old.scopes.ends.items scope) numbers effect.now.leg (option_to_list effect.now.shown) effect.now.writes.items → AreKnown s t r discipline self.new) }
         ensures scopes { self.new.scopes ≡ self.old.scopes }
+        ensures keys { self.new.keys ≡ self.old.keys }
     {
         let from = self.writes.len();
         self.writes.extend_from_slice(&effect.writes)?;

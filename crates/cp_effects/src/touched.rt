@@ -5,9 +5,6 @@ ghost use Rattle.cp_effects.specs.Noting.{KeepNoted, among};
 
 use arrayvec::ArrayVec;
 
-/// The most places that are noted.
-pub const MOST_PLACES: usize = 16;
-
 /// Places, each once and in the order in which they were touched first.
 #[derive(Drop)]
 pub struct Touched {

@@ -18,7 +18,6 @@ use Rattle.cp_ends.specs.Rows.{IsQuiet}
 use Rattle.cp_ends.proofs.Numbering.{at_end, numbered_known}
 use Rattle.cp_ends.proofs.Searching.Growing.{arrived_extends, going_at, searched_done, searched_length, searched_on}
 use Rattle.cp_ends.proofs.Searching.Lists.{grown_at, grows_joined, grows_same}
-use Rattle.cp_ends.specs.declared.origin.Origin.{Origin}
 
 pub ok_to : {A E : Type 0} (r : Result A E) (P Q : A → Type 0) → IfOk r P → ((a : A) → P a → Q a) → IfOk r Q
 ok_to (Ok a) P Q h f = f a h

@@ -1,6 +1,7 @@
 -- The states of the code are those of the search.
 use Rattle.std.proofs.Common.{◌≡◌, ◌∙◌, ◌⊎◌, inl, inr, ◌<◌, ◌≤◌, ℕ, zero, suc, Bool, true, false, cond, if◌then◌else◌, List, [], ◌∷◌, ◌++◌, length, Option, None, Some, is_some, get_or, refl, sym, ap, subst, arith}
 use Rattle.cp_ends.proofs.Vocabulary.{nat_eq, slice_get, pointwise, Tables, Machine, has, Origin, States, Discipline}
+use Rattle.std.specs.Prelude.{All}
 use Rattle.std.specs.Map.{lookup}
 use Rattle.std.proofs.lemmas.List.Elements.{All-nil, All-push, All-weaker}
 use Rattle.std.proofs.lemmas.Option.{same_Some, slice_get_cases, slice_get_past, slice_get_within}
@@ -12,8 +13,11 @@ use Rattle.cp_stretches.specs.Cached.{IsCache, IsStanding}
 use Rattle.cp_stretches.specs.declared.cache.LegCache.{LegCache}
 use Rattle.cp_stretches.specs.declared.cache.Standing.{Standing}
 use Rattle.cp_ends.specs.declared.row.HalvedRow.{HalvedRow}
+use Rattle.cp_ends.specs.declared.moves.MoveTable.{MoveTable}
+use Rattle.cp_ends.specs.Moves.{AreMoves, IsMove}
 use Rattle.cp_ends.specs.Rows.{IsHalvedRow, IsQuiet, IsStated}
 use Rattle.cp_ends.proofs.Halves.{KeepRows, halved_row_on, same_kept, same_rows}
+use Rattle.cp_ends.proofs.Within.{moves_on}
 use Rattle.cp_ends.specs.Holds.{same_key, AreRows, AreStates, IsBefore, IsWordOf}
 use Rattle.cp_ends.specs.declared.origin.Origin.TheVariants.{Start, Choice}
 use Rattle.cp_ends.proofs.Searching.Lists.{all_at}
@@ -63,11 +67,12 @@ rows_on old new [] [] kept h = tt
 rows_on old new (e ∷ es) (x ∷ xs) kept h = (halved_row_on old new e.0.numbers x.0 kept h.0, rows_on old new es xs kept h.1)
 rows_on old new _ _ kept h = absurd h
 
-pub states_on : (r : Tables) (old new : States) (xs : List Stated) → new.known ≡ old.known → KeepRows old new → IsCache r new.discipline new.cache → IsStanding r new.cache.store new.cache.table new.standing → AreStates r old xs → AreStates r new xs
-states_on r old new xs same kept cached standing h =
+pub states_with : (r : Tables) (old new : States) (xs : List Stated) → new.known ≡ old.known → KeepRows old new → AreMoves r new → IsCache r new.discipline new.cache → IsStanding r new.cache.store new.cache.table new.standing → AreStates r old xs → AreStates r new xs
+states_with r old new xs same kept moves cached standing h =
     record {
       cached = cached;
       standing = standing;
+      moves = moves;
       rows = subst (λ es. AreRows new es xs) (sym entries) (rows_on old new old.known.entries xs kept h.rows);
       own = h.own;
       quiet = h.quiet;
@@ -79,19 +84,24 @@ states_on r old new xs same kept cached standing h =
     entries : new.known.entries ≡ old.known.entries
     entries = ap (λ k. k.entries) same
 
--- more halves
-pub halves_more : (r : Tables) (old new : States) (xs : List Stated) → new.known ≡ old.known → new.cache ≡ old.cache → new.standing ≡ old.standing → new.discipline ≡ old.discipline → KeepPieces old.halves.items.items old.halves.ends.items new.halves.items.items new.halves.ends.items → AreStates r old xs → AreStates r new xs
-halves_more r old new xs known cache standing ruled halves h =
-    states_on r old new xs known (same_kept old new cache ruled halves)
+-- with the same moves
+pub states_on : (r : Tables) (old new : States) (xs : List Stated) → new.known ≡ old.known → new.moves.moves ≡ old.moves.moves → new.moves.writes ≡ old.moves.writes → KeepRows old new → IsCache r new.discipline new.cache → IsStanding r new.cache.store new.cache.table new.standing → AreStates r old xs → AreStates r new xs
+states_on r old new xs same moves writes kept cached standing h = states_with r old new xs same kept (moves_on r old new kept moves writes h.moves) cached standing h
+
+-- more lists
+pub lists_more : (r : Tables) (old new : States) (xs : List Stated) → new.known ≡ old.known → new.moves ≡ old.moves → new.cache ≡ old.cache → new.standing ≡ old.standing → new.discipline ≡ old.discipline → KeepPieces old.lists.items.items old.lists.ends.items new.lists.items.items new.lists.ends.items → AreStates r old xs → AreStates r new xs
+lists_more r old new xs known moves cache standing ruled lists h =
+    states_on r old new xs known (ap (λ (v : MoveTable). v.moves) moves) (ap (λ (v : MoveTable). v.writes) moves) (same_kept old new cache ruled lists)
     (subst (λ (d : Discipline). IsCache r d new.cache) (sym ruled) (subst (λ (c : LegCache). IsCache r old.discipline c) (sym cache) h.cached))
     (subst (λ (x : Standing). IsStanding r new.cache.store new.cache.table x) (sym standing) (subst (λ (c : LegCache). IsStanding r c.store c.table old.standing) (sym cache) h.standing)) h
 
 -- no state
-pub no_states : (r : Tables) (kept : States) → IsCache r kept.discipline kept.cache → IsStanding r kept.cache.store kept.cache.table kept.standing → kept.known.entries ≡ [] → AreStates r kept []
-no_states r kept cached standing none =
+pub no_states : (r : Tables) (kept : States) → IsCache r kept.discipline kept.cache → IsStanding r kept.cache.store kept.cache.table kept.standing → kept.known.entries ≡ [] → kept.moves.moves.items ≡ [] → AreStates r kept []
+no_states r kept cached standing none still =
     record {
       cached = cached;
       standing = standing;
+      moves = subst (λ es. All (IsMove r kept) es) (sym still) (All-nil (IsMove r kept));
       rows = subst (λ es. AreRows kept es []) (sym none) tt;
       own = All-nil (λ (x : Stated). IsMachineOf r x.0);
       quiet = All-nil (λ (x : Stated). x.0.output ≡ []);
@@ -156,8 +166,8 @@ module _ (r : Tables) (kept : States) (xs : List Stated) (h : AreStates r kept x
 
   -- one more
   module _ (k : HalvedRow) (o : Origin) (m : Machine) (word : List ℕ) where
-    pub states_more : has same_key xs m ≡ false → IsStated r kept k.numbers m → IsWordOf xs o word → IsBefore (length xs) o → (new : States) → KeepRows kept new → IsCache r new.discipline new.cache → IsStanding r new.cache.store new.cache.table new.standing → new.known.entries ≡ insert_entry (λ a b. pointwise nat_eq a.numbers b.numbers) kept.known.entries k o → AreStates r new (xs ++ (m, word) ∷ [])
-    states_more fresh is word_is before new same cached standing listed = more
+    pub states_more : has same_key xs m ≡ false → IsStated r kept k.numbers m → IsWordOf xs o word → IsBefore (length xs) o → (new : States) → KeepRows kept new → new.moves ≡ kept.moves → IsCache r new.discipline new.cache → IsStanding r new.cache.store new.cache.table new.standing → new.known.entries ≡ insert_entry (λ a b. pointwise nat_eq a.numbers b.numbers) kept.known.entries k o → AreStates r new (xs ++ (m, word) ∷ [])
+    states_more fresh is word_is before new same moves cached standing listed = more
       where
         put : insert_entry (λ a b. pointwise nat_eq a.numbers b.numbers) es k o ≡ es ++ (k, o) ∷ []
         put = insert_new (λ a b. pointwise nat_eq a.numbers b.numbers) es k o (found_same r kept h.cached.placed es xs k m h.rows owned is ∙ fresh)
@@ -183,6 +193,7 @@ module _ (r : Tables) (kept : States) (xs : List Stated) (h : AreStates r kept x
             record {
               cached = cached;
               standing = standing;
+              moves = moves_on r kept new same (ap (λ (v : MoveTable). v.moves) moves) (ap (λ (v : MoveTable). v.writes) moves) h.moves;
               rows = rows;
               own = All-push (λ (x : Stated). IsMachineOf r x.0) xs (m, word) h.own is.it.own;
               quiet = All-push (λ (x : Stated). x.0.output ≡ []) xs (m, word) h.quiet is.it.quiet;

@@ -1,12 +1,16 @@
 pub mod Answering
 pub mod Arriving
+pub mod Dealing
 pub mod Finding
 pub mod GoingOn
 pub mod Halting
 pub mod Halves
 pub mod Keeping
+pub mod Learned
 pub mod Legs
 pub mod Listing
+pub mod Looked
+pub mod Made
 pub mod Moving
 pub mod Numbering
 pub mod Returning
@@ -16,12 +20,14 @@ pub mod Ruled
 pub mod RuledStates
 pub mod Saying
 pub mod Searching
+pub mod Staying
 pub mod Stepping
 pub mod Stretches
 pub mod Telling
 pub mod Thawing
 pub mod Unwinding
 pub mod Wanted
+pub mod Within
 mod Vocabulary
 pub mod named
 pub mod words

@@ -1,24 +1,27 @@
 -- A search that goes on from rows, state by state.
 use Rattle.std.proofs.Common.{◌≡◌, ◌∙◌, ℕ, List, [], length, map, subst, sym}
-use Rattle.cp_ends.proofs.Vocabulary.{Tables, Machine, Discipline, States, Found, HoldsFew, Holds, IsStateOf, SlotFindings, Choice, Graph, Shown, machine_of, output_of, slot_graph, those_below}
+use Rattle.cp_ends.proofs.Vocabulary.{Tables, Machine, Discipline, Found, HoldsFew, Holds, IsStateOf, SlotFindings, States, Choice, Graph, Shown, machine_of, output_of, slot_graph, those_below}
 use Rattle.cp_key.proofs.Owned.{machine_own}
 use Rattle.cp_machine.specs.declared.state.State.{State}
+use Rattle.cp_states.specs.Pieces.{KeepPieces}
 use Rattle.cp_parts.specs.Parts.{IsPartRow}
+use Rattle.cp_parts.proofs.Pieces.{pieces_same}
 use Rattle.cp_run.specs.declared.outcome.Halt.{Halt}
 use Rattle.cp_run.specs.declared.outcome.Halt.TheVariants as halt
 use Rattle.cp_stretches.specs.Cached.{IsCache, StandsFor}
 use Rattle.cp_stretches.specs.declared.cache.LegCache.{LegCache}
 use Rattle.cp_ends.specs.Answer.{Arrives}
 use Rattle.cp_ends.specs.Arrivals.{goal_at}
-use Rattle.cp_ends.specs.ByRows.{Goes, HasRoom, IsWithinRow, KeepFound, width_of}
+use Rattle.cp_ends.specs.ByRows.{Goes, HasRoom, IsWithinRow, KeepFound}
+use Rattle.cp_ends.specs.Halves.{width_of}
 use Rattle.cp_ends.specs.Holds.{AreFound, AreStates, IsBefore, IsWordOf, SlotArrival, end_origin, value_origin}
-use Rattle.cp_ends.specs.Rows.{IsRowFor}
+use Rattle.cp_ends.specs.Rows.{IsHalved, IsRowFor, IsStated}
 use Rattle.cp_ends.specs.Visited.{IsWithin}
 use Rattle.cp_ends.specs.declared.end.End.{End}
 use Rattle.cp_ends.specs.declared.found.Arrived.{Arrived}
 use Rattle.cp_ends.specs.declared.rows.RowSearch.{RowSearch}
 use Rattle.cp_ends.proofs.GoingOn.{Takes, state_within}
-use Rattle.cp_ends.proofs.Halves.{KeepRows, row_for_on}
+use Rattle.cp_ends.proofs.Halves.{KeepRows, halved_on, row_for_on, same_kept}
 use Rattle.cp_ends.proofs.Rowwise.{stands_for}
 
 module _ (r : Tables) (discipline : Discipline) (steps most : ℕ) where
@@ -26,22 +29,22 @@ module _ (r : Tables) (discipline : Discipline) (steps most : ℕ) where
   graph = slot_graph r discipline steps
 
   -- the row of the state that is gone on from
-  pub row_of_within : (s : RowSearch) (row : List ℕ) (at : ℕ) (m : Machine) (done : List ℕ) → IsWithinRow r discipline steps most s row at m done → IsRowFor r s.found.states row m
-  row_of_within s row at m done h = record { it = state_within r graph most s.found at m done h.within; is = h.row_is }
+  pub row_of_within : (s : RowSearch) (numbers row : List ℕ) (at : ℕ) (m : Machine) (done : List ℕ) → IsWithinRow r discipline steps most s numbers row at m done → IsRowFor r s.found.states row m
+  row_of_within s numbers row at m done h = record { it = state_within r graph most s.found at m done h.within; is = h.row_is }
 
   -- it is what the legs that are known want
-  pub stands_within : (s : RowSearch) (row : List ℕ) (at : ℕ) (m : Machine) (done : List ℕ) → s.found.states.discipline ≡ discipline → IsWithinRow r discipline steps most s row at m done → StandsFor r discipline s.found.states.cache.store s.found.states.cache.table m row
-  stands_within s row at m done ruled h = subst (λ (d : Discipline). StandsFor r d s.found.states.cache.store s.found.states.cache.table m row) ruled (stands_for r s.found.states row m (row_of_within s row at m done h))
+  pub stands_within : (s : RowSearch) (numbers row : List ℕ) (at : ℕ) (m : Machine) (done : List ℕ) → s.found.states.discipline ≡ discipline → IsWithinRow r discipline steps most s numbers row at m done → StandsFor r discipline s.found.states.cache.store s.found.states.cache.table m row
+  stands_within s numbers row at m done ruled h = subst (λ (d : Discipline). StandsFor r d s.found.states.cache.store s.found.states.cache.table m row) ruled (stands_for r s.found.states row m (row_of_within s numbers row at m done h))
 
-  pub cache_within : (s : RowSearch) (row : List ℕ) (at : ℕ) (m : Machine) (done : List ℕ) → s.found.states.discipline ≡ discipline → IsWithinRow r discipline steps most s row at m done → IsCache r discipline s.found.states.cache
-  cache_within s row at m done ruled h = subst (λ (d : Discipline). IsCache r d s.found.states.cache) ruled h.within.holds.holds.states.cached
+  pub cache_within : (s : RowSearch) (numbers row : List ℕ) (at : ℕ) (m : Machine) (done : List ℕ) → s.found.states.discipline ≡ discipline → IsWithinRow r discipline steps most s numbers row at m done → IsCache r discipline s.found.states.cache
+  cache_within s numbers row at m done ruled h = subst (λ (d : Discipline). IsCache r d s.found.states.cache) ruled h.within.holds.holds.states.cached
 
   -- where a choice leads, its arrival is that of the graph
-  pub takes_so : (old mid : RowSearch) (new : Found) (row : List ℕ) (at : ℕ) (m : Machine) (p : ℕ) (within : IsWithinRow r discipline steps most old row at m (those_below p (graph.may m))) (h : Halt End) (b : Arrived) → KeepFound r old.found mid.found → Goes r discipline steps m p h mid.found.states mid.row.items mid.told.values.items →
-      ((f : SlotFindings) (word : List ℕ) (a : SlotArrival) (k : Machine) → HoldsFew r most mid.found f → IsWordOf f.states (Choice at p) word → IsBefore (length f.states) (Choice at p) → (h ≡ halt.Choice → IsRowFor r mid.found.states mid.row.items k) → goal_at h k ≡ a.goal → mid.told.values.items ≡ a.shown → Arrives r most new f word a b) →
+  pub takes_so : (old mid : RowSearch) (new : Found) (numbers row : List ℕ) (at : ℕ) (m : Machine) (p : ℕ) (within : IsWithinRow r discipline steps most old numbers row at m (those_below p (graph.may m))) (h : Halt End) (b : Arrived) → KeepFound r old.found mid.found → Goes r discipline steps m p h (IsStated r mid.found.states mid.next.numbers) mid.told.values.items →
+      ((f : SlotFindings) (word : List ℕ) (a : SlotArrival) (k : Machine) → HoldsFew r most mid.found f → IsWordOf f.states (Choice at p) word → IsBefore (length f.states) (Choice at p) → (h ≡ halt.Choice → IsStated r mid.found.states mid.next.numbers k) → goal_at h k ≡ a.goal → mid.told.values.items ≡ a.shown → Arrives r most new f word a b) →
       Takes r graph most old.found new at m p within.within b
-  takes_so old mid new row at m p within h b kept goes on f word few is before =
-      on f word (graph.on m p) goes.after (record { holds = kept.holds f few.holds; few = few.few }) is before goes.row_is goes.goal goes.told
+  takes_so old mid new numbers row at m p within h b kept goes on f word few is before =
+      on f word (graph.on m p) goes.after (record { holds = kept.holds f few.holds; few = few.few }) is before goes.is goes.goal goes.told
 
   -- where only more is found
   pub room_kept : (s : RowSearch) (found : Found) → found.states.cache ≡ s.found.states.cache → found.states.discipline ≡ s.found.states.discipline → HasRoom discipline s → HasRoom discipline (record s { found = found })
@@ -50,6 +53,11 @@ module _ (r : Tables) (discipline : Discipline) (steps most : ℕ) where
   pub row_kept : (s : RowSearch) (found : Found) (row : List ℕ) (m : Machine) → found.states.cache ≡ s.found.states.cache → IsRowFor r s.found.states row m → IsPartRow found.states.cache.store found.states.cache.table m row
   row_kept s found row m cache is = subst (λ (c : LegCache). IsPartRow c.store c.table m row) (sym cache) is.is
 
+  pub halved_kept : (s : RowSearch) (found : Found) (numbers row : List ℕ) → found.states.cache ≡ s.found.states.cache → found.states.discipline ≡ s.found.states.discipline → found.states.lists ≡ s.found.states.lists → IsHalved s.found.states numbers row → IsHalved found.states numbers row
+  halved_kept s found numbers row cache ruled lists h =
+      let old = s.found.states.lists in
+      halved_on s.found.states found.states numbers row (same_kept s.found.states found.states cache ruled (subst (λ x. KeepPieces old.items.items old.ends.items x.items.items x.ends.items) (sym lists) (pieces_same old.items.items old.ends.items))) h
+
 -- ---- what was found stays
 
 pub kept_found : (r : Tables) (old new : Found) → KeepRows old.states new.states → ((states : List (Machine × List ℕ)) → AreStates r old.states states → AreStates r new.states states) → new.ends ≡ old.ends → new.values ≡ old.values → KeepFound r old new
@@ -57,10 +65,19 @@ kept_found r old new keep states ends values =
     record {
       holds = λ f h. record { states = states f.states h.states; ends = subst (λ es. AreFound f.states (map end_origin es.items) f.ends) (sym ends) h.ends; values = subst (λ vs. AreFound f.states (map value_origin vs.items) f.values) (sym values) h.values };
       rows = λ row m is. row_for_on r old.states new.states row m keep is;
+      halved = λ numbers row is. halved_on old.states new.states numbers row keep is;
+    }
+
+-- with the same legs and parts
+pub same_row_for : (r : Tables) (old new : States) (row : List ℕ) (m : Machine) → new.cache ≡ old.cache → new.discipline ≡ old.discipline → IsRowFor r old row m → IsRowFor r new row m
+same_row_for r old new row m cache ruled is =
+    record {
+      it = record { own = is.it.own; quiet = is.it.quiet; ruled = is.it.ruled ∙ sym ruled };
+      is = subst (λ (c : LegCache). IsPartRow c.store c.table m row) (sym cache) is.is;
     }
 
 pub kept_both : (r : Tables) (a b c : Found) → KeepFound r a b → KeepFound r b c → KeepFound r a c
-kept_both r a b c x y = record { holds = λ f h. y.holds f (x.holds f h); rows = λ row m is. y.rows row m (x.rows row m is) }
+kept_both r a b c x y = record { holds = λ f h. y.holds f (x.holds f h); rows = λ row m is. y.rows row m (x.rows row m is); halved = λ numbers row is. y.halved numbers row (x.halved numbers row is) }
 
 -- ---- a state by its row
 

@@ -4,8 +4,6 @@ use Rattle.std.proofs.Math.Seq.{take-append_seam}
 use Rattle.std.proofs.lemmas.List.{length-append, length-drop, length-take-le}
 use Rattle.std.specs.Prelude.{IfSome, Option}
 use Rattle.cp_ends.proofs.Vocabulary.{Tables, Machine, Shown, System, Discipline, Turn, States, goal_at, settled_turn, turn_after}
-use Rattle.cp_key.specs.Room.{IsMachineOf}
-use Rattle.cp_machine.specs.declared.event.Event.{Event}
 use Rattle.cp_run.specs.Fold.{Fold, fold_chosen, fold_stretch, fold_turn, walked_chosen}
 use Rattle.cp_run.specs.Silent.{silent_slots, without_output}
 use Rattle.cp_run.specs.Slots.{slots}
@@ -19,7 +17,7 @@ use Rattle.cp_stretches.specs.Stretching.{LeadsTo, shower, turn_of}
 use Rattle.cp_ends.specs.Arrivals.{halt_arrival, next_arrival, teller}
 use Rattle.cp_ends.specs.ByRows.{Goes, end_of}
 use Rattle.cp_ends.specs.Holds.{same_key}
-use Rattle.cp_ends.specs.Rows.{IsQuiet, IsRowFor}
+use Rattle.cp_ends.specs.Rows.{IsRowFor}
 use Rattle.cp_ends.specs.declared.end.End.{End}
 use Rattle.cp_ends.specs.Graph.{Goal, Place}
 use Rattle.cp_ends.proofs.Halting.{choice_comes, comes_to, shows}
@@ -92,11 +90,11 @@ module _ (r : Tables) (discipline : Discipline) where
 
   -- where a stretch halts by its row, the choice leads
   pub goes_so : (steps : ℕ) (m : Machine) (p : ℕ) (halt : Halt OutcomeKind) (kept : States) (row : List ℕ) (shown : List Shown) → kept.discipline ≡ discipline →
-      LeadsTo r discipline kept.cache.store kept.cache.table steps m p [] halt row shown → Goes r discipline steps m p (end_of halt) kept row shown
+      LeadsTo r discipline kept.cache.store kept.cache.table steps m p [] halt row shown → Goes r discipline steps m p (end_of halt) (IsRowFor r kept row) shown
   goes_so steps m p halt kept row shown ruled leads =
       record {
         after = leads.after;
-        row_is = λ due. row_for r kept row leads.after (subst (λ (d : Discipline). StandsFor r d kept.cache.store kept.cache.table leads.after row) (sym ruled) leads.stands);
+        is = λ due. row_for r kept row leads.after (subst (λ (d : Discipline). StandsFor r d kept.cache.store kept.cache.table leads.after row) (sym ruled) leads.stands);
         goal = comes_to (slots r discipline) quiet same_key steps (next_arrival (slots r discipline) without_output same_key steps m p) (fold_chosen quiet tell steps m p) (walked_chosen quiet steps m p) leads.after (turn_of halt) leads.walked (choice_comes (slots r discipline) without_output same_key steps m p) ([], false) shown shown (goal_at (end_of halt) leads.after) told (cut halt);
         told = shows (slots r discipline) quiet same_key steps (next_arrival (slots r discipline) without_output same_key steps m p) (fold_chosen quiet tell steps m p) (walked_chosen quiet steps m p) leads.after (turn_of halt) leads.walked (choice_comes (slots r discipline) without_output same_key steps m p) ([], false) shown shown (goal_at (end_of halt) leads.after) told (cut halt);
       }
@@ -109,8 +107,8 @@ module _ (r : Tables) (discipline : Discipline) where
       cut (Ended kind) = refl
 
   -- a state to which the choice leads has the row
-  pub row_there : (steps : ℕ) (m n : Machine) (p : ℕ) (halt : Halt End) (kept : States) (row : List ℕ) (shown : List Shown) → Goes r discipline steps m p halt kept row shown → Place n ≡ (next_arrival (slots r discipline) without_output same_key steps m p).goal → IsPartRow kept.cache.store kept.cache.table n row
-  row_there steps m n p halt kept row shown goes to = by halt refl goes.row_is (goes.goal ∙ sym to)
+  pub row_there : (steps : ℕ) (m n : Machine) (p : ℕ) (halt : Halt End) (kept : States) (row : List ℕ) (shown : List Shown) → Goes r discipline steps m p halt (IsRowFor r kept row) shown → Place n ≡ (next_arrival (slots r discipline) without_output same_key steps m p).goal → IsPartRow kept.cache.store kept.cache.table n row
+  row_there steps m n p halt kept row shown goes to = by halt refl goes.is (goes.goal ∙ sym to)
     where
       by : (h : Halt End) → halt ≡ h → (halt ≡ Choice → IsRowFor r kept row goes.after) → goal_at halt goes.after ≡ Place n → IsPartRow kept.cache.store kept.cache.table n row
       by Choice e is same = let there : (◌≡◌ {A = Goal Machine End}) (Place goes.after) (Place n) = sym (ap (λ h. goal_at h goes.after) e) ∙ same in subst (λ (k : Machine). IsPartRow kept.cache.store kept.cache.table k row) (one_place goes.after n there) (is e).is

@@ -16,6 +16,7 @@ use Rattle.cp_ends.specs.declared.origin.Origin.{Origin}
 use Rattle.cp_ends.specs.declared.origin.Origin.TheVariants.{Start, Choice}
 use Rattle.cp_ends.specs.declared.states.States.{States}
 use Rattle.cp_stretches.specs.Cached.{IsCache, IsStanding}
+use Rattle.cp_ends.specs.Moves.{AreMoves}
 use Rattle.cp_ends.specs.Rows.{IsHalvedRow}
 use Rattle.cp_ends.specs.declared.row.HalvedRow.{HalvedRow}
 
@@ -62,6 +63,7 @@ AreRows kept (e ∷ es) (x ∷ xs) = IsHalvedRow kept e.0.numbers x.0 × AreRows
 pub record AreStates (r : Tables) (kept : States) (states : List (Machine × List ℕ)) : Type 0 where
   pub cached : IsCache r kept.discipline kept.cache
   pub standing : IsStanding r kept.cache.store kept.cache.table kept.standing
+  pub moves : AreMoves r kept
   pub rows : AreRows kept kept.known.entries states
   pub own : All (λ x. IsMachineOf r x.0) states
   pub quiet : All (λ x. x.0.output ≡ []) states

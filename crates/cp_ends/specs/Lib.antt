@@ -5,8 +5,10 @@ pub mod Ends
 pub mod Firsts
 pub mod ForEver
 pub mod Graph
+pub mod Halves
 pub mod Holds
 pub mod Legs
+pub mod Moves
 pub mod Named
 pub mod Rows
 pub mod Searched

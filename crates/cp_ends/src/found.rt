@@ -18,11 +18,13 @@ ghost use Rattle.cp_ends.specs.Graph as graph;
 ghost use Rattle.cp_ends.specs.Holds.{Holds, IsBefore, IsWordOf, SlotArrival, SlotFindings, same_key};
 ghost use Rattle.cp_ends.specs.declared.origin.Origin.TheVariants.{Start};
 ghost use Rattle.cp_ends.specs.Legs.{with_round};
-ghost use Rattle.cp_ends.specs.Rows.{IsRowFor, middle_of};
+ghost use Rattle.cp_ends.specs.Halves.{width_of};
+ghost use Rattle.cp_ends.specs.Rows.{IsRowFor, IsStated};
 ghost use Rattle.cp_ends.specs.Searched.{with_first, with_values};
 
 use crate::end::End;
 use crate::origin::Origin;
+use crate::row::HalvedRow;
 use crate::states::States;
 use cp_machine::{Shown, State};
 use cp_run::{Halt, Job};
@@ -201,7 +203,7 @@ impl Found {
         values: &[Shown],
         origin: Origin,
     ) -> Result<Arrived, AllocError>
-        requires { halt ≡ Choice → middle_of self.old.states.cache.table ≤ length row.now }
+        requires { halt ≡ Choice → length row.now ≡ width_of self.old.states.cache.table }
         ensures arrives { IfOk result (λ arrived. (f : SlotFindings) (word : List ℕ) (a : SlotArrival) (m : Machine) → HoldsFew job.now.run.program.now job.now.most self.old f → IsWordOf f.states origin word → IsBefore (length f.states) origin → (halt ≡ Choice → IsRowFor job.now.run.program.now self.old.states row.now m) → goal_at halt m ≡ a.goal → values.now ≡ a.shown → Arrives job.now.run.program.now job.now.most self.new f word a arrived) }
         ensures halt { IfOk result (λ arrived. halt_of arrived ≡ halt) }
         ensures cache { IfOk result (λ _. self.new.states.cache ≡ self.old.states.cache) }
@@ -217,6 +219,30 @@ impl Found {
         }
     }
 
+    /// The same by the numbers of the row, which is known by its lists.
+    pub fn arrive_at(
+        &mut self,
+        job: &SearchJob<'_>,
+        halved: HalvedRow,
+        halt: Halt<End>,
+        values: &[Shown],
+        origin: Origin,
+    ) -> Result<Arrived, AllocError>
+        ensures arrives { IfOk result (λ arrived. (f : SlotFindings) (word : List ℕ) (a : SlotArrival) (m : Machine) → HoldsFew job.now.run.program.now job.now.most self.old f → IsWordOf f.states origin word → IsBefore (length f.states) origin → (halt ≡ Choice → IsStated job.now.run.program.now self.old.states halved.numbers m) → goal_at halt m ≡ a.goal → values.now ≡ a.shown → Arrives job.now.run.program.now job.now.most self.new f word a arrived) }
+        ensures cache { IfOk result (λ _. self.new.states.cache ≡ self.old.states.cache) }
+        ensures lists { IfOk result (λ _. self.new.states.lists ≡ self.old.states.lists) }
+        ensures ruled { IfOk result (λ _. self.new.states.discipline ≡ self.old.states.discipline) }
+    {
+        self.add_values(values, origin)?;
+        match halt {
+            Halt::Ended(end) => {
+                self.add_end(end, origin)?;
+                Ok(Arrived::Ended(end))
+            }
+            Halt::Choice => self.add_halved(job, halved, origin),
+        }
+    }
+
     // A word leads to the state of this row, where a choice is due.
     fn add_state(
         &mut self,
@@ -224,14 +250,31 @@ impl Found {
         row: &[u32],
         origin: Origin,
     ) -> Result<Arrived, AllocError>
-        requires { middle_of self.old.states.cache.table ≤ length row.now }
+        requires { length row.now ≡ width_of self.old.states.cache.table }
         ensures comes { IfOk result (λ arrived. (f : SlotFindings) (word : List ℕ) (m : Machine) → HoldsFew job.now.run.program.now job.now.most self.old f → IsWordOf f.states origin word → IsBefore (length f.states) origin → IsRowFor job.now.run.program.now self.old.states row.now m → Comes job.now.run.program.now job.now.most self.new f word (graph.Place m) arrived) }
         ensures halt { IfOk result (λ arrived. halt_of arrived ≡ halt.Choice) }
         ensures cache { IfOk result (λ _. self.new.states.cache ≡ self.old.states.cache) }
         ensures ruled { IfOk result (λ _. self.new.states.discipline ≡ self.old.states.discipline) }
     {
-        let most = job.most;
         let halved = self.states.halve(job.alloc, row)?;
+        self.add_halved(job, halved, origin)
+    }
+
+    // A word leads to the state whose row has these numbers, where a choice is due.
+    #[inline(always)]
+    fn add_halved(
+        &mut self,
+        job: &SearchJob<'_>,
+        halved: HalvedRow,
+        origin: Origin,
+    ) -> Result<Arrived, AllocError>
+        ensures comes { IfOk result (λ arrived. (f : SlotFindings) (word : List ℕ) (m : Machine) → HoldsFew job.now.run.program.now job.now.most self.old f → IsWordOf f.states origin word → IsBefore (length f.states) origin → IsStated job.now.run.program.now self.old.states halved.numbers m → Comes job.now.run.program.now job.now.most self.new f word (graph.Place m) arrived) }
+        ensures halt { IfOk result (λ arrived. halt_of arrived ≡ halt.Choice) }
+        ensures cache { IfOk result (λ _. self.new.states.cache ≡ self.old.states.cache) }
+        ensures lists { IfOk result (λ _. self.new.states.lists ≡ self.old.states.lists) }
+        ensures ruled { IfOk result (λ _. self.new.states.discipline ≡ self.old.states.discipline) }
+    {
+        let most = job.most;
         if let Some(number) = self.states.number(&halved) {
             return Ok(Arrived::at(number));
         }

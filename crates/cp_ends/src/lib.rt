@@ -1,10 +1,15 @@
 //! Which ends are possible, in schedules of any length: a search that goes on from each state once, and has no word too long.
 #![tactic(auto)]
 
+pub mod by_moves;
 pub mod choosing;
 pub mod end;
 pub mod found;
+pub mod halving;
 pub mod laws;
+pub mod learning;
+pub mod move_index;
+pub mod moves;
 pub mod origin;
 pub mod report;
 pub mod round;

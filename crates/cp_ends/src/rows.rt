@@ -6,12 +6,13 @@ ghost use Rattle.cp_parts.specs.Parts.{IsPartRow};
 ghost use Rattle.cp_stretches.specs.Cached.{IsCache};
 ghost use Rattle.cp_stretches.specs.declared.cache.Standing.{Standing};
 ghost use Rattle.cp_run.specs.Run.{may, those_below};
+ghost use Rattle.cp_run.specs.declared.outcome.Halt.TheVariants.{Choice};
 ghost use Rattle.cp_run.specs.Slots.{processes_of, slots};
 ghost use Rattle.cp_search.specs.Searched.{IsSearched, IsTaken};
 ghost use Rattle.cp_ends.specs.Answer.{HoldsFew, IsSearch, IsStopped, ends_tests, slot_graph};
 ghost use Rattle.cp_ends.specs.ByRows.{Goes, HasRoom, IsWithinRow, KeepFound, end_of, with_standing};
 ghost use Rattle.cp_ends.specs.Holds.{Holds, SlotFindings};
-ghost use Rattle.cp_ends.specs.Rows.{IsRowFor};
+ghost use Rattle.cp_ends.specs.Rows.{IsHalved, IsRowFor, IsStated};
 ghost use Rattle.cp_ends.specs.Searched.{nothing, searched};
 ghost use Rattle.cp_ends.specs.Visited.{IsWhole};
 
@@ -19,6 +20,7 @@ use crate::choosing::{choose, open};
 use crate::end::End;
 use crate::found::Found;
 use crate::origin::Origin;
+use crate::row::HalvedRow;
 use crate::sight::Unseen;
 use crate::told::Told;
 use cp_progress::{ObserveProgress, Progress, STATES_BETWEEN};
@@ -31,8 +33,9 @@ use std::alloc::AllocError;
 pub struct RowSearch {
     pub found: Found,
     pub told: Told<Unseen>,
-    /// The row that a choice leads to.
+    /// The row that a choice leads to, and its numbers.
     pub row: Vec<u32>,
+    pub next: HalvedRow,
 }
 
 /// Goes on from the opening state, and from each state that is found.
@@ -73,6 +76,7 @@ impl RowSearch {
             found,
             told: Told::new(job.alloc, Unseen),
             row,
+            next: HalvedRow::of_none(),
         })
     }
 
@@ -125,7 +129,7 @@ impl RowSearch {
         requires here { (f : SlotFindings) × (m : Machine) × Holds job.now.run.program.now self.old.found f × IsRowFor job.now.run.program.now self.old.found.states from.now m × (may (slots job.now.run.program.now job.now.run.limits.discipline) m process ≡ true) }
         ensures room { IfOk result (λ _. HasRoom job.now.run.limits.discipline self.new) }
         ensures kept { IfOk result (λ _. KeepFound job.now.run.program.now self.old.found self.new.found) }
-        ensures goes { IfOk result (λ halt. (m : Machine) → IsRowFor job.now.run.program.now self.old.found.states from.now m → may (slots job.now.run.program.now job.now.run.limits.discipline) m process ≡ true → Goes job.now.run.program.now job.now.run.limits.discipline job.now.run.limits.steps m process halt self.new.found.states self.new.row.items self.new.told.values.items) }
+        ensures goes { IfOk result (λ halt. (m : Machine) → IsRowFor job.now.run.program.now self.old.found.states from.now m → may (slots job.now.run.program.now job.now.run.limits.discipline) m process ≡ true → Goes job.now.run.program.now job.now.run.limits.discipline job.now.run.limits.steps m process halt (IsRowFor job.now.run.program.now self.new.found.states self.new.row.items) self.new.told.values.items) }
     {
         self.told.values.clear();
         let states = &mut self.found.states;
@@ -136,8 +140,8 @@ impl RowSearch {
         Ok(halt)
     }
 
-    // Where a choice leads to in the state of a row, and what it displays on the way.
-    fn go(
+    // Where a choice leads to in the state of a row by the legs that are known, and what it displays on the way.
+    fn go_by_legs(
         &mut self,
         job: &SearchJob<'_>,
         from: &[u32],
@@ -147,7 +151,7 @@ impl RowSearch {
         requires here { (f : SlotFindings) × (m : Machine) × Holds job.now.run.program.now self.old.found f × IsRowFor job.now.run.program.now self.old.found.states from.now m × (may (slots job.now.run.program.now job.now.run.limits.discipline) m process ≡ true) }
         ensures room { IfOk result (λ _. HasRoom job.now.run.limits.discipline self.new) }
         ensures kept { IfOk result (λ _. KeepFound job.now.run.program.now self.old.found self.new.found) }
-        ensures goes { IfOk result (λ halt. (m : Machine) → IsRowFor job.now.run.program.now self.old.found.states from.now m → may (slots job.now.run.program.now job.now.run.limits.discipline) m process ≡ true → Goes job.now.run.program.now job.now.run.limits.discipline job.now.run.limits.steps m process halt self.new.found.states self.new.row.items self.new.told.values.items) }
+        ensures goes { IfOk result (λ halt. (m : Machine) → IsRowFor job.now.run.program.now self.old.found.states from.now m → may (slots job.now.run.program.now job.now.run.limits.discipline) m process ≡ true → Goes job.now.run.program.now job.now.run.limits.discipline job.now.run.limits.steps m process halt (IsRowFor job.now.run.program.now self.new.found.states self.new.row.items) self.new.told.values.items) }
     {
         self.told.values.clear();
         self.row.copy_from_slice(from);
@@ -160,29 +164,94 @@ impl RowSearch {
         }
     }
 
+    // Follows a choice in the state of a row with these numbers, if it is a move that is known and a choice is due after it. Tells whether it is.
+    #[inline(always)]
+    fn follow_move(
+        &mut self,
+        job: &SearchJob<'_>,
+        from: &[u32],
+        numbers: HalvedRow,
+        process: u8,
+    ) -> Result<bool, AllocError>
+        requires room { HasRoom job.now.run.limits.discipline self.old }
+        requires here { (f : SlotFindings) × (m : Machine) × Holds job.now.run.program.now self.old.found f × IsRowFor job.now.run.program.now self.old.found.states from.now m × (may (slots job.now.run.program.now job.now.run.limits.discipline) m process ≡ true) }
+        requires halved { IsHalved self.old.found.states numbers.numbers from.now }
+        ensures room { IfOk result (λ _. HasRoom job.now.run.limits.discipline self.new) }
+        ensures kept { IfOk result (λ _. KeepFound job.now.run.program.now self.old.found self.new.found) }
+        ensures goes { IfOk result (λ is_made. is_made ≡ true → (m : Machine) → IsRowFor job.now.run.program.now self.old.found.states from.now m → may (slots job.now.run.program.now job.now.run.limits.discipline) m process ≡ true → Goes job.now.run.program.now job.now.run.limits.discipline job.now.run.limits.steps m process Choice (IsStated job.now.run.program.now self.new.found.states self.new.next.numbers) self.new.told.values.items) }
+    {
+        let states = &mut self.found.states;
+        let Some(known) = states.find_move(&job.run, from, numbers, process) else {
+            return Ok(false);
+        };
+        self.told.values.clear();
+        self.row.copy_from_slice(from);
+        let values = &mut self.told.values;
+        let row = self.row.as_mut_slice();
+        match states.make_move(job.alloc, &job.run, row, numbers, &known, values)? {
+            Some(next) => {
+                self.next = next;
+                Ok(true)
+            }
+            None => Ok(false),
+        }
+    }
+
+    // Where a choice leads to in the state of a row with these numbers, and what it displays on the way. Where a choice is due there, the numbers of the
+    // row there are found.
+    fn go(
+        &mut self,
+        job: &SearchJob<'_>,
+        from: &[u32],
+        numbers: HalvedRow,
+        process: u8,
+    ) -> Result<Halt<End>, AllocError>
+        requires below { process < processes_of job.now.run.program.now }
+        requires room { HasRoom job.now.run.limits.discipline self.old }
+        requires here { (f : SlotFindings) × (m : Machine) × Holds job.now.run.program.now self.old.found f × IsRowFor job.now.run.program.now self.old.found.states from.now m × (may (slots job.now.run.program.now job.now.run.limits.discipline) m process ≡ true) }
+        requires halved { IsHalved self.old.found.states numbers.numbers from.now }
+        ensures room { IfOk result (λ _. HasRoom job.now.run.limits.discipline self.new) }
+        ensures kept { IfOk result (λ _. KeepFound job.now.run.program.now self.old.found self.new.found) }
+        ensures goes { IfOk result (λ halt. (m : Machine) → IsRowFor job.now.run.program.now self.old.found.states from.now m → may (slots job.now.run.program.now job.now.run.limits.discipline) m process ≡ true → Goes job.now.run.program.now job.now.run.limits.discipline job.now.run.limits.steps m process halt (IsStated job.now.run.program.now self.new.found.states self.new.next.numbers) self.new.told.values.items) }
+    {
+        if self.follow_move(job, from, numbers, process)? {
+            return Ok(Halt::Choice);
+        }
+        let halt = self.go_by_legs(job, from, process)?;
+        let states = &mut self.found.states;
+        states.learn(job.alloc, from, numbers, process)?;
+        match halt {
+            Halt::Choice => {
+                self.next = states.halve(job.alloc, &self.row)?;
+                Ok(Halt::Choice)
+            }
+            Halt::Ended(end) => Ok(Halt::Ended(end)),
+        }
+    }
+
     // Takes a choice in the state of this number and row, and notes where it arrives. `false` where there is no room for it.
     fn take(
         &mut self,
         job: &SearchJob<'_>,
         at: u32,
         from: &[u32],
+        numbers: HalvedRow,
         process: u8,
     ) -> Result<bool, AllocError>
         requires room { HasRoom job.now.run.limits.discipline self.old }
         requires below { process < processes_of job.now.run.program.now }
-        requires within { (m : Machine) × IsWithinRow job.now.run.program.now job.now.run.limits.discipline job.now.run.limits.steps job.now.most self.old from.now at m (those_below process (may (slots job.now.run.program.now job.now.run.limits.discipline) m)) × (may (slots job.now.run.program.now job.now.run.limits.discipline) m process ≡ true) }
+        requires within { (m : Machine) × IsWithinRow job.now.run.program.now job.now.run.limits.discipline job.now.run.limits.steps job.now.most self.old numbers.numbers from.now at m (those_below process (may (slots job.now.run.program.now job.now.run.limits.discipline) m)) × (may (slots job.now.run.program.now job.now.run.limits.discipline) m process ≡ true) }
         ensures room { IfOk result (λ _. HasRoom job.now.run.limits.discipline self.new) }
-        ensures within { IfOk result (λ is_room. is_room ≡ true → (m : Machine) → IsWithinRow job.now.run.program.now job.now.run.limits.discipline job.now.run.limits.steps job.now.most self.old from.now at m (those_below process (may (slots job.now.run.program.now job.now.run.limits.discipline) m)) → may (slots job.now.run.program.now job.now.run.limits.discipline) m process ≡ true → IsWithinRow job.now.run.program.now job.now.run.limits.discipline job.now.run.limits.steps job.now.most self.new from.now at m (those_below process (may (slots job.now.run.program.now job.now.run.limits.discipline) m) ++ process ∷ [])) }
+        ensures within { IfOk result (λ is_room. is_room ≡ true → (m : Machine) → IsWithinRow job.now.run.program.now job.now.run.limits.discipline job.now.run.limits.steps job.now.most self.old numbers.numbers from.now at m (those_below process (may (slots job.now.run.program.now job.now.run.limits.discipline) m)) → may (slots job.now.run.program.now job.now.run.limits.discipline) m process ≡ true → IsWithinRow job.now.run.program.now job.now.run.limits.discipline job.now.run.limits.steps job.now.most self.new numbers.numbers from.now at m (those_below process (may (slots job.now.run.program.now job.now.run.limits.discipline) m) ++ process ∷ [])) }
         ensures stops { IfOk result (λ is_room. is_room ≡ false → IsStopped job.now.run.program.now (slot_graph job.now.run.program.now job.now.run.limits.discipline job.now.run.limits.steps) job.now.most self.new.found at) }
     {
-        let halt = self.go(job, from, process)?;
+        let halt = self.go(job, from, numbers, process)?;
         let origin = Origin::Choice {
             state: at,
             number: process,
         };
-        let row = self.row.as_slice();
         let values = self.told.values.as_slice();
-        let arrived = self.found.arrive(job, row, halt, values, origin)?;
+        let arrived = self.found.arrive_at(job, self.next, halt, values, origin)?;
         Ok(arrived.has_room())
     }
 
@@ -192,15 +261,16 @@ impl RowSearch {
         job: &SearchJob<'_>,
         at: u32,
         from: &[u32],
+        numbers: HalvedRow,
     ) -> Result<bool, AllocError>
         requires room { HasRoom job.now.run.limits.discipline self.old }
-        requires within { (m : Machine) × IsWithinRow job.now.run.program.now job.now.run.limits.discipline job.now.run.limits.steps job.now.most self.old from.now at m [] }
+        requires within { (m : Machine) × IsWithinRow job.now.run.program.now job.now.run.limits.discipline job.now.run.limits.steps job.now.most self.old numbers.numbers from.now at m [] }
         ensures room { IfOk result (λ _. HasRoom job.now.run.limits.discipline self.new) }
         ensures taken { IfOk result (λ is_room. IsTaken (λ n. HoldsFew job.now.run.program.now job.now.most self.new.found (searched (slot_graph job.now.run.program.now job.now.run.limits.discipline job.now.run.limits.steps) ends_tests n)) (IsStopped job.now.run.program.now (slot_graph job.now.run.program.now job.now.run.limits.discipline job.now.run.limits.steps) job.now.most self.new.found) at is_room) }
     {
-        let numbers = self.found.states.cache.candidates(from);
-        for process in numbers.as_slice() {
-            if !self.take(job, at, from, *process)? {
+        let candidates = self.found.states.cache.candidates(from);
+        for process in candidates.as_slice() {
+            if !self.take(job, at, from, numbers, *process)? {
                 return Ok(false);
             }
         }
@@ -227,10 +297,11 @@ impl RowSearch {
             if number % STATES_BETWEEN == 0 {
                 observer.observe_progress(self.progress(choices));
             }
-            let Some(row) = self.found.states.row_at(number) else {
+            let Some(numbers) = self.found.states.numbers_at(number) else {
                 return Ok(None);
             };
-            if !self.take_choices(job, number, row.as_slice())? {
+            let row = self.found.states.row_with(numbers);
+            if !self.take_choices(job, number, row.as_slice(), numbers)? {
                 return Ok(Some(number));
             }
         }

@@ -10,11 +10,14 @@ ghost use Rattle.cp_stretches.specs.Stretching.{LeadsTo};
 ghost use Rattle.cp_parts.specs.Parts.{IsPartRow};
 ghost use Rattle.cp_parts.specs.Placed.{IsPlaced};
 ghost use Rattle.cp_ends.specs.Holds.{same_key, AreStates, IsAt, IsBefore, IsNumberOf, IsWordOf, origin_at};
-ghost use Rattle.cp_ends.specs.Rows.{IsHalved, IsRowFor, IsStated, middle_of};
+ghost use Rattle.cp_ends.specs.Halves.{width_of};
+ghost use Rattle.cp_ends.specs.Rows.{IsHalved, IsRowFor, IsStated};
 ghost use Rattle.cp_ends.specs.Searched.{has};
 
+use crate::halving::{deal, join};
+use crate::moves::MoveTable;
 use crate::origin::Origin;
-use crate::row::{HalvedRow, append};
+use crate::row::HalvedRow;
 use arrayvec::ArrayVec;
 use cp_machine::{Discipline, Shown, State};
 use cp_run::{Halt, Job, OutcomeKind};
@@ -26,9 +29,11 @@ use std::alloc::{AllocError, Global};
 /// The states that were found, each once, in the order in which they were found, with the words that led there first.
 #[derive(Drop)]
 pub struct States {
-    /// The row of each state, by the numbers of its halves.
+    /// The row of each state, by the numbers of its lists.
     pub known: IndexMap<HalvedRow, Origin>,
-    pub halves: ListStore<u32>,
+    pub lists: ListStore<u32>,
+    /// What processes do within a half.
+    pub moves: MoveTable,
     /// The parts of the states, and the legs that are known.
     pub cache: LegCache,
     /// Room for a state with its row, in which legs are made.
@@ -46,9 +51,11 @@ impl States {
         let mut cache = LegCache::new(alloc, job.program)?;
         let standing = cache.start(alloc, job)?;
         let known = IndexMap::new(alloc);
+        let moves = MoveTable::new(alloc, cache.table.processes);
         Ok(States {
             known,
-            halves: ListStore::new(alloc),
+            lists: ListStore::new(alloc),
+            moves,
             cache,
             standing,
             discipline: job.limits.discipline,
@@ -89,6 +96,7 @@ impl States {
         requires here { (states : List (Machine × List ℕ)) × (m : Machine) × AreStates job.now.program.now self.old states × IsRowFor job.now.program.now self.old row.old m × (may (slots job.now.program.now job.now.limits.discipline) m process ≡ true) }
         ensures kept { IfOk result (λ _. (states : List (Machine × List ℕ)) → AreStates job.now.program.now self.old states → AreStates job.now.program.now self.new states) }
         ensures rows { (list : List ℕ) (m : Machine) → IsRowFor job.now.program.now self.old list m → IsRowFor job.now.program.now self.new list m }
+        ensures lists { (numbers list : List ℕ) → IsHalved self.old numbers list → IsHalved self.new numbers list }
         ensures table { self.new.cache.table ≡ self.old.cache.table }
         ensures ruled { self.new.discipline ≡ self.old.discipline }
         ensures leads { IfOk result (λ halts. IfSome halts (λ halt. (m : Machine) → IsRowFor job.now.program.now self.old row.old m → may (slots job.now.program.now job.now.limits.discipline) m process ≡ true → LeadsTo job.now.program.now job.now.limits.discipline self.new.cache.store self.new.cache.table job.now.limits.steps m process shown.old.items halt row.new shown.new.items)) }
@@ -97,27 +105,22 @@ impl States {
         self.cache.choose(alloc, job, row, process, standing, shown)
     }
 
-    // Where a row is halved.
-    fn middle(&self) -> usize
-        ensures { result ≡ middle_of self.now.cache.table }
-    {
-        self.cache.table.width() / 2
-    }
-
-    /// The numbers of the halves of a row.
+    /// The numbers of the lists of a row.
     pub fn halve(&mut self, alloc: Global, row: &[u32]) -> Result<HalvedRow, AllocError>
-        requires { middle_of self.old.cache.table ≤ length row.now }
+        requires { length row.now ≡ width_of self.old.cache.table }
         ensures halved { IfOk result (λ halved. IsHalved self.new halved.numbers row.now) }
         ensures kept { (r : Tables) (states : List (Machine × List ℕ)) → AreStates r self.old states → AreStates r self.new states }
+        ensures lists { (numbers list : List ℕ) → IsHalved self.old numbers list → IsHalved self.new numbers list }
         ensures cache { self.new.cache ≡ self.old.cache }
         ensures ruled { self.new.discipline ≡ self.old.discipline }
         ensures known { self.new.known ≡ self.old.known }
     {
-        let middle = self.middle();
-        let first = self.halves.number_of(alloc, &row[..middle])?;
-        let second = self.halves.number_of(alloc, &row[middle..])?;
+        let dealt = deal(&self.cache.table, row);
+        let statuses = self.lists.number_of(alloc, dealt.statuses)?;
+        let first = dealt.first.number(alloc, &mut self.lists)?;
+        let second = dealt.second.number(alloc, &mut self.lists)?;
         Ok(HalvedRow {
-            numbers: [first, second],
+            numbers: [statuses, first, second],
         })
     }
 
@@ -132,21 +135,36 @@ impl States {
     pub fn add(&mut self, row: HalvedRow, origin: Origin) -> Result<(), AllocError>
         ensures states { IfOk result (λ _. (r : Tables) (states : List (Machine × List ℕ)) (m : Machine) (word : List ℕ) → AreStates r self.old states → has same_key states m ≡ false → IsStated r self.old row.numbers m → IsWordOf states origin word → IsBefore (length states) origin → AreStates r self.new (states ++ (m, word) ∷ [])) }
         ensures cache { self.new.cache ≡ self.old.cache }
+        ensures lists { self.new.lists ≡ self.old.lists }
         ensures ruled { self.new.discipline ≡ self.old.discipline }
     {
         self.known.insert(row, origin)?;
         Ok(())
     }
 
-    /// The row with these halves.
+    /// The row with these lists.
     pub fn row_with(&self, halved: HalvedRow) -> ArrayVec<u32, 97>
-        requires { (row : List ℕ) × IsHalved self.now halved.numbers row × (length row ≤ 97) }
-        ensures { (row : List ℕ) → IsHalved self.now halved.numbers row → result.items ≡ row }
+        requires { (row : List ℕ) × IsHalved self.now halved.numbers row × (length row ≡ width_of self.now.cache.table) × (length row ≤ 97) }
+        ensures { (row : List ℕ) → IsHalved self.now halved.numbers row → length row ≡ width_of self.now.cache.table → result.items ≡ row }
     {
-        let mut row = ArrayVec::new();
-        append(&mut row, self.halves.at(halved.numbers[0] as usize));
-        append(&mut row, self.halves.at(halved.numbers[1] as usize));
-        row
+        let [statuses, first, second] = halved.numbers;
+        join(
+            &self.cache.table,
+            self.lists.at(statuses as usize),
+            self.lists.at(first as usize),
+            self.lists.at(second as usize),
+        )
+    }
+
+    /// The numbers of the lists of the state of this number, if there is one.
+    pub fn numbers_at(&self, number: u32) -> Option<HalvedRow>
+        ensures found { IfSome result (λ halved. (r : Tables) (states : List (Machine × List ℕ)) → AreStates r self.now states → (x : Machine × List ℕ) × (slice_get states number ≡ Some x) × IsStated r self.now halved.numbers x.0) }
+        ensures none { IfNone result ((r : Tables) (states : List (Machine × List ℕ)) → AreStates r self.now states → slice_get states number ≡ None) }
+    {
+        let Some((halved, _)) = self.known.get_index(number as usize) else {
+            return None;
+        };
+        Some(*halved)
     }
 
     /// The row of the state of this number, if there is one.

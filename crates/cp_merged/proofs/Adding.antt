@@ -1,10 +1,9 @@
--- Leads and tallies are added to the entries of a map.
+-- Tallies are added to the entries of a map, and the order of words.
 use Rattle.std.proofs.Common.{◌≡◌, ◌∙◌, ◌+◌, ◌<◌, ◌⊎◌, inl, inr, ℕ, Bool, true, false, not, cond, if◌then◌else◌, List, [], ◌∷◌, map, None, Some, refl, sym, ap, unwrap_or, arith}
-use Rattle.cp_merged.proofs.Words.{nat_eq, nat_cmp, is_lt, slice_cmp, nat_list_eq_equiv, insert_entry, Tally, outcome_numbers, same_outcome, up_to, lesser, Lead}
-use Rattle.cp_merged.proofs.Words.{with_lead, with_tally, keyed, end_of, EndKey, StateRow}
+use Rattle.cp_merged.proofs.Words.{nat_cmp, is_lt, slice_cmp, nat_list_eq_equiv, insert_entry, Tally, outcome_numbers, same_outcome, up_to, lesser}
+use Rattle.cp_merged.proofs.Words.{with_tally, end_of, EndKey}
 use Rattle.std.specs.Map.{lookup, set_value}
 use Rattle.std.proofs.lemmas.Bool.{lt-ltb, le-ltb, eq-eqb, ne_eqb, cases_order}
-use lib.Pointwise.{pointwise}
 use Rattle.cp_merged.specs.declared.prefixes.Prefixes as code
 
 -- the order of words by slices
@@ -41,9 +40,6 @@ lesser_self w = by (up_to w w)
     by true = refl
     by false = refl
 
-abbrev scored : List ℕ → ℕ → (List ℕ) → Lead (List ℕ)
-scored key count word = record { state = key; first = word; count = count }
-
 abbrev ended : EndKey → ℕ → List ℕ → Tally
 ended k count word = record { first = record { word = word; outcome = k.outcome }; count = count }
 
@@ -58,33 +54,6 @@ IsNone z x = (z.count ≡ 0) × (z.first.items ≡ x.first.items)
 none_first : (z now x v : code.Prefixes) → IsNone z x → now ≡ z → Adds now x v → (v.count ≡ x.count) × (v.first.items ≡ x.first.items)
 none_first z now x v n e a =
     (let c = ap (λ (y : code.Prefixes). y.count) e in let f = a.0 in let g = n.0 in omega (arith, c, f, g), a.1 ∙ ap (λ w. lesser w x.first.items) (ap (λ (y : code.Prefixes). y.first.items) e ∙ n.1) ∙ lesser_self x.first.items)
-
-pub added_state : (es new : List (StateRow × code.Prefixes)) (k : StateRow) (z now x v : code.Prefixes) → new ≡ insert_entry (λ a b. pointwise nat_eq a.numbers b.numbers) es k v → now ≡ unwrap_or (lookup (λ j. pointwise nat_eq k.numbers j.numbers) es) z → IsNone z x → Adds now x v → map keyed new ≡ with_lead (pointwise nat_eq) (map keyed es) (keyed (k, x))
-added_state [] new k z now x v put is none adds =
-    let f = none_first z now x v none is adds in
-    ap (map keyed) put ∙ ap (λ c. scored k.numbers c v.first.items ∷ []) f.0 ∙ ap (λ w. scored k.numbers x.count w ∷ []) f.1
-added_state (e ∷ es) new k z now x v put is none adds = ap (map keyed) put ∙ by (pointwise nat_eq k.numbers e.0.numbers) refl is (λ i. added_state es (insert_entry (λ a b. pointwise nat_eq a.numbers b.numbers) es k v) k z now x v refl i none adds)
-  where
-    at : List ℕ
-    at = k.numbers
-
-    by : (b : Bool) → pointwise nat_eq at e.0.numbers ≡ b → now ≡ unwrap_or (cond b (Some e.1) (lookup (λ j. pointwise nat_eq at j.numbers) es)) z → (now ≡ unwrap_or (lookup (λ j. pointwise nat_eq at j.numbers) es) z → map keyed (insert_entry (λ a b. pointwise nat_eq a.numbers b.numbers) es k v) ≡ with_lead (pointwise nat_eq) (map keyed es) (keyed (k, x))) → map keyed (insert_entry (λ a b. pointwise nat_eq a.numbers b.numbers) (e ∷ es) k v) ≡ with_lead (pointwise nat_eq) (map keyed (e ∷ es)) (keyed (k, x))
-    by true q i on =
-        let flip : pointwise nat_eq e.0.numbers at ≡ true = nat_list_eq_equiv.symm e.0.numbers at ∙ q in
-        let count : v.count ≡ e.1.count + x.count = adds.0 ∙ ap (λ (y : code.Prefixes). y.count + x.count) i in
-        let first : v.first.items ≡ lesser e.1.first.items x.first.items = adds.1 ∙ ap (λ (y : code.Prefixes). lesser y.first.items x.first.items) i in
-        simp (q, flip) (ap (λ c. scored e.0.numbers c v.first.items ∷ map keyed es) count ∙ ap (λ w. scored e.0.numbers (e.1.count + x.count) w ∷ map keyed es) first)
-    by false q i on =
-        let flip : pointwise nat_eq e.0.numbers at ≡ false = nat_list_eq_equiv.symm e.0.numbers at ∙ q in
-        simp (q, flip) (ap (λ l. keyed e ∷ l) (on i))
-
--- the state is new
-pub new_state : (es new : List (StateRow × code.Prefixes)) (k : StateRow) (x : code.Prefixes) → new ≡ insert_entry (λ a b. pointwise nat_eq a.numbers b.numbers) es k x → lookup (λ j. pointwise nat_eq k.numbers j.numbers) es ≡ None → map keyed new ≡ with_lead (pointwise nat_eq) (map keyed es) (keyed (k, x))
-new_state es new k x put none =
-    let z : code.Prefixes = record { count = 0; first = x.first } in
-    let now : z ≡ unwrap_or (lookup (λ j. pointwise nat_eq k.numbers j.numbers) es) z = sym (ap (λ o. unwrap_or o z) none) in
-    let count : x.count ≡ 0 + x.count = omega arith in
-    added_state es new k z z x x put now (refl, refl) (count, sym (lesser_self x.first.items))
 
 pub added_end : (es new : List (EndKey × code.Prefixes)) (k : EndKey) (z now x v : code.Prefixes) → new ≡ insert_entry (λ a b. same_outcome a.outcome b.outcome) es k v → now ≡ unwrap_or (lookup (λ j. same_outcome k.outcome j.outcome) es) z → IsNone z x → Adds now x v → map end_of new ≡ with_tally same_outcome (map end_of es) (end_of (k, x))
 added_end [] new k z now x v put is none adds =

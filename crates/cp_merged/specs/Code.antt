@@ -6,7 +6,6 @@ use Rattle.cp_walk.specs.Groups.{Tally}
 use Rattle.cp_merged.specs.Layers.{Lead}
 use Rattle.cp_merged.specs.declared.end_key.EndKey.{EndKey}
 use Rattle.cp_merged.specs.declared.prefixes.Prefixes as code
-use Rattle.cp_states.specs.declared.row.StateRow.{StateRow}
 use Rattle.cp_merged.specs.declared.tally.Tally as tallied
 
 abbrev pub tally_of : tallied.Tally → Tally
@@ -17,8 +16,8 @@ abbrev pub end_of : EndKey × code.Prefixes → Tally
 end_of e = record { first = record { word = e.1.first.items; outcome = e.0.outcome }; count = e.1.count }
 
 -- a row and what leads to its state
-abbrev pub keyed : StateRow × code.Prefixes → Lead (List ℕ)
-keyed e = record { state = e.0.numbers; first = e.1.first.items; count = e.1.count }
+abbrev pub keyed : List ℕ × code.Prefixes → Lead (List ℕ)
+keyed e = record { state = e.0; first = e.1.first.items; count = e.1.count }
 
 -- whether the first word of one comes before that of the other
 abbrev pub by_word : tallied.Tally → tallied.Tally → Bool

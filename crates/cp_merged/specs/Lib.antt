@@ -1,9 +1,11 @@
+pub mod Block
 pub mod Code
 pub mod Complete
 pub mod Holds
+pub mod Known
+pub mod Layer
 pub mod Layers
 pub mod Reached
-pub mod Stored
 pub mod Tallies
 pub mod Told
 pub mod TooMany

@@ -1,27 +1,30 @@
 //! From layer to layer.
 
 ghost use Rattle.std.specs.Prelude.{◌≡◌, ◌+◌, ◌*◌, ◌^◌, ◌<◌, ◌≤◌, [], true, length, IfOk, IfErr};
-ghost use Rattle.cp_machine.specs.System.{Machine, machine_of, IsStateOf};
-ghost use Rattle.cp_states.specs.Rows.{IsRowOf, KeepParts};
+ghost use Rattle.cp_key.specs.Room.{IsMachineOf};
+ghost use Rattle.cp_machine.specs.System.{Machine, machine_of, opening};
+ghost use Rattle.cp_run.specs.Code.{node_of};
 ghost use Rattle.cp_run.specs.Run.{may};
 ghost use Rattle.cp_run.specs.Slots.{slots, processes_of};
 ghost use Rattle.cp_walk.specs.Report.{same_outcome};
+ghost use Rattle.cp_merged.specs.Holds.{same_key, AreLeads, AreEnds, Holds, total, IsStates};
+ghost use Rattle.cp_merged.specs.Known.{IsArrival, IsRowFor, KeepKnown};
+ghost use Rattle.cp_merged.specs.Layer.{rows_of};
 ghost use Rattle.cp_merged.specs.Layers as layers;
 ghost use Rattle.cp_merged.specs.Layers.{front_at, by_layers};
-ghost use Rattle.cp_merged.specs.Holds.{same_key, AreLeads, AreEnds, Holds, total, IsStates};
-ghost use Rattle.cp_merged.specs.Reached.{Reached};
-ghost use Rattle.cp_merged.specs.Stored.{IsStored};
+ghost use Rattle.cp_merged.specs.Reached.{CanGoOn, Reached};
 ghost use Rattle.cp_merged.specs.TooMany.{FitsBefore, HasTooManyStates, IsDueFault};
 
 use crate::fault::MergeFault;
-use crate::frontier::{Frontier, MOST_OUTCOMES, StateLayer};
+use crate::frontier::{Frontier, MOST_OUTCOMES};
+use crate::known::KnownStates;
+use crate::layer::StateLayer;
 use crate::prefixes::Prefixes;
-use crate::stored::StoredState;
 use crate::word::Word;
-use cp_machine::{Moved, State, Uncounted};
+use cp_machine::Shown;
 use cp_natural::Natural;
 use cp_progress::{ObserveProgress, Progress, STATES_BETWEEN};
-use cp_run::{Halt, Job, OutcomeKind, candidates, choose, open};
+use cp_run::{Halt, Job, OutcomeKind};
 use std::alloc::{AllocError, Global};
 
 /// What is searched: a program under limits, where a layer may have so many states.
@@ -32,12 +35,14 @@ pub struct MergeJob<'a> {
     pub most: usize,
 }
 
-/// A search by layers: where words have arrived, the state that is gone on from, and the one that it becomes.
+/// A search by layers: where words have arrived, what is known of the states, and where a choice leads to.
 #[derive(Drop)]
 pub struct Layering<'a, O: ObserveProgress> {
     pub frontier: Frontier,
-    pub here: StoredState,
-    pub next: StoredState,
+    pub known: KnownStates,
+    /// The row of the state where a choice leads to, and what was displayed on the way.
+    pub row: Vec<u32>,
+    pub shown: Vec<Shown>,
     pub observer: &'a mut O,
 }
 
@@ -58,139 +63,161 @@ fn tell_layer<O: ObserveProgress>(observer: &mut O, frontier: &Frontier, depth: 
 }
 
 impl<'a, O: ObserveProgress> Layering<'a, O> {
-    /// The layer of no choice, with the state that leads to it, and a copy.
-    pub fn start(job: &MergeJob<'_>, observer: &'a mut O) -> Result<Layering<'a, O>, MergeFault>
-        ensures here { IfOk result (λ found. IsStored job.now.run.program.now found.frontier.store found.here) }
-        ensures next { IfOk result (λ found. IsStored job.now.run.program.now found.frontier.store found.next) }
-        ensures reached { IfOk result (λ found. Reached job.now.run.program.now job.now.run.limits.discipline job.now.run.limits.choices job.now.run.limits.steps job.now.most 0 found.frontier.store found.frontier.ended.entries found.frontier.layer.entries) }
-        ensures fault { IfErr result (λ e. IsDueFault (slots job.now.run.program.now job.now.run.limits.discipline) job.now.run.limits.choices job.now.run.limits.steps job.now.most e) }
+    // Nothing has arrived, and the opening state stands in the room for one.
+    fn begin(job: &MergeJob<'_>, observer: &'a mut O) -> Result<Layering<'a, O>, AllocError>
+        ensures ended { IfOk result (λ found. found.frontier.ended.entries ≡ []) }
+        ensures layer { IfOk result (λ found. rows_of found.frontier.layer ≡ []) }
+        ensures on { IfOk result (λ found. CanGoOn job.now.run.program.now job.now.run.limits.discipline found.known found.row.items found.frontier.layer.width) }
+        ensures start { IfOk result (λ found. machine_of found.known.standing.state ≡ opening job.now.run.program.now job.now.run.limits.discipline) }
     {
         let alloc = job.alloc;
-        let Ok(mut state) = State::start(alloc, job.run.program, job.run.limits.discipline) else {
-            return Err(MergeFault::Memory);
-        };
-        let halt = open(&job.run, &mut state, &mut Uncounted, &mut Uncounted);
-        let one = Prefixes {
-            count: Natural::one(),
-            first: Word::new(),
-        };
-        let mut frontier = Frontier::new(alloc);
-        let Ok(row) = frontier.store.row_anew(alloc, &state) else {
-            return Err(MergeFault::Memory);
-        };
-        let moved = Moved::nobody();
-        let mut arrived = row;
-        let Ok(()) = frontier.add(alloc, &state, halt, &state, &mut arrived, &moved, &one) else {
-            return Err(MergeFault::Memory);
-        };
-        if frontier.layer.len() > job.most {
-            return Err(MergeFault::TooManyStates);
-        }
-        let Ok(copy) = state.copy(alloc) else {
-            return Err(MergeFault::Memory);
-        };
+        let known = KnownStates::new(alloc, &job.run)?;
+        let width = known.output_position() + 1;
+        let row = Vec::from_elem(alloc, 0, width)?;
         Ok(Layering {
-            frontier,
-            here: StoredState { state, row },
-            next: StoredState { state: copy, row },
+            frontier: Frontier::new(alloc, width),
+            known,
+            row,
+            shown: Vec::new(alloc),
             observer,
         })
     }
 
-    /// The state goes one choice on with a process that may be chosen, in `next`, which is a copy of it and whose row becomes that of the copy.
+    // Follows the opening stretch.
+    fn open(&mut self, job: &MergeJob<'_>) -> Result<(), AllocError>
+        requires ended { self.old.frontier.ended.entries ≡ [] }
+        requires layer { rows_of self.old.frontier.layer ≡ [] }
+        requires on { CanGoOn job.now.run.program.now job.now.run.limits.discipline self.old.known self.old.row.items self.old.frontier.layer.width }
+        requires start { machine_of self.old.known.standing.state ≡ opening job.now.run.program.now job.now.run.limits.discipline }
+        ensures on { IfOk result (λ _. CanGoOn job.now.run.program.now job.now.run.limits.discipline self.new.known self.new.row.items self.new.frontier.layer.width) }
+        ensures holds { IfOk result (λ _. Holds job.now.run.program.now self.new.known self.new.frontier.ended.entries (rows_of self.new.frontier.layer) (front_at (slots job.now.run.program.now job.now.run.limits.discipline) same_outcome same_key job.now.run.limits.steps 0)) }
+    {
+        self.shown.clear();
+        let halt = self.known.open(job.alloc, &job.run, &mut self.row)?;
+        let one = Prefixes {
+            count: Natural::one(),
+            first: Word::new(),
+        };
+        self.arrive(job, halt, &one)
+    }
+
+    /// The layer of no choice.
+    pub fn start(job: &MergeJob<'_>, observer: &'a mut O) -> Result<Layering<'a, O>, MergeFault>
+        ensures on { IfOk result (λ found. CanGoOn job.now.run.program.now job.now.run.limits.discipline found.known found.row.items found.frontier.layer.width) }
+        ensures reached { IfOk result (λ found. Reached job.now.run.program.now job.now.run.limits.discipline job.now.run.limits.choices job.now.run.limits.steps job.now.most 0 found.known found.frontier.ended.entries (rows_of found.frontier.layer)) }
+        ensures fault { IfErr result (λ e. IsDueFault (slots job.now.run.program.now job.now.run.limits.discipline) job.now.run.limits.choices job.now.run.limits.steps job.now.most e) }
+    {
+        let Ok(mut layering) = Layering::begin(job, observer) else {
+            return Err(MergeFault::Memory);
+        };
+        let Ok(()) = layering.open(job) else {
+            return Err(MergeFault::Memory);
+        };
+        if layering.frontier.layer.len() > job.most {
+            return Err(MergeFault::TooManyStates);
+        }
+        Ok(layering)
+    }
+
+    // Words arrive at the state of the row.
+    #[inline(always)]
+    fn arrive(
+        &mut self,
+        job: &MergeJob<'_>,
+        halt: Halt<OutcomeKind>,
+        prefixes: &Prefixes,
+    ) -> Result<(), AllocError>
+        requires on { CanGoOn job.now.run.program.now job.now.run.limits.discipline self.old.known self.old.row.items self.old.frontier.layer.width }
+        requires arrival { (m : Machine) × IsArrival job.now.run.program.now self.old.known self.old.row.items self.old.shown.items m }
+        requires small { (f : layers.Front Machine) × Holds job.now.run.program.now self.old.known self.old.frontier.ended.entries (rows_of self.old.frontier.layer) f × (total f + prefixes.now.count < 10 ^ 126) }
+        ensures on { IfOk result (λ _. CanGoOn job.now.run.program.now job.now.run.limits.discipline self.new.known self.new.row.items self.new.frontier.layer.width) }
+        ensures kept { IfOk result (λ _. KeepKnown self.old.known self.new.known) }
+        ensures front { IfOk result (λ _. (m : Machine) (f : layers.Front Machine) → IsArrival job.now.run.program.now self.old.known self.old.row.items self.old.shown.items m → Holds job.now.run.program.now self.old.known self.old.frontier.ended.entries (rows_of self.old.frontier.layer) f → Holds job.now.run.program.now self.new.known self.new.frontier.ended.entries (rows_of self.new.frontier.layer) (layers.arrived (slots job.now.run.program.now job.now.run.limits.discipline) same_outcome same_key prefixes.now.first.items prefixes.now.count (node_of halt m) f)) }
+    {
+        match halt {
+            Halt::Ended(kind) => {
+                let before = self.known.output(&self.row);
+                self.frontier
+                    .end(job.alloc, kind, before, &self.shown, prefixes)
+            }
+            Halt::Choice => {
+                self.known
+                    .number_output(job.alloc, &mut self.row, &self.shown)?;
+                self.frontier.layer.add(job.alloc, &self.row, prefixes)
+            }
+        }
+    }
+
+    /// The state of a row goes one choice on with a process that may be chosen.
     /// The first word becomes longer and then shorter again, so that it is copied once for all choices.
     fn take_choice(
         &mut self,
         job: &MergeJob<'_>,
+        from: &[u32],
         arriving: &mut Prefixes,
         process: u8,
     ) -> Result<(), AllocError>
-        requires own { IsStateOf job.now.run.program.now self.old.next.state }
-        requires may { may (slots job.now.run.program.now job.now.run.limits.discipline) (machine_of self.old.next.state) process ≡ true }
+        requires on { CanGoOn job.now.run.program.now job.now.run.limits.discipline self.old.known self.old.row.items self.old.frontier.layer.width }
+        requires here { (m : Machine) × IsRowFor job.now.run.program.now self.old.known from.now m × IsMachineOf job.now.run.program.now m × (may (slots job.now.run.program.now job.now.run.limits.discipline) m process ≡ true) }
         requires room { length arriving.old.first.items < 100 }
-        requires small { (f : layers.Front Machine) × Holds job.now.run.program.now self.old.frontier.store self.old.frontier.ended.entries self.old.frontier.layer.entries f × (total f + arriving.old.count < 10 ^ 126) }
-        requires before { IsStateOf job.now.run.program.now self.old.here.state }
-        requires copied { machine_of self.old.next.state ≡ machine_of self.old.here.state }
-        requires known { IsRowOf self.old.frontier.store self.old.next.row.numbers (machine_of self.old.here.state) }
-        ensures next { IfOk result (λ _. IsStored job.now.run.program.now self.new.frontier.store self.new.next) }
-        ensures here { self.new.here ≡ self.old.here }
-        ensures kept { IfOk result (λ _. KeepParts self.old.frontier.store self.new.frontier.store) }
-        ensures same { arriving.new ≡ arriving.old }
-        ensures front { IfOk result (λ _. (f : layers.Front Machine) → Holds job.now.run.program.now self.old.frontier.store self.old.frontier.ended.entries self.old.frontier.layer.entries f → Holds job.now.run.program.now self.new.frontier.store self.new.frontier.ended.entries self.new.frontier.layer.entries (layers.after_choice (slots job.now.run.program.now job.now.run.limits.discipline) same_outcome same_key job.now.run.limits.steps (record { state = machine_of self.old.next.state; first = arriving.old.first.items; count = arriving.old.count }) process f)) }
+        requires small { (f : layers.Front Machine) × Holds job.now.run.program.now self.old.known self.old.frontier.ended.entries (rows_of self.old.frontier.layer) f × (total f + arriving.old.count < 10 ^ 126) }
+        ensures on { IfOk result (λ _. CanGoOn job.now.run.program.now job.now.run.limits.discipline self.new.known self.new.row.items self.new.frontier.layer.width) }
+        ensures kept { IfOk result (λ _. KeepKnown self.old.known self.new.known) }
+        ensures same { IfOk result (λ _. arriving.new ≡ arriving.old) }
+        ensures front { IfOk result (λ _. (m : Machine) (f : layers.Front Machine) → IsRowFor job.now.run.program.now self.old.known from.now m → IsMachineOf job.now.run.program.now m → may (slots job.now.run.program.now job.now.run.limits.discipline) m process ≡ true → Holds job.now.run.program.now self.old.known self.old.frontier.ended.entries (rows_of self.old.frontier.layer) f → Holds job.now.run.program.now self.new.known self.new.frontier.ended.entries (rows_of self.new.frontier.layer) (layers.after_choice (slots job.now.run.program.now job.now.run.limits.discipline) same_outcome same_key job.now.run.limits.steps (record { state = m; first = arriving.old.first.items; count = arriving.old.count }) process f)) }
     {
-        let mut moved = Moved::nobody();
-        let halt = choose(
-            &job.run,
-            &mut self.next.state,
-            process,
-            &mut moved,
-            &mut Uncounted,
-            &mut Uncounted,
-        );
-        arriving.first.push(process);
-        let added = self.frontier.add(
+        let halt = self.known.go(
             job.alloc,
-            &self.next.state,
-            halt,
-            &self.here.state,
-            &mut self.next.row,
-            &moved,
-            arriving,
-        );
+            &job.run,
+            from,
+            process,
+            &mut self.row,
+            &mut self.shown,
+        )?;
+        arriving.first.push(process);
+        let added = self.arrive(job, halt, arriving);
         let _ = arriving.first.pop();
-        match halt {
-            Halt::Ended(_) => {
-                self.next.state.take_moved(&self.here.state, &moved);
-                added
-            }
-            Halt::Choice => added,
-        }
+        added
     }
 
-    /// The state goes one choice on with each process that may be chosen. `arriving` becomes, whatever it was, the words that arrive.
+    /// The state of a row goes one choice on with each process that may be chosen. `arriving` becomes, whatever it was, the words that arrive.
     fn take_choices(
         &mut self,
         job: &MergeJob<'_>,
+        from: &[u32],
         prefixes: &Prefixes,
         arriving: &mut Prefixes,
     ) -> Result<(), AllocError>
-        requires here { IsStored job.now.run.program.now self.old.frontier.store self.old.here }
-        requires next { IsStored job.now.run.program.now self.old.frontier.store self.old.next }
+        requires on { CanGoOn job.now.run.program.now job.now.run.limits.discipline self.old.known self.old.row.items self.old.frontier.layer.width }
+        requires here { (m : Machine) × IsRowFor job.now.run.program.now self.old.known from.now m × IsMachineOf job.now.run.program.now m }
         requires room { length prefixes.now.first.items < 100 }
-        requires small { (f : layers.Front Machine) × Holds job.now.run.program.now self.old.frontier.store self.old.frontier.ended.entries self.old.frontier.layer.entries f × (total f + 16 * prefixes.now.count < 10 ^ 126) }
-        ensures here { self.new.here ≡ self.old.here }
-        ensures next { IfOk result (λ _. IsStored job.now.run.program.now self.new.frontier.store self.new.next) }
-        ensures kept { IfOk result (λ _. KeepParts self.old.frontier.store self.new.frontier.store) }
-        ensures front { IfOk result (λ _. (f : layers.Front Machine) → Holds job.now.run.program.now self.old.frontier.store self.old.frontier.ended.entries self.old.frontier.layer.entries f → Holds job.now.run.program.now self.new.frontier.store self.new.frontier.ended.entries self.new.frontier.layer.entries (layers.after_choices (slots job.now.run.program.now job.now.run.limits.discipline) same_outcome same_key job.now.run.limits.steps (record { state = machine_of self.old.here.state; first = prefixes.now.first.items; count = prefixes.now.count }) (processes_of job.now.run.program.now) f)) }
+        requires small { (f : layers.Front Machine) × Holds job.now.run.program.now self.old.known self.old.frontier.ended.entries (rows_of self.old.frontier.layer) f × (total f + 16 * prefixes.now.count < 10 ^ 126) }
+        ensures on { IfOk result (λ _. CanGoOn job.now.run.program.now job.now.run.limits.discipline self.new.known self.new.row.items self.new.frontier.layer.width) }
+        ensures kept { IfOk result (λ _. KeepKnown self.old.known self.new.known) }
+        ensures front { IfOk result (λ _. (m : Machine) (f : layers.Front Machine) → IsRowFor job.now.run.program.now self.old.known from.now m → IsMachineOf job.now.run.program.now m → Holds job.now.run.program.now self.old.known self.old.frontier.ended.entries (rows_of self.old.frontier.layer) f → Holds job.now.run.program.now self.new.known self.new.frontier.ended.entries (rows_of self.new.frontier.layer) (layers.after_choices (slots job.now.run.program.now job.now.run.limits.discipline) same_outcome same_key job.now.run.limits.steps (record { state = m; first = prefixes.now.first.items; count = prefixes.now.count }) (processes_of job.now.run.program.now) f)) }
     {
-        let numbers = candidates(&job.run, &self.here.state);
+        let numbers = self.known.candidates(from);
         arriving.take_words(prefixes);
         for process in numbers.as_slice() {
-            self.frontier
-                .store
-                .take(&self.here.row, &self.next.row, &mut self.next.state);
-            self.next.row = self.here.row;
-            self.take_choice(job, arriving, *process)?;
+            self.take_choice(job, from, arriving, *process)?;
         }
         Ok(())
     }
 
-    /// Each lead of layer `depth` goes one choice on. A layer of more than `job.most` states is not made to its end.
+    /// Each state of the layer after `depth` choices goes one choice on.
     fn next_layer(
         &mut self,
         job: &MergeJob<'_>,
         depth: u8,
         layer: &StateLayer,
     ) -> Result<(), MergeFault>
-        requires here { IsStored job.now.run.program.now self.old.frontier.store self.old.here }
-        requires next { IsStored job.now.run.program.now self.old.frontier.store self.old.next }
+        requires on { CanGoOn job.now.run.program.now job.now.run.limits.discipline self.old.known self.old.row.items self.old.frontier.layer.width }
         requires due { depth < job.now.run.limits.choices }
-        requires layer { AreLeads job.now.run.program.now self.old.frontier.store layer.now.entries (front_at (slots job.now.run.program.now job.now.run.limits.discipline) same_outcome same_key job.now.run.limits.steps depth).layer }
-        requires front { Holds job.now.run.program.now self.old.frontier.store self.old.frontier.ended.entries self.old.frontier.layer.entries (record { ended = (front_at (slots job.now.run.program.now job.now.run.limits.discipline) same_outcome same_key job.now.run.limits.steps depth).ended; layer = [] }) }
-        ensures here { IfOk result (λ _. IsStored job.now.run.program.now self.new.frontier.store self.new.here) }
-        ensures next { IfOk result (λ _. IsStored job.now.run.program.now self.new.frontier.store self.new.next) }
-        ensures front { IfOk result (λ _. Holds job.now.run.program.now self.new.frontier.store self.new.frontier.ended.entries self.new.frontier.layer.entries (front_at (slots job.now.run.program.now job.now.run.limits.discipline) same_outcome same_key job.now.run.limits.steps (depth + 1))) }
-        ensures few { IfOk result (λ _. length self.new.frontier.layer.entries ≤ job.now.most) }
+        requires layer { AreLeads job.now.run.program.now self.old.known (rows_of layer.now) (front_at (slots job.now.run.program.now job.now.run.limits.discipline) same_outcome same_key job.now.run.limits.steps depth).layer }
+        requires front { Holds job.now.run.program.now self.old.known self.old.frontier.ended.entries (rows_of self.old.frontier.layer) (record { ended = (front_at (slots job.now.run.program.now job.now.run.limits.discipline) same_outcome same_key job.now.run.limits.steps depth).ended; layer = [] }) }
+        ensures on { IfOk result (λ _. CanGoOn job.now.run.program.now job.now.run.limits.discipline self.new.known self.new.row.items self.new.frontier.layer.width) }
+        ensures front { IfOk result (λ _. Holds job.now.run.program.now self.new.known self.new.frontier.ended.entries (rows_of self.new.frontier.layer) (front_at (slots job.now.run.program.now job.now.run.limits.discipline) same_outcome same_key job.now.run.limits.steps (depth + 1))) }
+        ensures few { IfOk result (λ _. length (rows_of self.new.frontier.layer) ≤ job.now.most) }
         ensures many { IfErr result (λ e. IsStates e (HasTooManyStates (slots job.now.run.program.now job.now.run.limits.discipline) job.now.run.limits.steps job.now.most (depth + 1))) }
     {
         let mut gone_on: u32 = 0;
@@ -198,14 +225,12 @@ impl<'a, O: ObserveProgress> Layering<'a, O> {
             count: Natural::one(),
             first: Word::new(),
         };
-        for (key, prefixes) in layer.iter() {
+        for number in 0..layer.len() {
             gone_on = gone_on.wrapping_add(1);
             tell_layer(self.observer, &self.frontier, depth, gone_on);
-            self.frontier
-                .store
-                .take(key, &self.here.row, &mut self.here.state);
-            self.here.row = *key;
-            let Ok(()) = self.take_choices(job, prefixes, &mut arriving) else {
+            let row = layer.row(number);
+            let prefixes = &layer.leads[number];
+            let Ok(()) = self.take_choices(job, row, prefixes, &mut arriving) else {
                 return Err(MergeFault::Memory);
             };
             if self.frontier.layer.len() > job.most {
@@ -217,13 +242,11 @@ impl<'a, O: ObserveProgress> Layering<'a, O> {
 
     /// The layer after that of `depth` choices.
     pub fn one_layer(&mut self, job: &MergeJob<'_>, depth: u8) -> Result<(), MergeFault>
-        requires here { IsStored job.now.run.program.now self.old.frontier.store self.old.here }
-        requires next { IsStored job.now.run.program.now self.old.frontier.store self.old.next }
+        requires on { CanGoOn job.now.run.program.now job.now.run.limits.discipline self.old.known self.old.row.items self.old.frontier.layer.width }
         requires due { depth < job.now.run.limits.choices }
-        requires reached { Reached job.now.run.program.now job.now.run.limits.discipline job.now.run.limits.choices job.now.run.limits.steps job.now.most depth self.old.frontier.store self.old.frontier.ended.entries self.old.frontier.layer.entries }
-        ensures here { IfOk result (λ _. IsStored job.now.run.program.now self.new.frontier.store self.new.here) }
-        ensures next { IfOk result (λ _. IsStored job.now.run.program.now self.new.frontier.store self.new.next) }
-        ensures reached { IfOk result (λ _. Reached job.now.run.program.now job.now.run.limits.discipline job.now.run.limits.choices job.now.run.limits.steps job.now.most (depth + 1) self.new.frontier.store self.new.frontier.ended.entries self.new.frontier.layer.entries) }
+        requires reached { Reached job.now.run.program.now job.now.run.limits.discipline job.now.run.limits.choices job.now.run.limits.steps job.now.most depth self.old.known self.old.frontier.ended.entries (rows_of self.old.frontier.layer) }
+        ensures on { IfOk result (λ _. CanGoOn job.now.run.program.now job.now.run.limits.discipline self.new.known self.new.row.items self.new.frontier.layer.width) }
+        ensures reached { IfOk result (λ _. Reached job.now.run.program.now job.now.run.limits.discipline job.now.run.limits.choices job.now.run.limits.steps job.now.most (depth + 1) self.new.known self.new.frontier.ended.entries (rows_of self.new.frontier.layer)) }
         ensures fault { IfErr result (λ e. IsDueFault (slots job.now.run.program.now job.now.run.limits.discipline) job.now.run.limits.choices job.now.run.limits.steps job.now.most e) }
     {
         if self.frontier.ended.len() > MOST_OUTCOMES {
@@ -235,8 +258,8 @@ impl<'a, O: ObserveProgress> Layering<'a, O> {
 
     /// Where no choice is left, each word ends.
     pub fn last_layer(&mut self, job: &MergeJob<'_>) -> Result<(), MergeFault>
-        requires own { IsStateOf job.now.run.program.now self.old.here.state }
-        requires reached { Reached job.now.run.program.now job.now.run.limits.discipline job.now.run.limits.choices job.now.run.limits.steps job.now.most job.now.run.limits.choices self.old.frontier.store self.old.frontier.ended.entries self.old.frontier.layer.entries }
+        requires on { CanGoOn job.now.run.program.now job.now.run.limits.discipline self.old.known self.old.row.items self.old.frontier.layer.width }
+        requires reached { Reached job.now.run.program.now job.now.run.limits.discipline job.now.run.limits.choices job.now.run.limits.steps job.now.most job.now.run.limits.choices self.old.known self.old.frontier.ended.entries (rows_of self.old.frontier.layer) }
         ensures ended { IfOk result (λ _. AreEnds self.new.frontier.ended.entries (by_layers (slots job.now.run.program.now job.now.run.limits.discipline) same_outcome same_key job.now.run.limits.choices job.now.run.limits.steps)) }
         ensures few { IfOk result (λ _. length self.new.frontier.ended.entries ≤ 50000) }
         ensures within { IfOk result (λ _. FitsBefore (slots job.now.run.program.now job.now.run.limits.discipline) job.now.run.limits.choices job.now.run.limits.steps job.now.most (job.now.run.limits.choices + 1)) }
@@ -254,19 +277,16 @@ impl<'a, O: ObserveProgress> Layering<'a, O> {
 
     /// No choice is left: the words that lead to the states of the last layer end there.
     fn end_layer(&mut self, job: &MergeJob<'_>, layer: &StateLayer) -> Result<(), AllocError>
-        requires own { IsStateOf job.now.run.program.now self.old.here.state }
-        requires layer { AreLeads job.now.run.program.now self.old.frontier.store layer.now.entries (front_at (slots job.now.run.program.now job.now.run.limits.discipline) same_outcome same_key job.now.run.limits.steps job.now.run.limits.choices).layer }
+        requires on { CanGoOn job.now.run.program.now job.now.run.limits.discipline self.old.known self.old.row.items self.old.frontier.layer.width }
+        requires layer { AreLeads job.now.run.program.now self.old.known (rows_of layer.now) (front_at (slots job.now.run.program.now job.now.run.limits.discipline) same_outcome same_key job.now.run.limits.steps job.now.run.limits.choices).layer }
         requires ended { AreEnds self.old.frontier.ended.entries (front_at (slots job.now.run.program.now job.now.run.limits.discipline) same_outcome same_key job.now.run.limits.steps job.now.run.limits.choices).ended }
         ensures { IfOk result (λ _. AreEnds self.new.frontier.ended.entries (by_layers (slots job.now.run.program.now job.now.run.limits.discipline) same_outcome same_key job.now.run.limits.choices job.now.run.limits.steps)) }
     {
-        for (key, prefixes) in layer.iter() {
-            self.frontier.store.take_output(key, &mut self.here.state);
-            self.frontier.end(
-                job.alloc,
-                OutcomeKind::ChoiceLimit,
-                &self.here.state,
-                prefixes,
-            )?;
+        for number in 0..layer.len() {
+            let prefixes = &layer.leads[number];
+            let shown = self.known.output(layer.row(number));
+            self.frontier
+                .end(job.alloc, OutcomeKind::ChoiceLimit, shown, &[], prefixes)?;
         }
         Ok(())
     }

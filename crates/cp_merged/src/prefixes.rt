@@ -50,19 +50,9 @@ pub fn copy_of(prefixes: &Prefixes) -> Prefixes
     }
 }
 
-// Whether a word comes after another one in dictionary order. Words are short, and most differ soon.
+// Whether a word comes after another one in dictionary order. Words that meet are alike in most of their numbers, so they are compared as slices.
 fn is_after(word: &[u8], other: &[u8]) -> bool
     ensures { result ≡ not (up_to word.now other.now) }
 {
-    let count = if word.len() < other.len() {
-        word.len()
-    } else {
-        other.len()
-    };
-    for at in 0..count {
-        if word[at] != other[at] {
-            return other[at] < word[at];
-        }
-    }
-    other.len() < word.len()
+    other.cmp(&word).is_lt()
 }

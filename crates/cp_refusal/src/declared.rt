@@ -3,8 +3,8 @@
 use crate::extent::{Extent, between, body_end, definition_end};
 use crate::rules::{mark_before, name_at};
 use cp_check::names_at_fault;
-use cp_scope::{Meaning, ScopeTable, ValueType};
-use cp_text::{Mark, Name, Tokens};
+use cp_scope::{ScopeTable, ValueType};
+use cp_text::{Mark, Tokens};
 use cp_tree::{
     Body, Constant, ConstantDefinition, Definition, Group, Identifier, Part, PartKind, Program,
     ProgramPartKind, Routine, RoutineKind, Simple, SimpleKind, System, SystemDefinition, Tree,
@@ -16,7 +16,7 @@ use std::alloc::{AllocError, Global};
 #[derive(Clone, Copy)]
 pub enum Declared<'a> {
     Constant(&'a Constant),
-    /// A constant of the enumeration that is written at this token.
+    /// A constant of an enumeration, in which so many stand before it.
     Member(usize),
     Type(&'a Type),
     System(&'a System),
@@ -28,14 +28,10 @@ pub enum Declared<'a> {
 }
 
 impl<'a> Declared<'a> {
-    /// The name of the type of a parameter or a function's result.
+    /// The name of the type of a parameter.
     pub fn type_name(self) -> Option<&'a Identifier> {
         match self {
             Declared::Parameter(name) | Declared::VarParameter(name) => Some(name),
-            Declared::Routine(routine) => match &routine.kind {
-                RoutineKind::Function(_, result) => Some(result),
-                _ => None,
-            },
             _ => None,
         }
     }
@@ -64,7 +60,6 @@ impl<'a> Declared<'a> {
 #[derive(Clone, Copy, Drop)]
 pub struct Declaration<'a> {
     pub name: &'a str,
-    spelling: &'a Name,
     pub what: Declared<'a>,
     /// The number of the token that it names.
     pub at: usize,
@@ -121,7 +116,6 @@ struct Block<'a> {
     owner: &'a str,
     routine: &'a str,
     end: usize,
-    is_routine: bool,
 }
 
 /// A body, and whether it is that of a routine.
@@ -171,7 +165,6 @@ impl<'a> Declarations<'a> {
             owner: "",
             routine: "",
             end: self.tokens.count(),
-            is_routine: false,
         };
         for part in &program.parts {
             match &part.kind {
@@ -219,7 +212,6 @@ impl<'a> Declarations<'a> {
             let inner = Block {
                 routine: routine.name.name.as_str(),
                 end: body_end(self.tokens, &routine.body),
-                is_routine: true,
                 ..block
             };
             if !matches!(routine.kind, RoutineKind::Invariants) {
@@ -311,9 +303,9 @@ impl<'a> Declarations<'a> {
 
     fn add_enumeration(&mut self, written: &'a Simple, block: Block<'a>) {
         if let SimpleKind::Enumeration(names) = &written.kind {
-            for name in names {
+            for (number, name) in names.iter().enumerate() {
                 let from = name.at.saturating_add(1);
-                self.add(name, Declared::Member(written.at), from, block);
+                self.add(name, Declared::Member(number), from, block);
             }
         }
     }
@@ -321,7 +313,6 @@ impl<'a> Declarations<'a> {
     fn add(&mut self, name: &'a Identifier, what: Declared<'a>, from: usize, block: Block<'a>) {
         let added = self.all.push(Declaration {
             name: name.name.as_str(),
-            spelling: &name.name,
             what,
             at: name.at,
             owner: block.owner,
@@ -334,7 +325,7 @@ impl<'a> Declarations<'a> {
     fn add_body(&mut self, body: &'a Body, block: Block<'a>) {
         let added = self.bodies.push(OwnedBody {
             body,
-            is_of_routine: block.is_routine,
+            is_of_routine: !block.routine.is_empty(),
         });
         self.is_refused = self.is_refused || added.is_err();
     }
@@ -381,9 +372,38 @@ impl<'a> Declarations<'a> {
             .find_map(|one| one.what.as_system())
     }
 
+    /// The array, the record or the component that a variable or a parameter is, as the checker knows it. Each name on the way to it is declared before.
+    pub fn structure_of(&self, one: &Declaration<'a>) -> Option<ValueType> {
+        let mut what = one.what;
+        for _ in &self.all {
+            let (name, at) = match what {
+                Declared::Variable(written) | Declared::Type(written) => match &written.kind {
+                    TypeKind::Array(..) => return Some(ValueType::Array(written.at)),
+                    TypeKind::Record(..) => return Some(ValueType::Record(written.at)),
+                    TypeKind::Simple(
+                        Simple {
+                            kind: SimpleKind::Name(name),
+                            ..
+                        },
+                    ) => (name.as_str(), written.at),
+                    _ => return None,
+                },
+                Declared::Parameter(name) | Declared::VarParameter(name) => {
+                    (name.name.as_str(), name.at)
+                }
+                Declared::System(system) => {
+                    return Some(ValueType::Component(system.kind, system.at));
+                }
+                _ => return None,
+            };
+            what = self.find(name, at)?.what;
+        }
+        None
+    }
+
     /// The system type of a variable or of its elements, or of a parameter.
     pub fn component_type(&self, one: &Declaration<'a>) -> Option<Declaration<'a>> {
-        let found = match self.type_of_permanent(one)? {
+        let found = match self.structure_of(one)? {
             ValueType::Array(at) => self.scopes.shapes().array(at)?.element,
             other => other,
         };
@@ -393,21 +413,9 @@ impl<'a> Declarations<'a> {
         }
     }
 
-    /// The system type of a variable or of its elements, or of a parameter.
+    /// The same as it is written.
     pub fn component_of(&self, one: &Declaration<'a>) -> Option<&'a System> {
         self.component_type(one)?.what.as_system()
-    }
-
-    /// The type of a variable or a parameter of a system type or of the program.
-    fn type_of_permanent(&self, one: &Declaration<'a>) -> Option<ValueType> {
-        let meaning = match self.system_type(one.owner) {
-            Some(system) => self.scopes.shapes().member(system.at, one.spelling)?,
-            None => self.scopes.look(one.spelling)?,
-        };
-        match meaning {
-            Meaning::Variable(value_type) | Meaning::Parameter(value_type) => Some(value_type),
-            _ => None,
-        }
     }
 
     /// Where the entry with a name of the system type is written that the checker knows by a token.

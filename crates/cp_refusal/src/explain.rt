@@ -8,18 +8,20 @@ ghost use Rattle.cp_text.specs.Reading.{HasFault, HasTokens};
 ghost use Rattle.cp_refusal.specs.Explaining as spec;
 ghost use Rattle.cp_refusal.specs.Lines.{last_line};
 
-use crate::advice::advice;
-use crate::candidates::put_wanted;
+use crate::advice::{advice, is_behind_lone_end};
+use crate::candidates::{put_wanted, wanted_words};
 use crate::foreign::sign_sentence;
-use crate::further_up::{Missing, what_is_missing};
+use crate::further_up::{Missing, is_statement, what_is_missing};
 use crate::hints::hints;
 use crate::page::{line_number, line_start};
-use crate::place::{end, fault_len, is_coded, text_in};
+use crate::place::{end, fault_len, is_coded, text_in, torn_comment};
 use crate::report::{ExplainedRefusal, Explanation};
 use crate::rules::{Broken, code, sentence};
 use crate::teller::{Piece, Teller};
+use crate::unbegun::Unbegun;
 use cp_check::CheckFault;
 use cp_front::{Loaded, Refusal as LoadRefusal};
+use cp_prose::Prose;
 use cp_text::{ByteRange, Mark, ScanCause, ScanFault, Tokens};
 use cp_tree::{ParseFault, Tree};
 use std::alloc::{AllocError, Global};
@@ -88,7 +90,7 @@ fn scan_sentence(cause: ScanCause, text: &[u8]) -> &'static str {
         ScanCause::BadChar if is_coded(text) =>
             "this is no character: the code of a character is 0 to 127",
         ScanCause::BadChar =>
-            "this is no character: between the quotes stands one sign, as 'a', or its code, as '(:97:)'; there are no strings and no type of them",
+            "this is no character: between the quotes stands one sign, as 'a', or its code, as '(:97:)'; there are no strings and no type of them, and the constants of an enumeration have no quotes",
         ScanCause::NumberTooLarge => "this number is larger than 32767",
         ScanCause::NameTooLong => "this name has more than 40 characters",
         ScanCause::TooManyTokens =>
@@ -110,11 +112,47 @@ fn scan_refused(alloc: Global, source: &[u8], fault: ScanFault) -> Result<Explan
     };
     Ok(Explanation::Refused(ExplainedRefusal {
         kind: "scan",
-        sentence: String::from_str(alloc, scan_sentence(fault.cause, text))?,
+        sentence: scan_words(alloc, source, fault, text)?,
         more: "see \"Lexemes\" in docs/LANGUAGE.md",
         span,
-        earlier: None,
+        earlier: torn_before(source, fault),
     }))
+}
+
+// A comment further up that may be the one without a closing quote, so that the text of another one is read.
+fn torn_before(source: &[u8], fault: ScanFault) -> Option<ByteRange> {
+    match fault.cause {
+        ScanCause::OpenComment | ScanCause::BadByte | ScanCause::OpenChar | ScanCause::BadChar => {
+            torn_comment(source, fault.from)
+        }
+        _ => None,
+    }
+}
+
+// What is said of a piece that is no lexeme, and of a comment further up that belongs to it.
+fn scan_words(
+    alloc: Global,
+    source: &[u8],
+    fault: ScanFault,
+    text: &[u8],
+) -> Result<String, AllocError> {
+    let mut words = Prose::new(alloc);
+    words.put(scan_sentence(fault.cause, text));
+    if let Some(torn) = torn_before(source, fault) {
+        put_torn(&mut words, source, torn);
+    }
+    words.finish()
+}
+
+// Where the closing quote of a comment of several lines may be missing.
+fn put_torn(words: &mut Prose, source: &[u8], torn: ByteRange) {
+    let (first, last) = (
+        line_number(source, torn.from),
+        line_number(source, end(torn)),
+    );
+    words.put_display(format_args!(
+        ": the comment of line {first} goes on to line {last}, so that a quote may be missing in line {first}"
+    ));
 }
 
 // The place of a fault, in the line of the fault.
@@ -204,13 +242,13 @@ fn after(span: ByteRange) -> ByteRange
 }
 
 // What is expected in the place of the token, what stands there, and what may have been meant.
-fn put_unexpected(teller: &mut Teller, missing: &Missing) {
+fn put_unexpected(teller: &mut Teller, missing: &Missing) -> Result<(), AllocError> {
     if teller.tokens.count() == 0 {
         teller.put("a program is missing");
-        return;
+        return Ok(());
     }
     teller.put("expected ");
-    put_wanted(teller);
+    put_wanted(teller)?;
     teller.say(
         match teller.mark() {
             Some(Mark::Assert) => ", found an assertion",
@@ -222,6 +260,7 @@ fn put_unexpected(teller: &mut Teller, missing: &Missing) {
         &[],
     );
     put_missing(teller, missing);
+    Ok(())
 }
 
 // What is missing further up, or else what may have been meant.
@@ -244,15 +283,23 @@ fn put_missing(teller: &mut Teller, missing: &Missing) {
             put_open(teller, *open);
             teller.put(", as the lines are indented");
         }
+        Missing::Beginning(closed) if teller.takes(".") => teller.say(
+            ": the end before it closes the @, which is taken for that of the program: an end is too many, or a begin or a heading is missing",
+            &[Piece::Placed(*closed)],
+        ),
         Missing::Beginning(closed) => teller.say(
             ": the end before it closes the @, so that an end is too many or a begin is missing",
             &[Piece::Placed(*closed)],
         ),
+        Missing::Begin(found) => put_unbegun(teller, *found),
+        Missing::Quote(comment) => put_torn(&mut teller.text, teller.source, *comment),
+        Missing::Word(at, word) if *at == teller.at => {
+            teller.say(": # may be meant for @", &[Piece::Words(word)]);
+        }
         Missing::Word(at, word) => teller.say(
             ": @ may be meant for @",
             &[Piece::Placed(*at), Piece::Words(word)],
         ),
-        Missing::WordHere(word) => teller.say(": # may be meant for @", &[Piece::Words(word)]),
     }
 }
 
@@ -261,20 +308,46 @@ fn put_open(teller: &mut Teller, open: usize) {
     let sentence = match teller.mark_at(open) {
         Some(Mark::OpenParenthesis) => ": the @ has no )",
         Some(Mark::OpenBracket) => ": the @ has no ]",
+        Some(Mark::Repeat) => ": the @ has no until",
         _ => ": the @ has no end",
     };
     teller.say(sentence, &[Piece::Placed(open)]);
 }
 
+// That `begin` is missing behind a word, and what is closed therefore.
+fn put_unbegun(teller: &mut Teller, found: Unbegun) {
+    let sentence = if found.end == teller.at {
+        ": the @ has no begin"
+    } else {
+        ": the @ has no begin, so that the end of line @ closes the @"
+    };
+    teller.say(
+        sentence,
+        &[
+            Piece::Placed(found.word),
+            Piece::Line(found.end),
+            Piece::Placed(found.closed),
+        ],
+    );
+    let is_named = is_statement(teller.mark()) || !teller.name().is_empty();
+    if is_named && is_behind_lone_end(teller) {
+        teller.put("; and end stands without a word for what it closes");
+    }
+}
+
 // The place further up that the excerpt shows too.
-fn earlier(source: &[u8], tokens: &Tokens, missing: &Missing) -> Option<ByteRange> {
+fn earlier(teller: &Teller, missing: &Missing) -> Option<ByteRange> {
+    let (source, tokens) = (teller.source, teller.tokens);
     match missing {
         Missing::Semicolon(before) => Some(after(span_of(source, *before, tokens))),
+        Missing::Word(at, _) if *at == teller.at => None,
         Missing::End(at)
         | Missing::EndByLayout(at)
         | Missing::Beginning(at)
+        | Missing::Begin(Unbegun { word: at, .. })
         | Missing::Word(at, _) => Some(span_of(source, *at, tokens)),
-        Missing::WordHere(_) | Missing::Nothing => None,
+        Missing::Quote(comment) => Some(*comment),
+        Missing::Nothing => None,
     }
 }
 
@@ -325,9 +398,10 @@ fn explain_unexpected(
     ensures { IfOk result (spec.IsRefusedAt (codes "parse") source.now tokens.now at) }
 {
     let mut teller = Teller::new(alloc, source, tokens, at);
-    let missing = what_is_missing(&mut teller)?;
-    put_unexpected(&mut teller, &missing);
-    let earlier = earlier(source, tokens, &missing);
+    teller.wanted = wanted_words(&teller)?;
+    let missing = what_is_missing(&teller)?;
+    put_unexpected(&mut teller, &missing)?;
+    let earlier = earlier(&teller, &missing);
     not_parsed(source, tokens, at, teller.text.finish(), earlier)
 }
 

@@ -17,7 +17,7 @@ mod written;
 use crate::declared::Declarations;
 use crate::extent::Extent;
 use crate::hints::written::Written;
-use crate::page::push_tokens;
+use crate::page::{line_of, push_tokens};
 use crate::report::{Hint, Hints};
 use cp_front::Loaded;
 use cp_prose::Prose;
@@ -69,9 +69,7 @@ impl<'a, 'b> Gathering<'a, 'b> {
 
     /// The line of a token.
     pub fn line_of(&self, at: usize) -> u32 {
-        self.declarations
-            .tokens
-            .line(at.min(self.declarations.tokens.count()))
+        line_of(self.declarations.tokens, at)
     }
 
     /// Some tokens as they are written.

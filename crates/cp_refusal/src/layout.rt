@@ -1,6 +1,7 @@
 //! Which word has no `end`, as the lines of a source are indented.
 
 use crate::further_up::{CLOSING, OPENING, is_after_a_block, is_declaration};
+use crate::page::{are_on_one_line, line_of};
 use crate::rules::{is_mark_of, mark_before};
 use crate::teller::Teller;
 use cp_text::{Mark, Tokens};
@@ -52,8 +53,8 @@ impl Open {
 
 /// What is open before a token, and what the lines before it leave without an `end`.
 #[derive(Drop)]
-struct Layout<'a> {
-    tokens: &'a Tokens,
+pub struct Layout<'a> {
+    pub tokens: &'a Tokens,
     indentations: Vec<usize>,
     open: Vec<Open>,
     /// The first word without an `end`, and the token that shows it.
@@ -61,20 +62,26 @@ struct Layout<'a> {
 }
 
 impl<'a> Layout<'a> {
+    /// The lines before the token, of which none has been looked at.
+    pub fn of(teller: &Teller<'a>) -> Result<Layout<'a>, AllocError> {
+        Ok(Layout {
+            tokens: teller.tokens,
+            indentations: indentations(teller.alloc, teller.source)?,
+            open: Vec::new(teller.alloc),
+            first: None,
+        })
+    }
+
     /// How far the line of a token is indented.
-    fn indentation(&self, at: usize) -> usize {
-        let line = self.tokens.line(at.min(self.tokens.count()));
-        let before = line.saturating_sub(1) as usize;
+    pub fn indentation(&self, at: usize) -> usize {
+        let before = line_of(self.tokens, at).saturating_sub(1) as usize;
         self.indentations.get(before).copied().unwrap_or(0)
     }
 
     /// Whether a token is the first of its line.
-    fn is_first(&self, at: usize) -> bool {
+    pub fn is_first(&self, at: usize) -> bool {
         match at.checked_sub(1) {
-            Some(before) => {
-                let count = self.tokens.count();
-                self.tokens.line(before.min(count)) != self.tokens.line(at.min(count))
-            }
+            Some(before) => !are_on_one_line(self.tokens, before),
             None => true,
         }
     }
@@ -148,12 +155,7 @@ impl<'a> Layout<'a> {
 
 /// The word without an `end`, where the indentation of lines tells which it is.
 pub fn open_by_layout(teller: &Teller) -> Result<Option<usize>, AllocError> {
-    let mut layout = Layout {
-        tokens: teller.tokens,
-        indentations: indentations(teller.alloc, teller.source)?,
-        open: Vec::new(teller.alloc),
-        first: None,
-    };
+    let mut layout = Layout::of(teller)?;
     for at in 0..teller.at {
         layout.pass(at)?;
     }

@@ -4,6 +4,7 @@
 mod advice;
 mod candidates;
 mod characters;
+mod component_meant;
 mod declared;
 mod elsewhere;
 mod explain;
@@ -12,6 +13,7 @@ mod foreign;
 mod further_up;
 mod hints;
 mod layout;
+mod misplaced;
 mod operands;
 mod page;
 mod place;
@@ -20,6 +22,7 @@ mod rules;
 mod saying;
 mod spelling;
 mod teller;
+mod unbegun;
 
 pub use cp_text::ByteRange;
 pub use explain::refusal;

@@ -77,11 +77,28 @@ impl Operands {
     }
 }
 
+/// Whether a type has values in an order that are no integers.
+fn has_neighbours(found: ValueType) -> bool {
+    found.is_ordinal() && !found.is_of(Base::Integer) && !found.is_of(Base::Boolean)
+}
+
+/// Whether values of a type can be in a set.
+fn is_element(set: ValueType, value: ValueType) -> bool {
+    match (set, value) {
+        (ValueType::Set(Some(base)), ValueType::Ordinal(range)) => base.base.is_same(range.base),
+        _ => false,
+    }
+}
+
 /// What more is to be said of two operands of which none or both are such as are taken.
 pub fn about_sets(operands: Operands, left: ValueType, right: ValueType) -> &'static str {
     match operands {
         Operands::Integers if is_set(left) || is_set(right) => ": sets have or, and and -",
+        Operands::Integers | Operands::IntegersOrSets
+            if has_neighbours(left) || has_neighbours(right) =>
+            ": ord(x) is the number of a value, succ(x) the next one and pred(x) the one before",
         _ if is_set(left) && is_set(right) => " of another type",
+        _ if is_element(left, right) => ": an element stands in brackets, as in [x]",
         _ => "",
     }
 }
@@ -98,11 +115,13 @@ pub fn about_unnamed(found: ValueType) -> &'static str {
     }
 }
 
-/// What a procedure of the language does with a queue; empty for all else.
+/// What a routine of the language does with a queue; empty for all else.
 pub fn about_waiting(routine: &str) -> &'static str {
     match routine {
         "delay" => ": delay(q) waits in the queue q",
         "continue" => ": continue(q) lets the process go on that waits in the queue q",
+        "empty" =>
+            ": empty(q) asks whether nobody waits in the queue q, and not empty(q) whether somebody does",
         _ => "",
     }
 }

@@ -180,10 +180,14 @@ fn push_mark(text: &mut Prose, line: &ShownLine)
 /// Stands where a line is cut.
 const CUT: &str = " .. ";
 
+/// The line of a token, or at the end of the tokens that of the last one.
+pub fn line_of(tokens: &Tokens, at: usize) -> u32 {
+    tokens.line(at.min(tokens.count()))
+}
+
 /// Whether a token ends on the line on which the next one begins.
 pub fn are_on_one_line(tokens: &Tokens, at: usize) -> bool {
-    let count = tokens.count();
-    tokens.line(at.min(count)) == tokens.line(at.saturating_add(1).min(count))
+    line_of(tokens, at) == line_of(tokens, at.saturating_add(1))
 }
 
 /// The column of a place, counted in characters from 1.

@@ -46,6 +46,83 @@ pub fn fault_len(text: &[u8]) -> usize {
     }
 }
 
+/// What has been read of a source up to a place, as far as it is about comments of several lines.
+#[derive(Clone, Copy)]
+struct LongComments {
+    /// Where the comment begins that is open there.
+    begun: Option<usize>,
+    /// Whether it goes over several lines.
+    is_long: bool,
+    /// The last such one, where it ends in the line of the place.
+    ended: Option<ByteRange>,
+}
+
+impl LongComments {
+    fn none() -> LongComments {
+        LongComments {
+            begun: None,
+            is_long: false,
+            ended: None,
+        }
+    }
+
+    fn pass(&mut self, byte: u8, place: usize) {
+        match (byte, self.begun) {
+            (b'\n', Some(_)) => self.is_long = true,
+            (b'\n', None) => self.ended = None,
+            (b'"', Some(from)) => {
+                self.begun = None;
+                if self.is_long {
+                    self.ended = Some(from_to(from, place.saturating_add(1)));
+                }
+            }
+            (b'"', None) => {
+                self.begun = Some(place);
+                self.is_long = false;
+            }
+            _ => {}
+        }
+    }
+}
+
+/// The comment of several lines that stands before a token, and ends in its line.
+pub fn long_comment_before(source: &[u8], tokens: &Tokens, at: usize) -> Option<ByteRange> {
+    let gap = gap_before(source, tokens, at);
+    let mut read = LongComments::none();
+    for (place, byte) in text_in(source, gap).iter().enumerate() {
+        read.pass(*byte, gap.from.saturating_add(place));
+    }
+    read.ended
+}
+
+/// The first comment before the end of the line of a place that goes over several lines, and behind which another quote stands in its last one: between the two quotes
+/// the text of a comment may be.
+pub fn torn_comment(source: &[u8], place: usize) -> Option<ByteRange> {
+    let rest = source.get(place..).unwrap_or(&[]);
+    let to = place.saturating_add(line_len(rest));
+    let mut read = LongComments::none();
+    for (place, byte) in source.iter().enumerate().take(to) {
+        let is_outside = *byte == b'"' && read.begun.is_none();
+        if is_outside && is_character_around(source, place) {
+            continue;
+        }
+        if is_outside && read.ended.is_some() {
+            return read.ended;
+        }
+        read.pass(*byte, place);
+    }
+    None
+}
+
+// Whether a character stands at a place, between its quotes.
+fn is_character_around(source: &[u8], place: usize) -> bool {
+    let quotes = (
+        source.get(place.saturating_sub(1)),
+        source.get(place.saturating_add(1)),
+    );
+    matches!(quotes, (Some(b'\''), Some(b'\'')))
+}
+
 /// Whether a text between quotes gives a character by its code, be it one or none.
 pub fn is_coded(text: &[u8]) -> bool {
     match text {

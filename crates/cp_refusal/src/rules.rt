@@ -3,8 +3,7 @@
 ghost use Rattle.std.specs.Prelude.{◌≡◌};
 ghost use Rattle.cp_refusal.specs.Explaining.{rule_code};
 
-use crate::declared::Declarations;
-use crate::elsewhere::Elsewhere;
+use crate::declared::{Declarations, Declared};
 use crate::extent::{between, is_field, open_parenthesis, record_around, single};
 use crate::foreign::{instead_of, is_start};
 use crate::saying::Saying;
@@ -12,7 +11,7 @@ use crate::spelling::{Known, similar_declaration, similar_standard_name};
 use crate::teller::{Piece, Teller};
 use cp_scope::{Rule, ValueType};
 use cp_text::{Kind, Mark, Tokens};
-use cp_tree::{RoutineKind, Tree};
+use cp_tree::{RoutineKind, SystemKind, Tree};
 use std::alloc::{AllocError, Global};
 
 /// The reserved word or sign at this number, where there is one.
@@ -64,15 +63,20 @@ fn behind_constant(tokens: &Tokens, at: usize) -> usize {
     at.saturating_add(if is_signed { 2 } else { 1 })
 }
 
-fn wrong_entry(tokens: &Tokens, at: usize) -> &'static str {
+fn wrong_entry(declarations: &Declarations, at: usize) -> &'static str {
+    let tokens = declarations.tokens;
     if mark_at(tokens, at) == Some(Mark::Entry) {
         " stands only in a class or a monitor: nobody calls a process or the program"
     } else if mark_before(tokens, at) == Some(Mark::Period) {
         " can't be called from outside: its heading has no entry"
+    } else if declarations.is_routine_itself(at) {
+        CALLS_ITSELF
     } else {
         " is an entry, and can't be called within its own type: put what both need into a routine without entry"
     }
 }
+
+const CALLS_ITSELF: &str = " calls itself, and no routine may: what is repeated stands in a loop";
 
 fn wrong_wait(declarations: &Declarations, at: usize) -> &'static str {
     if declarations.is_standard(at, "delay") {
@@ -83,6 +87,8 @@ fn wrong_wait(declarations: &Declarations, at: usize) -> &'static str {
         match declarations.routine_around(at) {
             Some(one) if !matches!(one.kind, RoutineKind::Procedure(_)) =>
                 " stands only in the body of an entry procedure of a monitor, and not in a function",
+            Some(one) if !one.is_entry && declarations.is_called_within(one) =>
+                " stands only in the body of an entry procedure of a monitor, and the heading of this procedure has no entry: it is called within its own type, as no entry can be, so that continue belongs into an entry procedure itself",
             Some(one) if !one.is_entry =>
                 " stands only in the body of an entry procedure of a monitor, and the heading of this procedure has no entry",
             _ => " stands only in the body of an entry procedure of a monitor",
@@ -106,13 +112,16 @@ fn misplaced_component(declarations: &Declarations, at: usize) -> &'static str {
             " is a type of components, and a routine has none as parameters: a system type is given them",
         (Some(_), Some(ValueType::Array(_))) =>
             " is an array of components, and no parameter is one: a system type is given components one by one",
-        _ =>
-            " can't stand here: a component is declared only among permanent variables, a monitor in the program, a process or a monitor, a process in the program, a class in any of these",
+        _ => declarations.misplacement(at),
     }
 }
 
+const NO_QUEUE_GIVEN: &str =
+    " can't be the type of a parameter: a routine names the queues of its own monitor itself, and of an array of them it may be given an index";
+
 fn wrong_parameter(declarations: &Declarations, at: usize) -> &'static str {
     match declarations.type_named_at(at) {
+        Some(ValueType::Queue) if declarations.routine_around(at).is_some() => NO_QUEUE_GIVEN,
         Some(ValueType::Queue) =>
             " can't be the type of a parameter: nobody waits in the queue of another monitor",
         Some(ValueType::Component(..)) =>
@@ -132,7 +141,7 @@ const COMPLAINTS: [&str; 22] = [
     " is called with a wrong number of arguments",
     " is no routine of this component, whose variables can't be reached from outside",
     "",
-    " calls itself: no routine may",
+    CALLS_ITSELF,
     " can't stand here: a queue is declared only among the permanent variables of a monitor",
     "",
     "",
@@ -152,7 +161,8 @@ fn complaint(declarations: &Declarations, at: usize, rule: Rule) -> &'static str
     let tokens = declarations.tokens;
     match rule {
         Rule::C5 => disagreement(tokens, at),
-        Rule::C9 => wrong_entry(tokens, at),
+        Rule::C9 => wrong_entry(declarations, at),
+        Rule::C11 if open_parenthesis(tokens, at).is_some() => NO_QUEUE_GIVEN,
         Rule::C12 => wrong_wait(declarations, at),
         Rule::C13 => misplaced_component(declarations, at),
         Rule::C15 => wrong_parameter(declarations, at),
@@ -216,13 +226,18 @@ fn put_complaint(saying: &mut Saying, broken: Broken) {
 fn put_particular(saying: &mut Saying, rule: Rule) -> bool {
     match rule {
         Rule::C1 if !is_behind_period(&saying.teller) => {
-            put_undeclared(&mut saying.teller, &saying.declarations);
+            if put_undeclared(&mut saying.teller, &saying.declarations) {
+                saying.put_entries_given();
+            }
         }
         Rule::C8 if is_start(saying.teller.name()) => saying.teller.say(
             "# is no routine of this component: processes are started by init",
             &[],
         ),
         Rule::C2 => put_twice(&mut saying.teller, &saying.declarations),
+        Rule::C9 if saying.teller.mark() == Some(Mark::Entry) => {
+            return put_ended(&mut saying.teller, &saying.declarations);
+        }
         Rule::C9 | Rule::C10 | Rule::C22 => match own_name(&saying.teller, &saying.declarations) {
             Some(sentence) => saying.teller.say(sentence, &[]),
             None => return false,
@@ -233,6 +248,22 @@ fn put_particular(saying: &mut Saying, rule: Rule) -> bool {
                 None => return false,
             }
         }
+        _ => return false,
+    }
+    true
+}
+
+/// Says which class or monitor ends before the routine of the program whose `entry` is at the token.
+fn put_ended(teller: &mut Teller, declarations: &Declarations) -> bool {
+    let last = declarations.all.iter().rev().find(|one| {
+        one.at < teller.at
+            && matches!(one.what, Declared::System(system) if system.kind != SystemKind::Process)
+    });
+    match last {
+        Some(one) if declarations.owner_at(teller.at).is_empty() => teller.say(
+            "# stands only in a class or a monitor, and the @ ends before it: its initial statement comes last",
+            &[Piece::Placed(one.at)],
+        ),
         _ => return false,
     }
     true
@@ -265,55 +296,65 @@ fn is_behind_period(teller: &Teller) -> bool {
     teller.back(1) == Some(Mark::Period)
 }
 
-/// Says of a name that is not visible where it is declared, what is meant by it elsewhere, or which name may have been meant.
-fn put_undeclared(teller: &mut Teller, declarations: &Declarations) {
+/// Says of a name that is not visible where it is declared, what is meant by it elsewhere, or which name may have been meant; answers whether it is one of another
+/// language.
+fn put_undeclared(teller: &mut Teller, declarations: &Declarations) -> bool {
     teller.say("# is not declared here", &[]);
     let owner = declarations.owner_of_entry(teller.name());
     let known = instead_of(teller.name());
-    if !owner.is_empty() {
+    let nearest = similar_declaration(teller, declarations, Known::Visible);
+    let is_own = !owner.is_empty() && owner == declarations.owner_at(teller.at);
+    if is_own && declarations.is_changed(teller.at) {
+        teller.put(": it is an entry of this type, declared only further down, and no variable");
+    } else if is_own {
+        teller.put(
+            ": it is an entry of this type, and can't be called within it: put what both need into a routine without entry",
+        );
+    } else if !owner.is_empty() {
         teller.say(
             ": it is an entry of @, and called with a component and a period before it",
             &[Piece::Words(owner)],
         );
-    } else if let Some(there) = declarations.elsewhere(teller.name(), teller.at) {
-        put_elsewhere(teller, there);
-    } else if !known.is_empty() {
+    } else if let Some((declared, why)) = declarations.elsewhere(teller.name(), teller.at)
+        && (nearest.is_none() || declarations.fits(declared, teller.at))
+    {
+        if put_counter(teller) {
+            teller.say(
+                "; that of line @ is not seen here",
+                &[Piece::Line(declared)],
+            );
+        } else {
+            teller.say(why, &[Piece::Line(declared)]);
+        }
+    } else if let Some((named, why)) = declarations.behind_self(teller.at) {
+        teller.say(why, &[Piece::Line(named)]);
+    } else if !known.is_empty() && (nearest.is_none() || declarations.is_in_body(teller.at)) {
         teller.put(known);
-    } else if let Some(other) = similar_declaration(teller, declarations, Known::Visible) {
+        return true;
+    } else if let Some(other) = nearest {
         put_declared(teller, other);
     } else if let Some(other) = similar_standard_name(teller.name()) {
         teller.say(": @ may be meant", &[Piece::Words(other)]);
-    } else if teller.back(1) == Some(Mark::For) {
+    } else if teller.back(1) == Some(Mark::DoublePeriod)
+        || teller.ahead(1) == Some(Mark::DoublePeriod)
+    {
+        teller.put(": a constant is wanted here");
+    } else {
+        put_counter(teller);
+    }
+    false
+}
+
+/// Says what a `for` counts in, where one stands before the token.
+fn put_counter(teller: &mut Teller) -> bool {
+    let is_counted = teller.back(1) == Some(Mark::For);
+    if is_counted {
         teller.say(
-            ": for counts in a variable, which is declared before begin, as in var #: integer",
+            ": for counts in a variable, which is declared before begin here, as in var #: integer",
             &[],
         );
     }
-}
-
-/// Says where a name is declared that is not visible at the token, and why it is not.
-fn put_elsewhere(teller: &mut Teller, there: Elsewhere) {
-    let (sentence, at) = match there {
-        Elsewhere::Around => (
-            ": this stands in that type itself, and there its variables and routines are named without it",
-            0,
-        ),
-        Elsewhere::Unfinished => (": it is visible only from the end of its declaration on", 0),
-        Elsewhere::Below(at) => (": it is declared only further down, in line @", at),
-        Elsewhere::Variable(at) => (
-            ": line @ declares it as a variable of the program, and a system type sees none: what it needs is given to it as a parameter",
-            at,
-        ),
-        Elsewhere::Routine(at) => (
-            ": line @ declares it as a routine of the program, and a system type sees none",
-            at,
-        ),
-        Elsewhere::Inside(at) => (
-            ": line @ declares it in another block, which alone sees it",
-            at,
-        ),
-    };
-    teller.say(sentence, &[Piece::Line(at)]);
+    is_counted
 }
 
 /// Says in which line the name at a token is declared.

@@ -8,11 +8,13 @@ use crate::operands::{
     ANY_ORDINAL, Operands, Value, about_sets, about_unnamed, about_waiting, are_alike, argument_of,
     is_set, phrase, taker, why_not_compared,
 };
+use crate::place::has_comment_before;
 use crate::rules::{is_mark_of, mark_at, mark_before, name_at, put_declared};
 use crate::spelling::{Known, similar_declaration};
 use crate::teller::{Piece, Teller};
 use cp_scope::{Base, Detail, FoundValue, Meaning, Parameter, Role, ValueType, values_of};
 use cp_text::Mark;
+use cp_tree::SystemKind;
 
 /// The most fields or entries that are told.
 const MOST_MEMBERS: usize = 6;
@@ -166,6 +168,14 @@ impl<'a> Saying<'a> {
             "@ takes @, but @",
             &[Piece::Words(taker), Piece::Words(wanted), Piece::Is(value)],
         );
+        self.put_about_queue(value.value_type);
+    }
+
+    /// Says of a queue what asks about it.
+    fn put_about_queue(&mut self, value_type: ValueType) {
+        if matches!(value_type, ValueType::Queue) {
+            self.teller.put(about_waiting("empty"));
+        }
     }
 
     /// Says what the routine of the language takes whose name is at a token.
@@ -176,8 +186,14 @@ impl<'a> Saying<'a> {
                 "@ takes a queue variable, and not one in parentheses",
                 &[Piece::Tokens(single(routine))],
             ),
-            ("delay" | "continue" | "empty", _) => {
+            ("delay" | "continue" | "empty", found) => {
                 self.put_taken(name, "a queue variable", argument);
+                if name != "empty" && !self.declarations.is_in(SystemKind::Monitor, routine) {
+                    self.say("; @ stands only in a monitor", &[Piece::Words(name)]);
+                } else if matches!(found, ValueType::Array(_)) {
+                    self.teller
+                        .put(": one of its elements is named by an index, as in q[1]");
+                }
             }
             _ => self.put_taken(name, argument_of(name), argument),
         }
@@ -246,6 +262,7 @@ impl<'a> Saying<'a> {
             return;
         }
         self.say("@ and @", &[Piece::Is(left), Piece::Is(right)]);
+        self.put_about_queue(left.value_type);
         if left.value_type.is_ordinal() && are_alike(left.value_type, right.value_type) {
             self.put_own_type(right);
         }
@@ -349,10 +366,20 @@ impl<'a> Saying<'a> {
         match heading {
             Some(heading) => self.put_parameters(heading, taken),
             None => {
-                let more = about_waiting(self.teller.name());
+                let more = if self.is_before_comment() {
+                    ": what stands between double quotes is a comment, and there are no strings"
+                } else {
+                    about_waiting(self.teller.name())
+                };
                 self.teller.put(more);
             }
         }
+    }
+
+    /// Whether a comment follows the token.
+    fn is_before_comment(&self) -> bool {
+        let (source, tokens) = (self.teller.source, self.teller.tokens);
+        has_comment_before(source, tokens, self.teller.at.saturating_add(1))
     }
 
     /// Says what the parameters of a routine or a system type are, where it has some.
@@ -421,6 +448,14 @@ impl<'a> Saying<'a> {
             _ => "@ is @, and has no value",
         };
         self.put_role_of(sentence, whole, role);
+        let is_given = is_mark_of(
+            self.teller.tokens,
+            whole.from.saturating_sub(1),
+            &[Mark::Becomes, Mark::OpenParenthesis, Mark::Comma],
+        );
+        if is_given && matches!(role, Role::Kind) {
+            self.put_component_meant(whole);
+        }
     }
 
     /// Says that a statement calls no procedure.
@@ -437,12 +472,15 @@ impl<'a> Saying<'a> {
             _ => "@ is @, and can't be called",
         };
         self.put_role(sentence, role);
+        if matches!(role, Role::Kind) {
+            self.put_component_meant(self.name());
+        }
     }
 
     /// Says that `init` starts no component.
     fn put_no_component(&mut self, role: Role) {
         let sentence = match role {
-            Role::Kind => "@ is a type, and init starts a variable of it",
+            Role::Kind => "@ is @, and init starts components alone",
             Role::Value(ValueType::Array(at)) if self.has_fixed_elements(at) => {
                 "@ is an array, and init takes its elements one by one"
             }
@@ -456,6 +494,9 @@ impl<'a> Saying<'a> {
             _ => "@ is no component variable of this block, so that init can't start it",
         };
         self.put_role(sentence, role);
+        if matches!(role, Role::Kind) {
+            self.put_component_meant(self.name());
+        }
     }
 
     /// Whether the elements of the array that is written at a token are queues or components.
@@ -482,6 +523,7 @@ impl<'a> Saying<'a> {
             Role::Value(value_type) => {
                 let whole = Value { extent, value_type };
                 self.say("@, and no array: it takes no index", &[Piece::Is(whole)]);
+                self.put_set_operations(extent, value_type);
             }
             _ => self.put_role_of("@ is @, and has no elements", extent, before),
         }
@@ -500,13 +542,43 @@ impl<'a> Saying<'a> {
                     _ => "@, and no record: it has no fields",
                 };
                 self.say(sentence, &[Piece::Is(Value { extent, value_type })]);
+                self.put_set_operations(extent, value_type);
             }
-            Role::Kind => self.put_role_of(
-                "@ is @: what stands before a period is a variable of such a type",
-                extent,
-                before,
-            ),
+            Role::Kind => self.put_no_fields_of_type(extent, name),
             _ => self.put_role_of("@ is @, and has no fields", extent, before),
+        }
+    }
+
+    /// Says of a set what is done with it.
+    fn put_set_operations(&mut self, extent: Extent, value_type: ValueType) {
+        if is_set(value_type) {
+            let whole = Piece::Tokens(extent);
+            self.say(
+                "; @ or [x] is it with x, @ - [x] is it without x, and x in @ asks whether x is in it",
+                &[whole, whole, whole],
+            );
+        }
+    }
+
+    /// Says of a type that it has no fields, and how what may be meant is named.
+    fn put_no_fields_of_type(&mut self, extent: Extent, name: usize) {
+        let (sentence, base) = match self.declarations.type_named_at(extent.from) {
+            Some(ValueType::Record(_) | ValueType::Component(..)) => (
+                "@ is @: what stands before a period is a variable of such a type",
+                None,
+            ),
+            Some(ValueType::Ordinal(range)) if matches!(range.base, Base::Enumeration(..)) => (
+                "@ is @: the constants of an enumeration are named alone",
+                Some(range.base),
+            ),
+            _ => ("@ is @, and has no fields", None),
+        };
+        self.put_role_of(sentence, extent, Role::Kind);
+        if let Some(base) = base
+            && let Some(Meaning::Constant(other, _)) = self.declarations.meaning_at(name)
+            && base.is_same(other)
+        {
+            self.say(", as @", &[Piece::Tokens(single(name))]);
         }
     }
 
@@ -524,6 +596,20 @@ impl<'a> Saying<'a> {
         match similar_declaration(&self.teller, &self.declarations, known) {
             Some(other) => put_declared(&mut self.teller, other),
             None => self.put_members(known),
+        }
+    }
+
+    /// Says which entries the component has that is the argument of the token.
+    pub fn put_entries_given(&mut self) {
+        let argument = self.teller.at.saturating_add(2);
+        let name = self.teller.name_at(argument);
+        if self.teller.ahead(1) == Some(Mark::OpenParenthesis)
+            && let Some(one) = self.declarations.find(name, argument)
+            && one.what.as_system().is_none()
+            && let Some(ValueType::Component(_, system)) = self.declarations.structure_of(&one)
+        {
+            self.say("; @", &[Piece::Tokens(single(argument))]);
+            self.put_members(Known::EntryOf(system));
         }
     }
 

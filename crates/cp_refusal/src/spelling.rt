@@ -2,11 +2,14 @@
 
 use crate::declared::Declarations;
 use crate::extent::{Extent, between, closing, is_field};
-use crate::foreign::instead_of;
+use crate::foreign::{instead_of, is_declared};
+use crate::place::end;
 use crate::rules::{mark_before, name_at};
 use crate::teller::Teller;
-use cp_text::{Mark, Tokens};
-use std::alloc::AllocError;
+use cp_drops::drop_tree;
+use cp_text::{Mark, ScanCause, Tokens, scan};
+use cp_tree::{ParseFault, parse};
+use std::alloc::{AllocError, Global};
 
 // What is left of two words where they first differ.
 fn after_prefix<'a>(one: &'a [u8], other: &'a [u8]) -> (&'a [u8], &'a [u8]) {
@@ -106,7 +109,14 @@ impl Known {
         at: usize,
     ) -> Option<usize> {
         match self {
-            Known::Visible => Some(declarations.find(name, at)?.at),
+            Known::Visible => {
+                let found = declarations.find(name, at)?.at;
+                if declarations.fits(found, at) {
+                    Some(found)
+                } else {
+                    None
+                }
+            }
             Known::FieldOf(record) if is_field(declarations.tokens, record, place) => Some(place),
             Known::FieldOf(_) => None,
             Known::EntryOf(system) => declarations.entry(system, name),
@@ -159,6 +169,38 @@ pub fn similar_standard_name(name: &str) -> Option<&'static str> {
     similar_word(STANDARD, name)
 }
 
+/// How many tokens the parser reads where this word stands in the place of one.
+fn read_with(teller: &Teller, at: usize, word: &str) -> Result<usize, AllocError> {
+    let Some(range) = teller.tokens.range(at) else {
+        return Ok(0);
+    };
+    let most = teller.source.len();
+    let mut draft = Vec::new(teller.alloc);
+    draft.extend_from_slice(&teller.source[..range.from.min(most)])?;
+    draft.extend_from_slice(word.as_bytes())?;
+    draft.extend_from_slice(&teller.source[end(range).min(most)..])?;
+    tokens_read(teller.alloc, &draft)
+}
+
+/// How many tokens of a source the parser reads before one that it refuses; of a program more than there are.
+fn tokens_read(alloc: Global, source: &[u8]) -> Result<usize, AllocError> {
+    let tokens = match scan(alloc, source) {
+        Ok(tokens) => tokens,
+        Err(fault) if fault.cause == ScanCause::Memory => return Err(AllocError),
+        Err(_) => return Ok(0),
+    };
+    match parse(alloc, &tokens) {
+        Ok(tree) => {
+            drop_tree(tree);
+            Ok(usize::MAX)
+        }
+        Err(ParseFault::Memory) => Err(AllocError),
+        Err(
+            ParseFault::Unexpected(at) | ParseFault::OutsideProfile(at) | ParseFault::TooDeep(at),
+        ) => Ok(at),
+    }
+}
+
 /// How many tokens more have to be read where a reserved word stands for a name.
 const READ_ON: usize = 3;
 
@@ -168,8 +210,9 @@ pub fn misspelt_word(teller: &Teller) -> Result<Option<(usize, &'static str)>, A
     for place in (0..last).rev() {
         let name = teller.name_at(place);
         if let Some(word) = similar_word(RESERVED, name)
+            && !is_declared(teller, name)
             && instead_of(name).is_empty()
-            && teller.reads_with(place, word)? >= teller.at.saturating_add(READ_ON)
+            && read_with(teller, place, word)? >= teller.at.saturating_add(READ_ON)
         {
             return Ok(Some((place, word)));
         }

@@ -2,17 +2,14 @@
 
 use crate::extent::{Extent, open_before, single};
 use crate::operands::{Value, phrase};
-use crate::page::push_tokens;
-use crate::place::{end, text_in};
+use crate::page::{line_of, push_tokens};
+use crate::place::text_in;
 use crate::rules::{mark_at, name_at};
-use cp_drops::drop_tree;
 use cp_prose::Prose;
-use cp_text::{Mark, ScanCause, Tokens, scan};
-use cp_tree::{ParseFault, parse};
-use std::alloc::{AllocError, Global};
+use cp_text::{Mark, Tokens};
+use std::alloc::Global;
 
-/// A source that is refused at a token, and what has been told of it. It is asked whether other tokens would be accepted; where memory is refused
-/// for that, the text is refused.
+/// A source that is refused at a token, and what has been told of it.
 #[derive(Drop)]
 pub struct Teller<'a> {
     pub alloc: Global,
@@ -20,15 +17,8 @@ pub struct Teller<'a> {
     pub tokens: &'a Tokens,
     pub at: usize,
     pub text: Prose,
-    /// What was found of the tokens that were asked for.
-    answers: Vec<Answer>,
-}
-
-/// Whether a program can go on with a token in the place of the one that is refused.
-#[derive(Clone, Copy, Drop)]
-struct Answer {
-    word: &'static str,
-    is_taken: bool,
+    /// The words that the parser looks for in the place of the token; none where a rule is broken.
+    pub wanted: Vec<&'static str>,
 }
 
 /// What stands in a sentence for a `@`.
@@ -47,9 +37,6 @@ pub enum Piece<'a> {
     Number(i64),
 }
 
-/// What ends an annotation.
-const CLOSING: &str = "*)\"";
-
 impl<'a> Teller<'a> {
     pub fn new(alloc: Global, source: &'a [u8], tokens: &'a Tokens, at: usize) -> Teller<'a> {
         Teller {
@@ -58,7 +45,7 @@ impl<'a> Teller<'a> {
             tokens,
             at,
             text: Prose::new(alloc),
-            answers: Vec::new(alloc),
+            wanted: Vec::new(alloc),
         }
     }
 
@@ -119,8 +106,8 @@ impl<'a> Teller<'a> {
         self.text.put(words);
     }
 
-    /// Appends a sentence, in which each `@` stands for the next of some pieces, `%` for the token before the one that is refused, `#` for this one, `~` for the
-    /// next and `^` for the one behind that.
+    /// Appends a sentence, in which each `@` stands for the next of some pieces, `%` for the token before the one that is refused, `$` and `&` for those before
+    /// that, `#` for this one, `~` for the next and `^` for the one behind that.
     pub fn say(&mut self, sentence: &str, pieces: &[Piece]) {
         let mut told: usize = 0;
         for byte in sentence.as_bytes() {
@@ -135,6 +122,8 @@ impl<'a> Teller<'a> {
                 b'#' => self.put_tokens(single(self.at)),
                 b'~' => self.put_tokens(single(self.at.saturating_add(1))),
                 b'^' => self.put_tokens(single(self.at.saturating_add(2))),
+                b'$' => self.put_tokens(single(self.at.saturating_sub(2))),
+                b'&' => self.put_tokens(single(self.at.saturating_sub(3))),
                 _ => self.text.put_char(char::from(*byte)),
             }
         }
@@ -161,8 +150,7 @@ impl<'a> Teller<'a> {
     }
 
     fn put_line(&mut self, at: usize) {
-        let line = self.tokens.line(at.min(self.tokens.count()));
-        self.text.put_display(line);
+        self.text.put_display(line_of(self.tokens, at));
     }
 
     /// Appends some tokens as they are written.
@@ -171,80 +159,12 @@ impl<'a> Teller<'a> {
     }
 
     /// Whether a program can go on with this token in the place of the one that is refused.
-    pub fn takes(&mut self, word: &'static str) -> bool {
-        if let Some(answer) = self.answers.iter().find(|answer| answer.word == word) {
-            return answer.is_taken;
-        }
-        let Ok(is_taken) = self.may_stand(word) else {
-            self.text.refuse();
-            return false;
-        };
-        if self.answers.push(Answer { word, is_taken }).is_err() {
-            self.text.refuse();
-        }
-        is_taken
+    pub fn takes(&self, word: &str) -> bool {
+        self.wanted.iter().any(|wanted| *wanted == word)
     }
 
     /// Whether a program can go on with one of these tokens in its place.
-    pub fn takes_one_of(&mut self, words: &[&'static str]) -> bool {
-        for word in words {
-            if self.takes(word) {
-                return true;
-            }
-        }
-        false
-    }
-
-    /// Whether the parser refuses none of the tokens up to this one in the place of the one that is refused: the source is read up to there, and this word.
-    fn may_stand(&self, word: &'static str) -> Result<bool, AllocError> {
-        let mut draft = Vec::new(self.alloc);
-        draft.extend_from_slice(self.around(self.at).0)?;
-        draft.extend_from_slice(b" ")?;
-        draft.extend_from_slice(word.as_bytes())?;
-        if self.is_in_annotation() && word != CLOSING {
-            draft.extend_from_slice(CLOSING.as_bytes())?;
-        }
-        Ok(tokens_read(self.alloc, &draft)? > self.at)
-    }
-
-    /// How many tokens the parser reads where this word stands in the place of one.
-    pub fn reads_with(&self, at: usize, word: &'static str) -> Result<usize, AllocError> {
-        let (before, behind) = self.around(at);
-        let mut draft = Vec::new(self.alloc);
-        draft.extend_from_slice(before)?;
-        draft.extend_from_slice(word.as_bytes())?;
-        draft.extend_from_slice(behind)?;
-        tokens_read(self.alloc, &draft)
-    }
-
-    /// What stands before a token, and behind it.
-    fn around(&self, at: usize) -> (&'a [u8], &'a [u8]) {
-        let most = self.source.len();
-        match self.tokens.range(at) {
-            Some(range) => (
-                &self.source[..range.from.min(most)],
-                &self.source[end(range).min(most)..],
-            ),
-            None => (self.source, &[]),
-        }
-    }
-}
-
-/// How many tokens of a source the parser reads before one that it refuses; of a program more than there are.
-fn tokens_read(alloc: Global, source: &[u8]) -> Result<usize, AllocError> {
-    let tokens = match scan(alloc, source) {
-        Ok(tokens) => tokens,
-        Err(fault) if fault.cause == ScanCause::Memory => return Err(AllocError),
-        Err(_) => return Ok(0),
-    };
-    match parse(alloc, &tokens) {
-        Ok(tree) => {
-            drop_tree(tree);
-            Ok(usize::MAX)
-        }
-        Err(ParseFault::Memory) => Err(AllocError),
-        Err(
-            ParseFault::Unexpected(at) | ParseFault::OutsideProfile(at) | ParseFault::TooDeep(at),
-        ) => Ok(at),
+    pub fn takes_one_of(&self, words: &[&str]) -> bool {
+        words.iter().any(|word| self.takes(word))
     }
 }

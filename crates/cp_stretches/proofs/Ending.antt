@@ -1,5 +1,5 @@
 -- What the end of a leg leaves.
-use Rattle.std.proofs.Common.{◌≡◌, ◌∙◌, ◌+◌, ◌++◌, ℕ, suc, false, List, [], ap, append-nil, arith, refl, sym}
+use Rattle.std.proofs.Common.{◌≡◌, ◌∙◌, ◌+◌, ◌++◌, ℕ, suc, false, List, [], ap, append-nil, arith, refl}
 use Rattle.cp_slots.specs.Tables.{Tables}
 use Rattle.cp_machine.specs.declared.discipline.Discipline.{Discipline}
 use Rattle.cp_machine.specs.declared.shown.Shown.{Shown}
@@ -7,7 +7,7 @@ use Rattle.cp_machine.specs.Machine.{Machine}
 use Rattle.cp_machine.specs.Statements.{Stepped}
 use Rattle.cp_machine.specs.Step.{is_local, step_at}
 use Rattle.cp_machine.proofs.StepKeeps.{step_keeps}
-use Rattle.cp_run.specs.Fold.{Fold, fold_stretch, fold_turn}
+use Rattle.cp_run.specs.Fold.{fold_stretch, fold_turn}
 use Rattle.cp_run.specs.Run.{turn_after}
 use Rattle.cp_run.specs.Silent.{silent_slots, without_output}
 use Rattle.cp_run.proofs.LocalOutput.{local_output}

@@ -5,3 +5,4 @@ pub mod Growing
 pub mod Going
 pub mod Becoming
 pub mod Knowing
+pub mod Admitting

@@ -1,14 +1,14 @@
 -- Statuses by their numbers in a store.
 use Rattle.std.proofs.Common.{◌≡◌, ◌∙◌, ◌+◌, ◌<◌, ℕ, zero, suc, Bool, true, false, List, Option, None, Some, ap, arith, filter, length, refl, subst, sym}
 use Rattle.std.specs.Prelude.{◌==◌, ◌≤◌, ◌||◌, IfSome}
-use Rattle.std.specs.List.{list_any, range_with_len}
+use Rattle.std.specs.List.{range_with_len}
 use Rattle.std.proofs.lemmas.Bool.{eqb-true, eq-eqb, false≢true}
 use Rattle.std.proofs.lemmas.List.Elements.{All-from_get_or}
 use Rattle.std.proofs.lemmas.List.Folds.{list_any_at, list_any_none}
 use Rattle.cp_slots.specs.Tables.{Tables}
 use Rattle.cp_machine.specs.declared.process.Status.{Status}
 use Rattle.cp_machine.specs.declared.process.Status.TheVariants.{AtGate, Delayed, Ended, Ready, Unstarted}
-use Rattle.cp_machine.specs.Machine.{Machine, Thread, in_line, in_line_of, is_at_gate, is_pending, is_ready, is_ready_status, is_some, is_waiting, no_thread, thread_at, waits}
+use Rattle.cp_machine.specs.Machine.{Machine, Thread, in_line, in_line_of, is_at_gate, is_pending, is_ready, is_ready_status, is_some, is_waiting, no_thread, waits}
 use Rattle.cp_run.specs.Run.{may, those_below}
 use Rattle.cp_run.specs.Slots.{processes_of, slots}
 use Rattle.cp_run.proofs.Choosing.{those_same, wanted_line, wanted_ready}
@@ -20,7 +20,7 @@ use Rattle.cp_parts.specs.declared.placing.PlaceTable.{PlaceTable}
 use Rattle.cp_parts.specs.declared.store.PartStore.{PartStore}
 use Rattle.cp_parts.specs.Coded.{option_code, status_code}
 use Rattle.cp_parts.specs.Parts.{IsStatusNumber}
-use Rattle.cp_parts.proofs.Codes.{status_one}
+use Rattle.cp_parts.proofs.Codes.{option_one, status_one}
 use Rattle.cp_parts.proofs.Pieces.{one_number, one_piece}
 use Rattle.cp_stretches.specs.declared.numbers.StatusNumbers.{StatusNumbers}
 use Rattle.cp_stretches.specs.Numbers.{AreStatusNumbers, CanRead, rests_at}
@@ -143,6 +143,17 @@ module _ (r : Tables) (s : PartStore) (t : PlaceTable) (n : StatusNumbers) (m : 
 
   pub is_wanted : (number_at row t.processes ≡ 0 → ⊥) → is_pending m ≡ true
   is_wanted h = something_coded m.pending (λ e. h (can.stands.pending ∙ e))
+
+  -- the monitor is one that a byte can tell
+  pub pending_few : number_at row t.processes ≤ 256
+  pending_few = go m.pending can.fits.pending can.stands.pending
+    where
+      go : (p : Option ℕ) → IfSome p (λ monitor. monitor < r.monitors) → number_at row t.processes ≡ option_code p → number_at row t.processes ≤ 256
+      go None h e = omega (arith, e)
+      go (Some k) h e = omega (arith, e, h, can.placed.monitors, t.few)
+
+  pub pending_is : (found : Option ℕ) → option_code found ≡ number_at row t.processes → m.pending ≡ found
+  pending_is found e = option_one m.pending found (sym can.stands.pending ∙ sym e)
 
   pending_monitor : (monitor : ℕ) (p : Option ℕ) → option_code p ≡ suc monitor → p ≡ Some monitor
   pending_monitor monitor None e = absurd (omega (arith, e))

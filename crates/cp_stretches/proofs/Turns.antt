@@ -1,5 +1,5 @@
 -- What comes next, by those who are ready.
-use Rattle.std.proofs.Common.{◌≡◌, ◌∙◌, ℕ, Bool, true, false, if◌then◌else◌, List, [], ◌∷◌, ap, refl, subst, sym}
+use Rattle.std.proofs.Common.{◌≡◌, ℕ, Bool, true, false, if◌then◌else◌, List, [], ◌∷◌, ap, refl, subst}
 use Rattle.cp_slots.specs.Tables.{Tables}
 use Rattle.cp_machine.specs.declared.discipline.Discipline.{Discipline}
 use Rattle.cp_machine.specs.declared.event.Event.{Event}
@@ -27,6 +27,9 @@ module _ (r : Tables) (discipline : Discipline) (m : Machine) (p : ℕ) where
   silent_at : (kernel : Bool) → turn_at (slots r discipline) m kernel p ≡ turn_at (silent_slots r discipline) m kernel p
   silent_at kernel = ap (λ t. if is_pending m then Due else t) (silent_among kernel (those_below (processes_of r) (is_ready m)))
 
+  pub silent_settled : settled_turn (slots r discipline) m true p ≡ settled_turn (silent_slots r discipline) m true p
+  silent_settled = silent_among true (those_below (processes_of r) (is_ready m))
+
   pub silent_after : (e : Event) → turn_after (slots r discipline) m p e ≡ turn_after (silent_slots r discipline) m p e
   silent_after event.Local = silent_at false
   silent_after (event.Kernel call) = silent_at true
@@ -45,12 +48,15 @@ module _ (r : Tables) (discipline : Discipline) (m : Machine) (p : ℕ) where
   ready_among (q ∷ []) is = those_may (processes_of r) (is_ready m) q (subst (IsAmong q) is (Here []))
   ready_among (q ∷ s ∷ qs) is = tt
 
+  pub ready_settled : IfGoes (settled_turn (slots r discipline) m true p) (λ q. is_ready m q ≡ true)
+  ready_settled = ready_among (those_below (processes_of r) (is_ready m)) refl
+
   ready_at : IfGoes (turn_at (slots r discipline) m true p) (λ q. is_ready m q ≡ true)
   ready_at = by (is_pending m)
     where
       by : (b : Bool) → IfGoes (if b then Due else settled_turn (slots r discipline) m true p) (λ q. is_ready m q ≡ true)
       by true = tt
-      by false = ready_among (those_below (processes_of r) (is_ready m)) refl
+      by false = ready_settled
 
   pub ready_after : (e : Event) → is_local e ≡ false → IfGoes (turn_after (slots r discipline) m p e) (λ q. is_ready m q ≡ true)
   ready_after event.Local h = absurd (cc)
@@ -59,7 +65,7 @@ module _ (r : Tables) (discipline : Discipline) (m : Machine) (p : ℕ) where
   ready_after (event.Fault e) h = tt
   ready_after event.OutputFull h = tt
 
-  always : (turn : Turn) (P : Type 0) → P → IfGoes turn (λ q. P)
+  pub always : (turn : Turn) (P : Type 0) → P → IfGoes turn (λ q. P)
   always (Over kind) P h = tt
   always Due P h = tt
   always (Goes q) P h = h

@@ -1,9 +1,9 @@
 -- Where a stretch leads to, by rows.
-use Rattle.std.specs.Prelude.{◌≡◌, ◌++◌, List, true, false, ℕ}
+use Rattle.std.specs.Prelude.{◌≡◌, ◌++◌, List, Some, true, false, ℕ}
 use Rattle.cp_slots.specs.Tables.{Tables}
 use Rattle.cp_machine.specs.declared.discipline.Discipline.{Discipline}
 use Rattle.cp_machine.specs.declared.shown.Shown.{Shown}
-use Rattle.cp_machine.specs.Machine.{Machine, is_pending, is_ready}
+use Rattle.cp_machine.specs.Machine.{Machine, in_line, is_pending, is_ready}
 use Rattle.cp_machine.specs.Step.{step_at}
 use Rattle.cp_run.specs.declared.outcome.Halt.{Halt}
 use Rattle.cp_run.specs.declared.outcome.Halt.TheVariants.{Choice, Ended}
@@ -35,17 +35,34 @@ pub record LeadsTo (r : Tables) (discipline : Discipline) (s : PartStore) (t : P
 
 -- ---- a stretch that is made leg by leg
 
--- a process may make a leg in the machine of a row
-pub record MayGo (r : Tables) (discipline : Discipline) (s : PartStore) (t : PlaceTable) (m : Machine) (row : List ℕ) (pid : ℕ) : Type 0 where
+-- a machine of this row, before which this comes next: who goes on is ready, and nothing is pending then
+pub record StandsAt (r : Tables) (discipline : Discipline) (s : PartStore) (t : PlaceTable) (m : Machine) (turn : Turn) (row : List ℕ) : Type 0 where
   pub machine : StandsFor r discipline s t m row
-  pub ready : is_ready m pid ≡ true
-  pub free : is_pending m ≡ false
+  pub ready : IfGoes turn (λ q. is_ready m q ≡ true)
+  pub free : IfGoes turn (λ q. is_pending m ≡ false)
 
--- where so many steps are left, the stretch of a process leads to a machine with this row, this comes next, and so many are left then
-pub record GoesOn (r : Tables) (discipline : Discipline) (s : PartStore) (t : PlaceTable) (m : Machine) (pid left : ℕ) (before : List Shown) (turn : Turn) (rest : ℕ) (row : List ℕ) (shown : List Shown) : Type 0 where
+-- a process may make a leg in the machine of a row
+abbrev pub MayGo : Tables → Discipline → PartStore → PlaceTable → Machine → (row : List ℕ) → (pid : ℕ) → Type 0
+MayGo r discipline s t m row pid = StandsAt r discipline s t m (Goes pid) row
+
+-- where so many steps are left and this comes next, a stretch leads to a machine with this row, that comes next, and so many are left then
+pub record GoesOn (r : Tables) (discipline : Discipline) (s : PartStore) (t : PlaceTable) (m : Machine) (first : Turn) (left : ℕ) (before : List Shown) (turn : Turn) (rest : ℕ) (row : List ℕ) (shown : List Shown) : Type 0 where
   pub after : Machine
-  pub stands : StandsFor r discipline s t after row
-  pub ready : IfGoes turn (λ q. is_ready after q ≡ true)
-  pub free : IfGoes turn (λ q. is_pending after ≡ false)
-  pub walked : walked (silent_slots r discipline) left m (Goes pid) ≡ walked (silent_slots r discipline) rest after turn
-  pub told : fold_stretch (silent_slots r discipline) (shower r) left m pid before ≡ fold_turn (fold_stretch (silent_slots r discipline) (shower r) rest after) turn shown
+  pub stands : StandsAt r discipline s t after turn row
+  pub walked : walked (silent_slots r discipline) left m first ≡ walked (silent_slots r discipline) rest after turn
+  pub told : fold_turn (fold_stretch (silent_slots r discipline) (shower r) left m) first before ≡ fold_turn (fold_stretch (silent_slots r discipline) (shower r) rest after) turn shown
+
+-- ---- how it begins
+
+-- a process waits in the line of the pending monitor, in the machine of a row
+pub record MayEnter (r : Tables) (discipline : Discipline) (s : PartStore) (t : PlaceTable) (m : Machine) (row : List ℕ) (pid monitor : ℕ) : Type 0 where
+  pub machine : StandsFor r discipline s t m row
+  pub pending : m.pending ≡ Some monitor
+  pub waits : in_line m pid ≡ true
+
+-- the stretch after a choice that a machine takes is one before which this comes next, in a machine with this row; the choice itself displays nothing
+pub record Begins (r : Tables) (discipline : Discipline) (s : PartStore) (t : PlaceTable) (m : Machine) (pid : ℕ) (turn : Turn) (row : List ℕ) : Type 0 where
+  pub after : Machine
+  pub stands : StandsAt r discipline s t after turn row
+  pub walked : (steps : ℕ) → walked_chosen (silent_slots r discipline) steps m pid ≡ walked (silent_slots r discipline) steps after turn
+  pub told : (steps : ℕ) (shown : List Shown) → fold_chosen (silent_slots r discipline) (shower r) steps m pid shown ≡ fold_turn (fold_stretch (silent_slots r discipline) (shower r) steps after) turn shown

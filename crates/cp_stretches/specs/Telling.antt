@@ -1,5 +1,5 @@
 -- What is known of legs, in use.
-use Rattle.std.specs.Prelude.{◌≡◌, ◌+◌, ◌<◌, ◌≤◌, ℕ, All, List, length}
+use Rattle.std.specs.Prelude.{◌≡◌, ◌+◌, ◌<◌, ◌≤◌, ℕ, All, IfSome, List, length}
 use Rattle.cp_slots.specs.Tables.{Tables}
 use Rattle.cp_machine.specs.declared.discipline.Discipline.{Discipline}
 use Rattle.cp_states.specs.Pieces.{piece_at}
@@ -8,7 +8,11 @@ use Rattle.cp_parts.specs.declared.store.PartStore.{PartStore}
 use Rattle.cp_parts.specs.Placed.{place_count}
 use Rattle.cp_effects.specs.declared.table.EffectTable.{EffectTable}
 use Rattle.cp_effects.specs.declared.table.KnownLeg.{KnownLeg}
+use Rattle.cp_effects.specs.Changes.{numbers_at}
 use Rattle.cp_effects.specs.Known.{IsKeyOf, Tells, writes_of}
+use Rattle.cp_stretches.specs.declared.legs.LegKey.{LegKey}
+use Rattle.cp_stretches.specs.declared.legs.Looked.{Looked}
+use Rattle.cp_stretches.specs.declared.legs.Looked.TheVariants.{Leg, Nothing, TooMuch}
 
 -- a leg that is known tells of each machine of a row what its own leg comes to, and the numbers that it changes are in the table
 pub record IsTold (s : PartStore) (t : PlaceTable) (r : Tables) (discipline : Discipline) (table : EffectTable) (row : List ℕ) (pid : ℕ) (e : KnownLeg) : Type 0 where
@@ -22,3 +26,13 @@ pub record HasKey (table : EffectTable) (key pid : ℕ) (places numbers : List �
   pub scope : ℕ
   pub keyed : IsKeyOf table key pid scope numbers
   pub are : piece_at table.scopes.items.items table.scopes.ends.items scope ≡ places
+
+-- the key of a process, the places of a number, and the numbers that a row has there
+abbrev pub IsSought : EffectTable → PlaceTable → (row : List ℕ) → (pid : ℕ) → LegKey → Type 0
+IsSought table t row pid k = IsKeyOf table k.key pid k.scope (numbers_at t (piece_at table.scopes.items.items table.scopes.ends.items k.scope) row)
+
+-- what holds of the key where nothing is known of a leg that was looked for
+abbrev pub IfSought : Looked → (LegKey → Type 0) → Type 0
+IfSought (Nothing sought) P = IfSome sought P
+IfSought TooMuch P = Unit {0}
+IfSought (Leg e) P = Unit {0}

@@ -1,4 +1,4 @@
-//! What is known of the states of a program and of the legs of its processes.
+//! What is known of the states of a program, of the legs of its processes, and of admissions.
 
 ghost use Rattle.std.specs.Prelude.{◌≡◌, ◌<◌, All, length, IfOk, IfSome};
 ghost use Rattle.cp_slots.specs.Tables.{Tables};
@@ -15,7 +15,7 @@ ghost use Rattle.cp_stretches.specs.Cached.{IsCache, IsStanding, StandsFor};
 use crate::legs::LegTable;
 use crate::numbers::StatusNumbers;
 use arrayvec::ArrayVec;
-use cp_effects::{Effect, write_row};
+use cp_effects::{AdmissionTable, Effect, write_row};
 use cp_machine::State;
 use cp_parts::{PartStore, PlaceTable};
 use cp_run::Job;
@@ -29,17 +29,18 @@ pub struct Standing {
     pub row: Vec<u32>,
 }
 
-/// What is known of the parts of states, and of legs.
+/// What is known of the parts of states, of legs, and of admissions.
 #[derive(Drop)]
 pub struct LegCache {
     pub table: PlaceTable,
     pub store: PartStore,
     pub numbers: StatusNumbers,
     pub legs: LegTable,
+    pub admissions: AdmissionTable,
 }
 
 impl LegCache {
-    /// No part and no leg is known.
+    /// No part, no leg and no admission is known.
     pub fn new(alloc: Global, program: &Resolved) -> Result<LegCache, AllocError>
         ensures { IfOk result (λ cache. (discipline : Discipline) → IsCache program.now discipline cache) }
     {
@@ -53,6 +54,7 @@ impl LegCache {
             store,
             numbers,
             legs: LegTable::new(alloc),
+            admissions: AdmissionTable::new(alloc),
         })
     }
 
@@ -105,6 +107,7 @@ impl LegCache {
         ensures same { standing.new.state ≡ standing.old.state }
         ensures kept { KeepStore self.old.store self.new.store }
         ensures table { self.new.table ≡ self.old.table }
+        ensures legs { self.new.legs ≡ self.old.legs }
     {
         let _ = job;
         let row = self.store.row_of(alloc, &self.table, &standing.state)?;
@@ -128,6 +131,7 @@ impl LegCache {
         ensures standing { IfOk result (λ _. IsStanding job.now.program.now self.new.store self.new.table standing.new) }
         ensures kept { KeepStore self.old.store self.new.store }
         ensures table { self.new.table ≡ self.old.table }
+        ensures legs { self.new.legs ≡ self.old.legs }
     {
         let Some(effect) = made else {
             return self.find_row(alloc, job, standing);

@@ -1,6 +1,7 @@
 //! Stretches from one choice to the next, by the legs that are known.
 #![tactic(auto)]
 
+pub mod admission;
 pub mod cache;
 pub mod legs;
 pub mod numbers;

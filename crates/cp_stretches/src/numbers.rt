@@ -12,11 +12,13 @@ ghost use Rattle.cp_run.specs.Run as run;
 ghost use Rattle.cp_run.specs.Slots.{processes_of, slots};
 ghost use Rattle.cp_states.specs.Numbers.{number_at};
 ghost use Rattle.cp_parts.specs.declared.store.PartStore.{PartStore};
+ghost use Rattle.cp_parts.specs.Coded.{option_code};
 ghost use Rattle.cp_parts.specs.Parts.{IsStatusNumber, KeepStore};
 ghost use Rattle.cp_stretches.specs.Numbers.{AreStatusNumbers, CanRead, rests_at};
 
 use arrayvec::ArrayVec;
 use cp_machine::{Event, Readiness, Status};
+use cp_parts::decoding::option_of;
 use cp_parts::{PartStore, PlaceTable};
 use cp_run::{OutcomeKind, Turn};
 use std::alloc::{AllocError, Global};
@@ -65,6 +67,16 @@ pub fn is_free(table: &PlaceTable, row: &[u32]) -> bool
     ensures { result ≡ (number_at row.now table.now.processes == 0) }
 {
     row[table.pending_position()] == 0
+}
+
+/// The monitor that is pending in the state of a row.
+#[inline(always)]
+pub fn pending_monitor(table: &PlaceTable, row: &[u32]) -> Option<u8>
+    requires long { table.now.processes < length row.now }
+    requires few { number_at row.now table.now.processes ≤ 256 }
+    ensures { option_code result ≡ number_at row.now table.now.processes }
+{
+    option_of(row[table.pending_position()])
 }
 
 // One process more is ready.
@@ -149,9 +161,9 @@ impl StatusNumbers {
         }
     }
 
-    // What comes next where nothing is pending and the last step was a kernel call.
+    /// What comes next where nothing is pending and the last step was a kernel call, or a process was let in.
     #[inline(always)]
-    fn settled_turn(&self, table: &PlaceTable, row: &[u32]) -> Turn
+    pub fn settled_turn(&self, table: &PlaceTable, row: &[u32]) -> Turn
         requires { table.now.processes < length row.now }
         ensures { (r : Tables) (s : PartStore) (m : Machine) (discipline : Discipline) (process : ℕ) → CanRead r s table.now self.now m row.now → result ≡ run.settled_turn (slots r discipline) m true process }
     {

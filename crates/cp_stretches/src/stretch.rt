@@ -15,12 +15,12 @@ ghost use Rattle.cp_effects.specs.Changes.{written};
 ghost use Rattle.cp_effects.specs.Known.{writes_of};
 ghost use Rattle.cp_stretches.specs.Cached.{IsCache, IsStanding, StandsFor};
 ghost use Rattle.cp_stretches.specs.Numbers.{CanRead};
-ghost use Rattle.cp_stretches.specs.Stretching.{GoesOn, LeadsTo, MayGo, turn_of};
-ghost use Rattle.cp_stretches.specs.Telling.{IsTold};
+ghost use Rattle.cp_stretches.specs.Stretching.{GoesOn, LeadsTo, MayGo, StandsAt, turn_of};
+ghost use Rattle.cp_stretches.specs.Telling.{IsSought, IsTold};
 
 use crate::cache::{LegCache, Standing};
-use crate::numbers::is_free;
-use cp_effects::{Known, KnownLeg, make_effect, write_row};
+use crate::legs::{LegKey, Looked};
+use cp_effects::{KnownLeg, make_effect, write_row};
 use cp_machine::Shown;
 use cp_run::{Halt, Job, OutcomeKind, Turn};
 use std::alloc::{AllocError, Global};
@@ -51,7 +51,7 @@ fn add_shown(shown: &mut Vec<Shown>, value: Option<Shown>) -> Result<(), AllocEr
 }
 
 impl LegCache {
-    // A leg of a process is made in the state of a row, and remembered if it can be.
+    // A leg of a process is made in the state of a row, and remembered if it can be. It was looked for by this key.
     #[inline(never)]
     fn learn(
         &mut self,
@@ -59,11 +59,14 @@ impl LegCache {
         job: &Job<'_>,
         row: &[u32],
         pid: u8,
+        sought: Option<LegKey>,
         standing: &mut Standing,
-    ) -> Result<(), AllocError>
+    ) -> Result<Option<KnownLeg>, AllocError>
         requires cache { IsCache job.now.program.now job.now.limits.discipline self.old }
         requires standing { IsStanding job.now.program.now self.old.store self.old.table standing.old }
         requires row { (m : Machine) × MayGo job.now.program.now job.now.limits.discipline self.old.store self.old.table m row.now pid }
+        requires sought { IfSome sought (λ k. IsSought self.old.legs.effects self.old.table row.now pid k) }
+        ensures told { IfOk result (λ known. IfSome known (λ e. IsTold self.new.store self.new.table job.now.program.now job.now.limits.discipline self.new.legs.effects row.now pid e)) }
         ensures cache { IfOk result (λ _. IsCache job.now.program.now job.now.limits.discipline self.new) }
         ensures standing { IfOk result (λ _. IsStanding job.now.program.now self.new.store self.new.table standing.new) }
         ensures kept { KeepStore self.old.store self.new.store }
@@ -83,36 +86,10 @@ impl LegCache {
             &mut touched,
         )?;
         self.follow(alloc, job, &made, standing)?;
-        self.legs
-            .note(alloc, &self.table, row, pid, &touched, made)?;
-        Ok(())
-    }
-
-    // What is known of the leg of a process in the state of a row, after it was made.
-    fn learn_leg(
-        &mut self,
-        alloc: Global,
-        job: &Job<'_>,
-        row: &[u32],
-        pid: u8,
-        standing: &mut Standing,
-    ) -> Result<Option<KnownLeg>, AllocError>
-        requires cache { IsCache job.now.program.now job.now.limits.discipline self.old }
-        requires standing { IsStanding job.now.program.now self.old.store self.old.table standing.old }
-        requires row { (m : Machine) × MayGo job.now.program.now job.now.limits.discipline self.old.store self.old.table m row.now pid }
-        ensures told { IfOk result (λ known. IfSome known (λ e. IsTold self.new.store self.new.table job.now.program.now job.now.limits.discipline self.new.legs.effects row.now pid e)) }
-        ensures cache { IfOk result (λ _. IsCache job.now.program.now job.now.limits.discipline self.new) }
-        ensures standing { IfOk result (λ _. IsStanding job.now.program.now self.new.store self.new.table standing.new) }
-        ensures kept { KeepStore self.old.store self.new.store }
-        ensures table { self.new.table ≡ self.old.table }
-    {
-        self.learn(alloc, job, row, pid, standing)?;
-        let known = self.legs.look(alloc, &self.table, row, pid)?;
-        match known {
-            Known::Leg(leg) => Ok(Some(leg)),
-            Known::TooMuch => Ok(None),
-            Known::Nothing => Ok(None),
-        }
+        let known = self
+            .legs
+            .note(alloc, &self.table, row, pid, sought, &touched, made)?;
+        Ok(known)
     }
 
     // What is known of the leg of a process in the state of a row. It is made where nothing is known; `None` where it can't be remembered.
@@ -134,11 +111,11 @@ impl LegCache {
         ensures kept { KeepStore self.old.store self.new.store }
         ensures table { self.new.table ≡ self.old.table }
     {
-        let known = self.legs.look(alloc, &self.table, row, pid)?;
-        match known {
-            Known::Leg(leg) => Ok(Some(leg)),
-            Known::TooMuch => Ok(None),
-            Known::Nothing => self.learn_leg(alloc, job, row, pid, standing),
+        let looked = self.legs.look(alloc, &self.table, row, pid)?;
+        match looked {
+            Looked::Leg(leg) => Ok(Some(leg)),
+            Looked::TooMuch => Ok(None),
+            Looked::Nothing(sought) => self.learn(alloc, job, row, pid, sought, standing),
         }
     }
 
@@ -186,7 +163,7 @@ impl LegCache {
         ensures standing { IfOk result (λ _. IsStanding job.now.program.now self.new.store self.new.table standing.new) }
         ensures kept { KeepStore self.old.store self.new.store }
         ensures table { self.new.table ≡ self.old.table }
-        ensures goes { IfOk result (λ next. IfSome next (λ turn. (m : Machine) → MayGo job.now.program.now job.now.limits.discipline self.old.store self.old.table m row.old pid → GoesOn job.now.program.now job.now.limits.discipline self.new.store self.new.table m pid left.old shown.old.items turn left.new row.new shown.new.items)) }
+        ensures goes { IfOk result (λ next. IfSome next (λ turn. (m : Machine) → MayGo job.now.program.now job.now.limits.discipline self.old.store self.old.table m row.old pid → GoesOn job.now.program.now job.now.limits.discipline self.new.store self.new.table m (Turn.Goes pid) left.old shown.old.items turn left.new row.new shown.new.items)) }
     {
         let Some(known) = self.leg(alloc, job, row, pid, standing)? else {
             return Ok(None);
@@ -199,27 +176,27 @@ impl LegCache {
         Ok(Some(turn))
     }
 
-    // Makes a stretch that begins with a process. Answers where it halts; `None` where that isn't known.
+    // Makes a stretch before which this comes next. Answers where it halts; `None` where that isn't known.
     #[inline(always)]
     fn go(
         &mut self,
         alloc: Global,
         job: &Job<'_>,
         row: &mut [u32],
-        process: u8,
+        first: Turn,
         standing: &mut Standing,
         shown: &mut Vec<Shown>,
     ) -> Result<Option<Halt<OutcomeKind>>, AllocError>
         requires cache { IsCache job.now.program.now job.now.limits.discipline self.old }
         requires standing { IsStanding job.now.program.now self.old.store self.old.table standing.old }
-        requires row { (m : Machine) × MayGo job.now.program.now job.now.limits.discipline self.old.store self.old.table m row.old process }
+        requires row { (m : Machine) × StandsAt job.now.program.now job.now.limits.discipline self.old.store self.old.table m first row.old }
         ensures cache { IfOk result (λ _. IsCache job.now.program.now job.now.limits.discipline self.new) }
         ensures standing { IfOk result (λ _. IsStanding job.now.program.now self.new.store self.new.table standing.new) }
         ensures kept { KeepStore self.old.store self.new.store }
         ensures table { self.new.table ≡ self.old.table }
-        ensures leads { IfOk result (λ halts. IfSome halts (λ halt. (m : Machine) → MayGo job.now.program.now job.now.limits.discipline self.old.store self.old.table m row.old process → LeadsTo job.now.program.now job.now.limits.discipline self.new.store self.new.table job.now.limits.steps m process shown.old.items halt row.new shown.new.items)) }
+        ensures goes { IfOk result (λ halts. IfSome halts (λ halt. (m : Machine) → StandsAt job.now.program.now job.now.limits.discipline self.old.store self.old.table m first row.old → (rest : ℕ) × GoesOn job.now.program.now job.now.limits.discipline self.new.store self.new.table m first job.now.limits.steps shown.old.items (turn_of halt) rest row.new shown.new.items)) }
     {
-        let mut turn = Turn::Goes(process);
+        let mut turn = first;
         let mut left = job.limits.steps;
         for _ in 0..job.limits.steps {
             let Turn::Goes(pid) = turn else {
@@ -255,10 +232,8 @@ impl LegCache {
         ensures table { self.new.table ≡ self.old.table }
         ensures leads { IfOk result (λ halts. IfSome halts (λ halt. (m : Machine) → StandsFor job.now.program.now job.now.limits.discipline self.old.store self.old.table m row.old → may (slots job.now.program.now job.now.limits.discipline) m process ≡ true → LeadsTo job.now.program.now job.now.limits.discipline self.new.store self.new.table job.now.limits.steps m process shown.old.items halt row.new shown.new.items)) }
     {
-        if !is_free(&self.table, row) {
-            return Ok(None);
-        }
-        let halts = self.go(alloc, job, row, process, standing, shown)?;
+        let turn = self.begin(alloc, job, row, process, standing)?;
+        let halts = self.go(alloc, job, row, turn, standing, shown)?;
         Ok(halts)
     }
 }

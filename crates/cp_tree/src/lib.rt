@@ -30,8 +30,8 @@ pub use expression::{
     Addition, Designator, Expression, Factor, FactorKind, Multiplication, Relation, Selector, Sum,
     Term,
 };
-pub use fault::ParseFault;
-pub use parser::parse;
+pub use fault::{ParseFault, Wanted};
+pub use parser::{parse, wanted_at};
 pub use read_annotation::NAMELESS;
 pub use statement::{Arm, AssertionKind, Direction, Start, Statement, StatementKind};
 pub use tree::Tree;

@@ -14,7 +14,7 @@ ghost use Rattle.cp_tree.specs.View.{program_view};
 
 use crate::cursor::Cursor;
 use crate::declaration::Program;
-use crate::fault::ParseFault;
+use crate::fault::{ParseFault, Wanted};
 use crate::read_program::program;
 use crate::tree::Tree;
 use cp_text::{Kind, Mark, Tokens};
@@ -45,6 +45,16 @@ pub fn parse(alloc: Global, tokens: &Tokens) -> Result<Tree, ParseFault>
     ensures read { spec.Answers (kinds tokens.now) result }
 {
     read(alloc, tokens)
+}
+
+/// What the parser looks for at a token that it refuses: a message tells it. At the end of the tokens it may be less than could stand there,
+/// since no further item of a list is looked for behind the last of them.
+pub fn wanted_at(alloc: Global, tokens: &Tokens, at: usize) -> Result<Wanted, AllocError> {
+    let mut cursor = Cursor::watching(tokens, Some(at));
+    match program(alloc, &mut cursor) {
+        Err(ParseFault::Memory) => Err(AllocError),
+        _ => Ok(cursor.wanted()),
+    }
 }
 
 fn read(alloc: Global, tokens: &Tokens) -> Result<Tree, ParseFault>

@@ -5,8 +5,8 @@ ghost use Rattle.cp_tree.specs.Input.{Reads};
 ghost use Rattle.cp_tree.specs.Reading as spec;
 
 use crate::constant::{Constant, ConstantKind, Identifier, Sign};
-use crate::cursor::Cursor;
-use crate::fault::ParseFault;
+use crate::cursor::{Cursor, eat_one, match_next};
+use crate::fault::{ParseFault, Sought};
 use cp_text::{Kind, Mark};
 use std::alloc::Global;
 
@@ -15,14 +15,14 @@ pub fn identifier(alloc: Global, cursor: &mut Cursor<'_>) -> Result<Identifier, 
     ensures { Reads (λ i. i) (spec.identifier cursor.old) result cursor.new }
 {
     let at = cursor.at();
-    match cursor.peek() {
-        Some(Kind::Name(name)) => {
+    match_next!(cursor, {
+        Kind::Name(name) => {
             let name = name.copy(alloc)?;
             cursor.advance();
             Ok(Identifier { at, name })
-        }
+        },
         _ => Err(cursor.unexpected_token()),
-    }
+    })
 }
 
 /// Names with commas between them.
@@ -41,26 +41,16 @@ pub fn identifiers(alloc: Global, cursor: &mut Cursor<'_>) -> Result<Vec<Identif
     Ok(found)
 }
 
-fn sign_of(mark: Option<Mark>) -> Option<Sign>
-    ensures { result ≡ spec.sign_of mark }
-{
-    match mark {
-        Some(Mark::Plus) => Some(Sign::Plus),
-        Some(Mark::Minus) => Some(Sign::Minus),
-        _ => None,
-    }
-}
-
 /// The sign that comes next, if one does.
 #[tactic(auto, unfolding(crate::specs::Reading::sign))]
 pub fn sign(cursor: &mut Cursor<'_>) -> Option<Sign>
     ensures { spec.sign cursor.old ≡ Ok (result, cursor.new) }
 {
-    let found = sign_of(cursor.mark());
-    if found.is_some() {
-        cursor.advance();
-    }
-    found
+    eat_one!(cursor, {
+        Mark::Plus => Some(Sign::Plus),
+        Mark::Minus => Some(Sign::Minus),
+        _ => None,
+    })
 }
 
 #[tactic(auto, unfolding(crate::specs::Reading::constant))]
@@ -69,7 +59,11 @@ pub fn constant(alloc: Global, cursor: &mut Cursor<'_>) -> Result<Constant, Pars
 {
     let at = cursor.at();
     let sign = sign(cursor);
-    match cursor.peek() {
+    let sought: &[Sought] = match sign {
+        Some(_) => &[Sought::Number, Sought::Name],
+        None => &[Sought::Number, Sought::Name, Sought::Character],
+    };
+    match cursor.peek_for(sought) {
         Some(Kind::Number(value)) => {
             cursor.advance();
             Ok(Constant {

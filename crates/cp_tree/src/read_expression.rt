@@ -6,86 +6,56 @@ ghost use Rattle.cp_tree.specs.Reading as lists;
 ghost use Rattle.cp_tree.specs.ReadingExpressions as spec;
 ghost use Rattle.cp_tree.specs.View.{expression_view, sum_view, term_view, factor_view, designator_view, selector_view, expressions_view, selectors_view, factors_view, terms_view};
 
-use crate::cursor::Cursor;
+use crate::cursor::{Cursor, eat_one, match_next};
 use crate::expression::{
     Addition, Designator, Expression, Factor, FactorKind, Multiplication, Relation, Selector, Sum,
     Term,
 };
-use crate::fault::ParseFault;
+use crate::fault::{ParseFault, Sought};
 use crate::held::{in_box, value_before, value_with};
 use crate::read_constant::{identifier, sign};
 use cp_text::{Kind, Mark};
 use std::alloc::Global;
 
-fn relation_of(mark: Option<Mark>) -> Option<Relation>
-    ensures { result ≡ spec.relation_of mark }
-{
-    match mark {
-        Some(Mark::Equal) => Some(Relation::Equal),
-        Some(Mark::NotEqual) => Some(Relation::NotEqual),
-        Some(Mark::Less) => Some(Relation::Less),
-        Some(Mark::Greater) => Some(Relation::Greater),
-        Some(Mark::AtMost) => Some(Relation::AtMost),
-        Some(Mark::AtLeast) => Some(Relation::AtLeast),
-        Some(Mark::In) => Some(Relation::In),
-        _ => None,
-    }
-}
-
-fn addition_of(mark: Option<Mark>) -> Option<Addition>
-    ensures { result ≡ spec.addition_of mark }
-{
-    match mark {
-        Some(Mark::Plus) => Some(Addition::Plus),
-        Some(Mark::Minus) => Some(Addition::Minus),
-        Some(Mark::Or) => Some(Addition::Or),
-        _ => None,
-    }
-}
-
-fn multiplication_of(mark: Option<Mark>) -> Option<Multiplication>
-    ensures { result ≡ spec.multiplication_of mark }
-{
-    match mark {
-        Some(Mark::Times) => Some(Multiplication::Times),
-        Some(Mark::Div) => Some(Multiplication::Div),
-        Some(Mark::Mod) => Some(Multiplication::Mod),
-        Some(Mark::And) => Some(Multiplication::And),
-        _ => None,
-    }
-}
-
 #[tactic(auto, unfolding(crate::specs::ReadingExpressions::relation))]
 fn relation(cursor: &mut Cursor<'_>) -> Option<Relation>
     ensures { spec.relation cursor.old ≡ Ok (result, cursor.new) }
 {
-    let found = relation_of(cursor.mark());
-    if found.is_some() {
-        cursor.advance();
-    }
-    found
+    eat_one!(cursor, {
+        Mark::Equal => Some(Relation::Equal),
+        Mark::NotEqual => Some(Relation::NotEqual),
+        Mark::Less => Some(Relation::Less),
+        Mark::Greater => Some(Relation::Greater),
+        Mark::AtMost => Some(Relation::AtMost),
+        Mark::AtLeast => Some(Relation::AtLeast),
+        Mark::In => Some(Relation::In),
+        _ => None,
+    })
 }
 
 #[tactic(auto, unfolding(crate::specs::ReadingExpressions::addition))]
 fn addition(cursor: &mut Cursor<'_>) -> Option<Addition>
     ensures { spec.addition cursor.old ≡ Ok (result, cursor.new) }
 {
-    let found = addition_of(cursor.mark());
-    if found.is_some() {
-        cursor.advance();
-    }
-    found
+    eat_one!(cursor, {
+        Mark::Plus => Some(Addition::Plus),
+        Mark::Minus => Some(Addition::Minus),
+        Mark::Or => Some(Addition::Or),
+        _ => None,
+    })
 }
 
 #[tactic(auto, unfolding(crate::specs::ReadingExpressions::multiplication))]
 fn multiplication(cursor: &mut Cursor<'_>) -> Option<Multiplication>
     ensures { spec.multiplication cursor.old ≡ Ok (result, cursor.new) }
 {
-    let found = multiplication_of(cursor.mark());
-    if found.is_some() {
-        cursor.advance();
-    }
-    found
+    eat_one!(cursor, {
+        Mark::Times => Some(Multiplication::Times),
+        Mark::Div => Some(Multiplication::Div),
+        Mark::Mod => Some(Multiplication::Mod),
+        Mark::And => Some(Multiplication::And),
+        _ => None,
+    })
 }
 
 /// An expression of at most `budget` levels.
@@ -205,34 +175,34 @@ fn factor(alloc: Global, cursor: &mut Cursor<'_>, budget: usize) -> Result<Facto
     ensures { Reads factor_view (spec.factor_at budget cursor.old) result cursor.new }
 {
     let at = cursor.at();
-    let kind = match cursor.peek() {
-        Some(Kind::Number(value)) => {
+    let kind = match_next!(cursor, {
+        Kind::Number(value) => {
             cursor.advance();
             FactorKind::Number(*value)
-        }
-        Some(Kind::Character(code)) => {
+        },
+        Kind::Character(code) => {
             cursor.advance();
             FactorKind::Character(*code)
-        }
-        Some(Kind::Name(_)) => {
+        },
+        Kind::Name(_) => {
             let designator = designator(alloc, cursor, budget)?;
             let (designator, arguments) = value_with(designator, arguments(alloc, cursor, budget))?;
             FactorKind::Named(designator, arguments)
-        }
-        Some(Kind::Mark(Mark::OpenParenthesis)) => {
+        },
+        Mark::OpenParenthesis => {
             cursor.advance();
             FactorKind::Group(expression_inside(alloc, cursor, budget)?)
-        }
-        Some(Kind::Mark(Mark::OpenBracket)) => {
+        },
+        Mark::OpenBracket => {
             cursor.advance();
             FactorKind::Set(elements(alloc, cursor, budget)?)
-        }
-        Some(Kind::Mark(Mark::Not)) => {
+        },
+        Mark::Not => {
             cursor.advance();
             FactorKind::Not(factor_after_not(alloc, cursor, budget)?)
-        }
+        },
         _ => return Err(cursor.unexpected_token()),
-    };
+    });
     Ok(Factor { at, kind })
 }
 
@@ -378,17 +348,13 @@ fn selector(
 ) -> Result<Option<Selector>, ParseFault>
     ensures { Reads (λ s. option_map selector_view s) (spec.selector_with (spec.expression budget) cursor.old) result cursor.new }
 {
-    match cursor.mark() {
-        Some(Mark::Period) => {
-            cursor.advance();
-            Ok(Some(Selector::Field(identifier(alloc, cursor)?)))
-        }
-        Some(Mark::OpenBracket) => {
-            cursor.advance();
+    eat_one!(cursor, {
+        Mark::Period => Ok(Some(Selector::Field(identifier(alloc, cursor)?))),
+        Mark::OpenBracket => {
             let index = expression(alloc, cursor, budget)?;
             let index = value_before(cursor, index, Mark::CloseBracket)?;
             Ok(Some(Selector::Index(index)))
-        }
+        },
         _ => Ok(None),
-    }
+    })
 }

@@ -5,7 +5,7 @@ ghost use Rattle.cp_tree.specs.Input.{Reads};
 ghost use Rattle.cp_tree.specs.ReadingDeclarations as spec;
 ghost use Rattle.cp_tree.specs.View.{constant_definition_view, type_definition_view, variable_group_view, part_view};
 
-use crate::cursor::Cursor;
+use crate::cursor::{Cursor, eat_one};
 use crate::declaration::{ConstantDefinition, Part, PartKind, TypeDefinition, VariableGroup};
 use crate::fault::ParseFault;
 use crate::held::{value_before, value_with};
@@ -115,21 +115,12 @@ fn part(alloc: Global, cursor: &mut Cursor<'_>) -> Result<Option<Part>, ParseFau
     ensures { Reads (λ p. option_map part_view p) (spec.part_item cursor.old) result cursor.new }
 {
     let at = cursor.at();
-    let kind = match cursor.mark() {
-        Some(Mark::Const) => {
-            cursor.advance();
-            PartKind::Constants(constant_definitions(alloc, cursor)?)
-        }
-        Some(Mark::Type) => {
-            cursor.advance();
-            PartKind::Types(type_definitions(alloc, cursor)?)
-        }
-        Some(Mark::Var) => {
-            cursor.advance();
-            PartKind::Variables(variable_groups(alloc, cursor)?)
-        }
+    let kind = eat_one!(cursor, {
+        Mark::Const => PartKind::Constants(constant_definitions(alloc, cursor)?),
+        Mark::Type => PartKind::Types(type_definitions(alloc, cursor)?),
+        Mark::Var => PartKind::Variables(variable_groups(alloc, cursor)?),
         _ => return Ok(None),
-    };
+    });
     Ok(Some(Part { at, kind }))
 }
 

@@ -6,7 +6,7 @@ ghost use Rattle.cp_tree.specs.Reading as lists;
 ghost use Rattle.cp_tree.specs.ReadingDeclarations as spec;
 ghost use Rattle.cp_tree.specs.View.{routine_view, system_view, definition_view, system_definition_view, program_part_view, program_view};
 
-use crate::cursor::Cursor;
+use crate::cursor::{Cursor, eat_one};
 use crate::declaration::{
     Definition, Program, ProgramPart, ProgramPartKind, Routine, System, SystemDefinition,
     SystemKind,
@@ -65,30 +65,18 @@ fn system_routines(
     }
 }
 
-fn system_kind_of(mark: Option<Mark>) -> Option<SystemKind>
-    ensures { result ≡ spec.system_kind_of mark }
-{
-    match mark {
-        Some(Mark::Class) => Some(SystemKind::Class),
-        Some(Mark::Monitor) => Some(SystemKind::Monitor),
-        Some(Mark::Process) => Some(SystemKind::Process),
-        _ => None,
-    }
-}
-
 // A type or a system type.
 #[tactic(auto, unfolding(crate::specs::ReadingDeclarations::definition))]
 fn definition(alloc: Global, cursor: &mut Cursor<'_>) -> Result<Definition, ParseFault>
     ensures { Reads definition_view (spec.definition cursor.old) result cursor.new }
 {
     let at = cursor.at();
-    match system_kind_of(cursor.mark()) {
-        Some(kind) => {
-            cursor.advance();
-            Ok(Definition::System(system(alloc, cursor, kind, at)?))
-        }
-        None => Ok(Definition::Type(type_term(alloc, cursor, MOST_LEVELS)?)),
-    }
+    eat_one!(cursor, {
+        Mark::Class => Ok(Definition::System(system(alloc, cursor, SystemKind::Class, at)?)),
+        Mark::Monitor => Ok(Definition::System(system(alloc, cursor, SystemKind::Monitor, at)?)),
+        Mark::Process => Ok(Definition::System(system(alloc, cursor, SystemKind::Process, at)?)),
+        _ => Ok(Definition::Type(type_term(alloc, cursor, MOST_LEVELS)?)),
+    })
 }
 
 #[tactic(auto, unfolding(crate::specs::ReadingDeclarations::system_item))]
@@ -124,21 +112,12 @@ fn program_part(alloc: Global, cursor: &mut Cursor<'_>) -> Result<Option<Program
     ensures { Reads (λ p. option_map program_part_view p) (spec.program_part_item cursor.old) result cursor.new }
 {
     let at = cursor.at();
-    let kind = match cursor.mark() {
-        Some(Mark::Const) => {
-            cursor.advance();
-            ProgramPartKind::Constants(constant_definitions(alloc, cursor)?)
-        }
-        Some(Mark::Type) => {
-            cursor.advance();
-            ProgramPartKind::Types(system_definitions(alloc, cursor)?)
-        }
-        Some(Mark::Var) => {
-            cursor.advance();
-            ProgramPartKind::Variables(variable_groups(alloc, cursor)?)
-        }
+    let kind = eat_one!(cursor, {
+        Mark::Const => ProgramPartKind::Constants(constant_definitions(alloc, cursor)?),
+        Mark::Type => ProgramPartKind::Types(system_definitions(alloc, cursor)?),
+        Mark::Var => ProgramPartKind::Variables(variable_groups(alloc, cursor)?),
         _ => return Ok(None),
-    };
+    });
     Ok(Some(ProgramPart { at, kind }))
 }
 

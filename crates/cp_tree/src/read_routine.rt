@@ -7,7 +7,7 @@ ghost use Rattle.cp_tree.specs.ReadingDeclarations as spec;
 ghost use Rattle.cp_tree.specs.View.{body_view, group_view, parameter_group_view, routine_kind_view, routine_view};
 ghost use Rattle.cp_text.specs.declared.token.Mark.TheVariants as mark;
 
-use crate::cursor::Cursor;
+use crate::cursor::{Cursor, eat_one};
 use crate::declaration::{Body, Group, ParameterGroup, Routine, RoutineKind};
 use crate::fault::ParseFault;
 use crate::held::{value_before, value_with};
@@ -167,17 +167,11 @@ fn routine(alloc: Global, cursor: &mut Cursor<'_>) -> Result<Option<Routine>, Pa
     ensures { Reads (λ r. option_map routine_view r) (spec.routine_item cursor.old) result cursor.new }
 {
     let at = cursor.at();
-    match cursor.mark() {
-        Some(Mark::Procedure) => {
-            cursor.advance();
-            Ok(Some(named_routine(alloc, cursor, at, false)?))
-        }
-        Some(Mark::Function) => {
-            cursor.advance();
-            Ok(Some(named_routine(alloc, cursor, at, true)?))
-        }
+    eat_one!(cursor, {
+        Mark::Procedure => Ok(Some(named_routine(alloc, cursor, at, false)?)),
+        Mark::Function => Ok(Some(named_routine(alloc, cursor, at, true)?)),
         _ => Ok(None),
-    }
+    })
 }
 
 /// The routines that come next.

@@ -8,8 +8,8 @@ ghost use Rattle.cp_tree.specs.View.{start_view, statement_view, statements_view
 ghost use Rattle.cp_text.specs.declared.token.Mark.TheVariants as mark;
 
 use crate::constant::Constant;
-use crate::cursor::Cursor;
-use crate::fault::ParseFault;
+use crate::cursor::{Cursor, eat_one, match_next};
+use crate::fault::{ParseFault, Sought};
 use crate::held::{in_box, value_before, value_with};
 use crate::read_annotation::{annotations, asserted};
 use crate::read_constant::{constant, identifier};
@@ -76,21 +76,21 @@ fn plain_statement(
 ) -> Result<Statement, ParseFault>
     ensures { Reads statement_view (spec.plain_at budget cursor.old) result cursor.new }
 {
-    match cursor.peek() {
-        Some(Kind::Name(_)) => assignment_or_call(alloc, cursor, budget),
-        Some(Kind::Mark(Mark::Begin)) => block(alloc, cursor, budget),
-        Some(Kind::Mark(Mark::If)) => choice(alloc, cursor, budget),
-        Some(Kind::Mark(Mark::Case)) => case(alloc, cursor, budget),
-        Some(Kind::Mark(Mark::While)) => while_loop(alloc, cursor, budget),
-        Some(Kind::Mark(Mark::Repeat)) => repeat_loop(alloc, cursor, budget),
-        Some(Kind::Mark(Mark::For)) => for_loop(alloc, cursor, budget),
-        Some(Kind::Mark(Mark::Cycle)) => cycle(alloc, cursor, budget),
-        Some(Kind::Mark(Mark::Init)) => init(alloc, cursor, budget),
+    match_next!(cursor, {
+        Kind::Name(_) => assignment_or_call(alloc, cursor, budget),
+        Mark::Begin => block(alloc, cursor, budget),
+        Mark::If => choice(alloc, cursor, budget),
+        Mark::Case => case(alloc, cursor, budget),
+        Mark::While => while_loop(alloc, cursor, budget),
+        Mark::Repeat => repeat_loop(alloc, cursor, budget),
+        Mark::For => for_loop(alloc, cursor, budget),
+        Mark::Cycle => cycle(alloc, cursor, budget),
+        Mark::Init => init(alloc, cursor, budget),
         _ => Ok(Statement {
             at: cursor.at(),
             kind: StatementKind::Empty,
         }),
-    }
+    })
 }
 
 // An assignment or a call.
@@ -280,17 +280,11 @@ fn for_loop(alloc: Global, cursor: &mut Cursor<'_>, budget: usize) -> Result<Sta
 fn direction(cursor: &mut Cursor<'_>) -> Result<Direction, ParseFault>
     ensures { Reads (λ d. d) (spec.direction cursor.old) result cursor.new }
 {
-    match cursor.mark() {
-        Some(Mark::To) => {
-            cursor.advance();
-            Ok(Direction::To)
-        }
-        Some(Mark::Downto) => {
-            cursor.advance();
-            Ok(Direction::Downto)
-        }
+    eat_one!(cursor, {
+        Mark::To => Ok(Direction::To),
+        Mark::Downto => Ok(Direction::Downto),
         _ => Err(cursor.unexpected_token()),
-    }
+    })
 }
 
 // `case .. of .. end`, whose word comes next.

@@ -7,7 +7,7 @@ ghost use Rattle.cp_tree.specs.ReadingTypes as spec;
 ghost use Rattle.cp_tree.specs.View.{simple_view, type_view, field_group_view, field_groups_view};
 
 use crate::constant::{Constant, ConstantKind};
-use crate::cursor::Cursor;
+use crate::cursor::{Cursor, eat_one};
 use crate::fault::ParseFault;
 use crate::held::{in_box, value_before, value_with};
 use crate::read_constant::{constant, identifiers};
@@ -77,27 +77,18 @@ fn type_within(alloc: Global, cursor: &mut Cursor<'_>, budget: usize) -> Result<
     ensures { Reads type_view (spec.type_at budget cursor.old) result cursor.new }
 {
     let at = cursor.at();
-    match cursor.mark() {
-        Some(Mark::Array) => {
-            cursor.advance();
-            array(alloc, cursor, budget, at)
-        }
-        Some(Mark::Set) => {
-            cursor.advance();
-            set(alloc, cursor, at)
-        }
-        Some(Mark::Record) => {
-            cursor.advance();
-            record(alloc, cursor, budget, at)
-        }
+    eat_one!(cursor, {
+        Mark::Array => array(alloc, cursor, budget, at),
+        Mark::Set => set(alloc, cursor, at),
+        Mark::Record => record(alloc, cursor, budget, at),
         _ => {
             let simple = simple(alloc, cursor)?;
             Ok(Type {
                 at,
                 kind: TypeKind::Simple(simple),
             })
-        }
-    }
+        },
+    })
 }
 
 #[tactic(auto, unfolding(crate::specs::ReadingTypes::set_at))]

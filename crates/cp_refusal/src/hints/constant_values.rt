@@ -27,17 +27,6 @@ fn signed(sign: Option<Sign>, value: i64) -> Option<i64> {
 }
 
 impl<'a> Declarations<'a> {
-    /// How many constants of an enumeration, which is written at a token, stand before one.
-    fn number_of_member(&self, member: usize, enumeration: usize) -> i64 {
-        let mut value: i64 = 0;
-        for one in &self.all {
-            if one.at < member && matches!(one.what, Declared::Member(at) if at == enumeration) {
-                value = value.saturating_add(1);
-            }
-        }
-        value
-    }
-
     /// The number of a constant with a name, through at most so many definitions.
     fn number_named(&self, name: &'a Identifier) -> Option<i64> {
         let mut name = name;
@@ -51,7 +40,7 @@ impl<'a> Declarations<'a> {
                 };
             };
             let (sign, value) = match one.what {
-                Declared::Member(at) => (None, self.number_of_member(one.at, at)),
+                Declared::Member(number) => (None, i64::try_from(number).ok()?),
                 Declared::Constant(Constant { kind, .. }) => match kind {
                     ConstantKind::Number(sign, value) => (*sign, i64::from(*value)),
                     ConstantKind::Character(code) => (None, i64::from(*code)),

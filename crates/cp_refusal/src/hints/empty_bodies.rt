@@ -35,8 +35,7 @@ impl<'a, 'b> Gathering<'a, 'b> {
     /// Adds a hint on each `do` and `then` that a semicolon follows.
     pub fn add_empty_bodies(&mut self, written: &Written<'a>) {
         for sequence in &written.sequences {
-            let behind = sequence.statements.iter().skip(1);
-            for (one, next) in sequence.statements.iter().zip(behind) {
+            for (one, next) in sequence.iter().zip(sequence.iter().skip(1)) {
                 if let Some(found) = empty_at_end(one) {
                     self.add_empty_body(written, found, next);
                 }

@@ -1,7 +1,7 @@
 //! What is behind a statement that never ends, or that ends the call.
 
 use crate::hints::Gathering;
-use crate::hints::written::{Sequence, Written};
+use crate::hints::written::Written;
 use cp_tree::{Statement, StatementKind};
 
 /// The `cycle` by which a statement never ends, whatever is true when it is begun.
@@ -38,11 +38,11 @@ impl<'a, 'b> Gathering<'a, 'b> {
     /// The first statement of a sequence that would do something and never runs, and why it does not.
     fn never_run(
         &self,
-        sequence: &Sequence<'a>,
+        sequence: &'a [Statement],
         is_continue: bool,
     ) -> Option<(&'a Statement, &'a Statement)> {
         let mut last = None;
-        for one in sequence.statements {
+        for one in sequence {
             match last {
                 Some(last) if !matches!(one.kind, StatementKind::Empty) => return Some((one, last)),
                 Some(_) => {}
@@ -55,7 +55,7 @@ impl<'a, 'b> Gathering<'a, 'b> {
     /// Adds a hint on the first of the statements behind each `continue`, or behind each `cycle`.
     pub fn add_never_run(&mut self, written: &Written<'a>, is_continue: bool) {
         for sequence in &written.sequences {
-            let Some((statement, last)) = self.never_run(sequence, is_continue) else {
+            let Some((statement, last)) = self.never_run(*sequence, is_continue) else {
                 continue;
             };
             if is_continue {

@@ -3,7 +3,7 @@
 use crate::extent::{Part, part_extent};
 use crate::hints::Gathering;
 use crate::hints::written::Written;
-use cp_tree::{Statement, StatementKind};
+use cp_tree::Statement;
 
 impl<'a, 'b> Gathering<'a, 'b> {
     /// Adds a hint on each wait in a branch of an `if`, where no loop tests again.
@@ -11,11 +11,9 @@ impl<'a, 'b> Gathering<'a, 'b> {
         for one in &written.statements {
             if one.around.is_branch
                 && !one.around.is_tested_again
-                && let StatementKind::Call(called, arguments) = &one.statement.kind
-                && let Some(queue) = arguments.first()
-                && self.declarations.is_standard(called.name.at, "delay")
+                && let Some(queue) = self.named_queue(one.statement, "delay")
             {
-                self.add_look_again(one.statement.at, queue.at);
+                self.add_look_again(one.statement.at, queue.name.at);
             }
         }
     }

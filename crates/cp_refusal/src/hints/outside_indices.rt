@@ -1,53 +1,9 @@
 //! Constant indices that no element has.
 
-use crate::declared::{Declarations, Declared};
 use crate::hints::Gathering;
 use crate::hints::written::{Written, WrittenName};
 use cp_scope::{Base, Meaning, Range, ValueType};
-use cp_tree::{Expression, Identifier, Selector, SimpleKind, Type, TypeKind};
-
-/// Through how many definitions a name is followed.
-const MOST_DEFINITIONS: usize = 20;
-
-impl<'a> Declarations<'a> {
-    /// The type that a program defines with this name.
-    fn defined_type(&self, name: &str, at: usize) -> Option<&'a Type> {
-        match self.find(name, at)?.what {
-            Declared::Type(written) => Some(written),
-            _ => None,
-        }
-    }
-
-    /// The array or the record for which a type stands, as the checker knows it.
-    fn structure(&self, written: &'a Type) -> Option<ValueType> {
-        let mut written = written;
-        for _ in 0..MOST_DEFINITIONS {
-            let simple = match &written.kind {
-                TypeKind::Array(..) => return Some(ValueType::Array(written.at)),
-                TypeKind::Record(..) => return Some(ValueType::Record(written.at)),
-                TypeKind::Simple(simple) => simple,
-                TypeKind::Set(_) => return None,
-            };
-            let SimpleKind::Name(name) = &simple.kind else {
-                return None;
-            };
-            written = self.defined_type(name.as_str(), written.at)?;
-        }
-        None
-    }
-
-    /// The array or the record that a variable or a parameter is.
-    fn structure_of(&self, name: &Identifier) -> Option<ValueType> {
-        let written = match self.named(name)?.what {
-            Declared::Variable(written) => written,
-            Declared::Parameter(named) | Declared::VarParameter(named) => {
-                self.defined_type(named.name.as_str(), named.at)?
-            }
-            _ => return None,
-        };
-        self.structure(written)
-    }
-}
+use cp_tree::{Expression, Selector};
 
 impl<'a, 'b> Gathering<'a, 'b> {
     /// Adds a hint on each index that is a constant outside of the bounds of its array.
@@ -61,7 +17,10 @@ impl<'a, 'b> Gathering<'a, 'b> {
 
     fn add_outside_of(&mut self, written: &WrittenName<'a>) {
         let shapes = self.declarations.scopes.shapes();
-        let mut whole = self.declarations.structure_of(written.name);
+        let mut whole = match self.declarations.named(written.name) {
+            Some(one) => self.declarations.structure_of(&one),
+            None => None,
+        };
         for selector in written.selectors {
             whole = match (whole, selector) {
                 (Some(ValueType::Array(at)), Selector::Index(index)) => match shapes.array(at) {

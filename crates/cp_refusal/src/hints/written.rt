@@ -54,12 +54,6 @@ pub struct PlacedStatement<'a> {
     pub around: Around,
 }
 
-/// Statements that are done one after another.
-#[derive(Clone, Copy, Drop)]
-pub struct Sequence<'a> {
-    pub statements: &'a [Statement],
-}
-
 /// What is done with what a name stands for.
 #[derive(Clone, Copy, PartialEq, Eq)]
 pub enum Use {
@@ -77,25 +71,14 @@ pub struct WrittenName<'a> {
     pub used: Use,
 }
 
-/// A node of a body that may have others in it.
-#[derive(Clone, Copy, Drop)]
-enum Node<'a> {
-    Sequence(&'a [Statement], Around),
-    Statement(&'a Statement, Around),
-    Factor(&'a Factor),
-    Name(WrittenName<'a>),
-}
-
 /// The statements and names of a body, with all that is inside of others. A name that is set stands behind the value that it is given.
 #[derive(Drop)]
 pub struct Written<'a> {
     pub owned: OwnedBody<'a>,
     pub statements: Vec<PlacedStatement<'a>>,
-    pub sequences: Vec<Sequence<'a>>,
+    /// Statements that are done one after another.
+    pub sequences: Vec<&'a [Statement]>,
     pub names: Vec<WrittenName<'a>>,
-    /// The nodes that are still to be read, the next one last.
-    left: Vec<Node<'a>>,
-    is_refused: bool,
 }
 
 impl<'a> Written<'a> {
@@ -106,175 +89,165 @@ impl<'a> Written<'a> {
             statements: Vec::new(alloc),
             sequences: Vec::new(alloc),
             names: Vec::new(alloc),
-            left: Vec::new(alloc),
-            is_refused: false,
         };
-        written.add(Node::Sequence(&owned.body.statements, NOTHING_AROUND));
-        written.read();
-        if written.is_refused {
-            return Err(AllocError);
-        }
+        written.add_sequence(&owned.body.statements, NOTHING_AROUND)?;
         Ok(written)
     }
 
-    /// Reads all that is left, and what is in it: fewer nodes than there are addresses.
-    fn read(&mut self) {
-        for _ in 0..usize::MAX {
-            let Some(node) = self.left.pop() else {
-                return;
-            };
-            let before = self.left.len();
-            self.read_node(node);
-            let from = before.min(self.left.len());
-            self.left[from..].reverse();
+    #[cycle(statements)]
+    fn add_sequence(&mut self, nodes: &'a [Statement], around: Around) -> Result<(), AllocError> {
+        self.sequences.push(nodes)?;
+        for node in nodes {
+            self.add_statement(node, around)?;
         }
+        Ok(())
     }
 
-    fn read_node(&mut self, node: Node<'a>) {
-        let is_kept = match node {
-            Node::Sequence(statements, around) => {
-                for statement in statements {
-                    self.add(Node::Statement(statement, around));
-                }
-                self.sequences.push(Sequence { statements }).is_ok()
-            }
-            Node::Statement(statement, around) => {
-                self.add_parts(statement, around.within(statement));
-                self.statements
-                    .push(PlacedStatement { statement, around })
-                    .is_ok()
-            }
-            Node::Factor(node) => {
-                self.add_operands(node);
-                true
-            }
-            Node::Name(name) => self.names.push(name).is_ok(),
-        };
-        self.is_refused = self.is_refused || !is_kept;
-    }
-
-    /// Adds a node behind those that stand before it in the same one.
-    fn add(&mut self, node: Node<'a>) {
-        if self.left.push(node).is_err() {
-            self.is_refused = true;
-        }
-    }
-
-    fn add_parts(&mut self, statement: &'a Statement, within: Around) {
-        match &statement.kind {
-            StatementKind::Empty => {}
+    #[cycle(statements)]
+    fn add_statement(&mut self, node: &'a Statement, around: Around) -> Result<(), AllocError> {
+        self.statements.push(PlacedStatement {
+            statement: node,
+            around,
+        })?;
+        let within = around.within(node);
+        match &node.kind {
+            StatementKind::Empty => Ok(()),
             StatementKind::Assign(target, value) => {
-                self.add_expression(value);
-                self.add_designator(target, Use::Set);
+                self.add_expression(value)?;
+                self.add_designator(target, Use::Set)
             }
-            StatementKind::Call(called, arguments) => self.add_call(called, arguments),
+            StatementKind::Call(called, nodes) => self.add_call(called, nodes),
             StatementKind::Init(starts) => {
                 for one in starts {
-                    self.add_call(&one.target, &one.arguments);
+                    self.add_call(&one.target, &one.arguments)?;
                 }
+                Ok(())
             }
             StatementKind::Block(inner) | StatementKind::Cycle(inner) => {
-                self.add(Node::Sequence(inner, within));
+                self.add_sequence(inner, within)
             }
             StatementKind::If(test, then, otherwise) => {
-                self.add_expression(test);
-                self.add(Node::Statement(then, within));
-                if let Some(inner) = otherwise {
-                    self.add(Node::Statement(inner, within));
+                self.add_expression(test)?;
+                self.add_statement(then, within)?;
+                match otherwise {
+                    Some(inner) => self.add_statement(inner, within),
+                    None => Ok(()),
                 }
             }
             StatementKind::Case(selector, arms, _) => {
-                self.add_expression(selector);
+                self.add_expression(selector)?;
                 for one in arms {
-                    self.add(Node::Statement(&one.body, within));
+                    self.add_statement(&one.body, within)?;
                 }
+                Ok(())
             }
             StatementKind::While(test, body) => {
-                self.add_expression(test);
-                self.add(Node::Statement(body, within));
+                self.add_expression(test)?;
+                self.add_statement(body, within)
             }
             StatementKind::Repeat(inner, test) => {
-                self.add(Node::Sequence(inner, within));
-                self.add_expression(test);
+                self.add_sequence(inner, within)?;
+                self.add_expression(test)
             }
             StatementKind::For(variable, from, _, to, body) => {
-                self.add_expression(from);
-                self.add_expression(to);
-                self.add_name(variable, &[], Use::Set);
-                self.add_name(variable, &[], Use::Read);
-                self.add(Node::Statement(body, within));
+                self.add_expression(from)?;
+                self.add_expression(to)?;
+                self.add_name(variable, &[], Use::Set)?;
+                self.add_name(variable, &[], Use::Read)?;
+                self.add_statement(body, within)
             }
             StatementKind::Asserted(_, tests, inner) => {
-                self.add_expressions(tests);
-                self.add(Node::Statement(inner, within));
+                self.add_expressions(tests)?;
+                self.add_statement(inner, within)
             }
         }
     }
 
-    fn add_name(&mut self, name: &'a Identifier, selectors: &'a [Selector], used: Use) {
-        self.add(Node::Name(WrittenName {
+    fn add_call(
+        &mut self,
+        name: &'a Designator,
+        nodes: &'a [Expression],
+    ) -> Result<(), AllocError> {
+        self.add_designator(name, Use::Read)?;
+        for one in nodes {
+            match name_alone(one) {
+                Some(passed) => self.add_designator(passed, Use::Passed)?,
+                None => self.add_expression(one)?,
+            }
+        }
+        Ok(())
+    }
+
+    fn add_name(
+        &mut self,
+        name: &'a Identifier,
+        selectors: &'a [Selector],
+        used: Use,
+    ) -> Result<(), AllocError> {
+        self.names.push(WrittenName {
             name,
             selectors,
             used,
-        }));
+        })?;
+        Ok(())
     }
 
-    fn add_designator(&mut self, node: &'a Designator, used: Use) {
+    #[cycle(names)]
+    fn add_designator(&mut self, node: &'a Designator, used: Use) -> Result<(), AllocError> {
         for one in &node.selectors {
             if let Selector::Index(index) = one {
-                self.add_expression(index);
+                self.add_expression(index)?;
             }
         }
-        self.add_name(&node.name, &node.selectors, used);
+        self.add_name(&node.name, &node.selectors, used)
     }
 
-    fn add_call(&mut self, called: &'a Designator, arguments: &'a [Expression]) {
-        self.add_designator(called, Use::Read);
-        for one in arguments {
-            match name_alone(one) {
-                Some(passed) => self.add_designator(passed, Use::Passed),
-                None => self.add_expression(one),
-            }
-        }
-    }
-
-    fn add_expressions(&mut self, nodes: &'a [Expression]) {
+    #[cycle(names)]
+    fn add_expressions(&mut self, nodes: &'a [Expression]) -> Result<(), AllocError> {
         for one in nodes {
-            self.add_expression(one);
+            self.add_expression(one)?;
+        }
+        Ok(())
+    }
+
+    #[cycle(names)]
+    fn add_expression(&mut self, node: &'a Expression) -> Result<(), AllocError> {
+        self.add_sum(&node.left)?;
+        match &node.right {
+            Some((_, right)) => self.add_sum(right),
+            None => Ok(()),
         }
     }
 
-    fn add_expression(&mut self, node: &'a Expression) {
-        self.add_sum(&node.left);
-        if let Some((_, right)) = &node.right {
-            self.add_sum(right);
-        }
-    }
-
-    fn add_sum(&mut self, node: &'a Sum) {
-        self.add_term(&node.first);
+    #[cycle(names)]
+    fn add_sum(&mut self, node: &'a Sum) -> Result<(), AllocError> {
+        self.add_term(&node.first)?;
         for (_, term) in &node.more {
-            self.add_term(term);
+            self.add_term(term)?;
         }
+        Ok(())
     }
 
-    fn add_term(&mut self, node: &'a Term) {
-        self.add(Node::Factor(&node.first));
+    #[cycle(names)]
+    fn add_term(&mut self, node: &'a Term) -> Result<(), AllocError> {
+        self.add_factor(&node.first)?;
         for (_, factor) in &node.more {
-            self.add(Node::Factor(factor));
+            self.add_factor(factor)?;
         }
+        Ok(())
     }
 
-    fn add_operands(&mut self, node: &'a Factor) {
+    #[cycle(names)]
+    fn add_factor(&mut self, node: &'a Factor) -> Result<(), AllocError> {
         match &node.kind {
             FactorKind::Named(named, arguments) => {
-                self.add_designator(named, Use::Read);
-                self.add_expressions(arguments);
+                self.add_designator(named, Use::Read)?;
+                self.add_expressions(arguments)
             }
             FactorKind::Group(inner) => self.add_expression(inner),
-            FactorKind::Not(inner) => self.add(Node::Factor(inner)),
+            FactorKind::Not(inner) => self.add_factor(inner),
             FactorKind::Set(elements) => self.add_expressions(elements),
-            FactorKind::Number(_) | FactorKind::Character(_) => {}
+            FactorKind::Number(_) | FactorKind::Character(_) => Ok(()),
         }
     }
 }

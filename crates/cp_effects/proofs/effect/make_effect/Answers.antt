@@ -11,7 +11,8 @@ use Rattle.cp_parts.specs.Placed.{places_of}
 use Rattle.cp_effects.specs.declared.changes.Write.{Write}
 use Rattle.cp_effects.specs.Changes.{AreChanges}
 use Rattle.cp_effects.specs.Watching.{IsEffect}
-use Rattle.cp_effects.proofs.Remembering.{remembered, row_on, went}
+use Rattle.cp_parts.proofs.Keeping.{row_on}
+use Rattle.cp_effects.proofs.Remembering.{remembered, went}
 use Rattle.cp_effects.proofs.Renewed.{renewed_row}
 use Rattle.cp_effects.proofs.Watching.{may_step}
 use Rattle.cp_effects.proofs.effect.make_effect.Goals as goal

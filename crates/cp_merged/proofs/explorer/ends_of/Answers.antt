@@ -1,4 +1,4 @@
-use Rattle.cp_merged.proofs.Words.{◌≡◌, ◌∙◌, map, ap, sym, subst, arith, slots, same_outcome, by_layers, end_of, same_key, Reached, IsDueFault}
+use Rattle.cp_merged.proofs.Words.{◌≡◌, ◌∙◌, map, ap, sym, subst, arith, slots, same_outcome, by_layers, end_of, same_key, Reached, IsDueFault, rows_of}
 use Rattle.cp_merged.proofs.Arriving.{ends_are}
 use Rattle.cp_merged.proofs.Exploring.{err_to, rows_small}
 use Rattle.cp_merged.proofs.explorer.ends_of.Goals as goal
@@ -7,7 +7,7 @@ pub one_layer-requires-clause-reached : goal.one_layer-requires-clause-reached
 one_layer-requires-clause-reached g c = c.loop-depth.invariant.reached
 
 pub loop-depth-preserved : goal.loop-depth-preserved
-loop-depth-preserved g c = record { here = c.in_ok-one_layer.ensures.here; next = c.in_ok-one_layer.ensures.next; reached = c.in_ok-one_layer.ensures.reached }
+loop-depth-preserved g c = record { on = c.in_ok-one_layer.ensures.on; reached = c.in_ok-one_layer.ensures.reached }
 
 pub returns-in_err-one_layer-clause-fault : goal.returns-in_err-one_layer-clause-fault
 returns-in_err-one_layer-clause-fault g c =
@@ -18,9 +18,10 @@ returns-in_err-one_layer-clause-fault g c =
 pub last_layer-requires-clause-reached : goal.last_layer-requires-clause-reached
 last_layer-requires-clause-reached g c =
     let l = c.args.job.now.run.limits in
-    let front = c.loop-depth.layering.frontier in
+    let layering = c.loop-depth.layering in
+    let front = layering.frontier in
     let same : c.loop-depth.depth ≡ l.choices = omega arith in
-    subst (λ d. Reached c.args.job.now.run.program.now l.discipline l.choices l.steps c.args.job.now.most d front.store front.ended.entries front.layer.entries) same c.loop-depth.invariant.reached
+    subst (λ d. Reached c.args.job.now.run.program.now l.discipline l.choices l.steps c.args.job.now.most d layering.known front.ended.entries (rows_of front.layer)) same c.loop-depth.invariant.reached
 
 pub returns-clause-ends : goal.returns-clause-ends
 returns-clause-ends g c =
@@ -32,7 +33,7 @@ pub returns-clause-small : goal.returns-clause-small
 returns-clause-small g c =
     let l = c.args.job.now.run.limits in
     let r = c.args.job.now.run.program.now in
-    rows_small r l.discipline l.choices l.steps c.args.job.now.most c.into_ends.result.entries c.loop-depth.invariant.here.own.sound.few l.few_choices (returns-clause-ends g c)
+    rows_small r l.discipline l.choices l.steps c.args.job.now.most c.into_ends.result.entries c.loop-depth.invariant.on.known_is.cached.sound.few l.few_choices (returns-clause-ends g c)
 
 pub returns-in_err-layering-clause-fault : goal.returns-in_err-layering-clause-fault
 returns-in_err-layering-clause-fault g c =

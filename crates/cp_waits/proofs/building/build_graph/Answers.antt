@@ -2,6 +2,7 @@ use Rattle.cp_waits.proofs.Words.{◌∙◌, [], sym, subst, machine_of, silent_
 use Rattle.cp_waits.proofs.Adding.{graph_begun}
 use Rattle.cp_waits.proofs.Standing.{first_of_stretch}
 use Rattle.cp_waits.proofs.Visiting.{graph_noted}
+use Rattle.cp_run.proofs.Failing.{none_well}
 use Rattle.cp_waits.proofs.building.build_graph.Goals as goal
 
 pub open-requires-clause-nothing : goal.open-requires-clause-nothing
@@ -29,3 +30,6 @@ returns g c =
     let job = c.args.job.now in
     let stopped = c.in_ok-stopped.stopped in
     graph_noted job.run.program.now job.run.limits.discipline job.run.limits.steps job.most c.visit_all.new.visit.graph c.visit_all.new.visit.ends.found stopped stopped c.in_ok-stopped.ensures.searched
+
+pub returns-in_err-stopped : goal.returns-in_err-stopped
+returns-in_err-stopped g c = none_well c.from_residual-in_err-stopped.result _ _ c.from_residual-in_err-stopped.ensures.1

@@ -1,6 +1,7 @@
-use Rattle.cp_ends.proofs.Vocabulary.{◌≡◌, ◌≤◌, ◌∙◌, List, length, sym, ap, subst, Shown, ends_tests, with_shown, goal_at, Place, End, Holds, SlotFindings, States}
+use Rattle.cp_ends.proofs.Vocabulary.{◌≡◌, ◌∙◌, List, length, sym, ap, subst, Shown, ends_tests, with_shown, goal_at, Place, End, Holds, SlotFindings, States}
 use Rattle.cp_ends.proofs.Vocabulary.{with_values}
-use Rattle.cp_ends.specs.Rows.{IsRowFor, middle_of}
+use Rattle.cp_ends.specs.Halves.{width_of}
+use Rattle.cp_ends.specs.Rows.{IsRowFor}
 use Rattle.cp_ends.specs.declared.found.Arrived.TheVariants.{Ended}
 use Rattle.cp_ends.proofs.GoingOn.{came_to, ok_to}
 use Rattle.cp_ends.proofs.found.Found.arrive.Goals as goal
@@ -28,4 +29,4 @@ pub returns-in-Choice-clause-halt : goal.returns-in-Choice-clause-halt
 returns-in-Choice-clause-halt c = ok_to c.add_state.result _ _ c.add_state.ensures.halt (λ arrived is. is ∙ sym c.in-Choice.is)
 
 pub add_state-requires : goal.add_state-requires
-add_state-requires c = subst (λ (states : States). middle_of states.cache.table ≤ length c.args.row.now) (sym c.add_values.ensures.states) (c.requires c.in-Choice.is)
+add_state-requires c = subst (λ (states : States). length c.args.row.now ≡ width_of states.cache.table) (sym c.add_values.ensures.states) (c.requires c.in-Choice.is)

@@ -1,12 +1,12 @@
-use Rattle.cp_ends.proofs.Vocabulary.{◌≡◌, ◌≤◌, ◌∙◌, length, machine_of, subst, sym}
-use Rattle.cp_ends.specs.Rows.{middle_of}
+use Rattle.cp_ends.proofs.Vocabulary.{◌≡◌, ◌∙◌, length, machine_of, subst, sym}
+use Rattle.cp_ends.specs.Halves.{width_of}
 use Rattle.cp_ends.proofs.GoingOn.{ok_to}
-use Rattle.cp_ends.proofs.Halves.{middle_within}
+use Rattle.cp_ends.proofs.Halves.{width_is}
 use Rattle.cp_ends.proofs.RowsVisited.{row_stands}
 use Rattle.cp_ends.proofs.found.Found.arrive_first.Goals as goal
 
 pub arrive-requires : goal.arrive-requires
-arrive-requires c = λ due. subst (λ l. middle_of c.row_of.new.self.states.cache.table ≤ length l) (sym c.as_slice.ensures.value) (middle_within c.row_of.new.self.states (machine_of c.args.state.now) c.in_ok-row.row.items (c.in_ok-row.ensures.row due))
+arrive-requires c = λ due. subst (λ l. length l ≡ width_of c.row_of.new.self.states.cache.table) (sym c.as_slice.ensures.value) (width_is c.row_of.new.self.states (machine_of c.args.state.now) c.in_ok-row.row.items (c.in_ok-row.ensures.row due))
 
 pub returns-clause-arrives : goal.returns-clause-arrives
 returns-clause-arrives c =

@@ -1,7 +1,8 @@
-use Rattle.cp_ends.proofs.Vocabulary.{◌≡◌, ◌∙◌, ap, length, machine_of, same_Some, subst, sym, List, Shown}
+use Rattle.cp_ends.proofs.Vocabulary.{◌∙◌, ap, length, machine_of, same_Some, subst, sym, List, Shown}
 use Rattle.cp_parts.specs.Parts.{IsPartRow}
 use Rattle.cp_stretches.specs.Stretching.{LeadsTo}
-use Rattle.cp_ends.specs.ByRows.{end_of, width_of}
+use Rattle.cp_ends.specs.ByRows.{end_of}
+use Rattle.cp_ends.specs.Halves.{width_of}
 use Rattle.cp_ends.specs.Rows.{IsRowFor}
 use Rattle.cp_ends.proofs.GoingOn.{ok_to}
 use Rattle.cp_ends.proofs.Keeping.{Stated}

@@ -1,4 +1,3 @@
-use Rattle.cp_machine.specs.System.{machine_of}
 use Rattle.cp_ends.proofs.found.Found.row_of.Goals as goal
 
 pub row_of-requires : goal.row_of-requires

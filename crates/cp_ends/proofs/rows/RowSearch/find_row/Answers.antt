@@ -5,7 +5,8 @@ use Rattle.cp_machine.specs.System.{machine_of}
 use Rattle.cp_parts.specs.Parts.{IsPartRow}
 use Rattle.cp_parts.proofs.Pieces.{pieces_same}
 use Rattle.cp_stretches.specs.Cached.{IsCache}
-use Rattle.cp_ends.specs.ByRows.{width_of, with_standing}
+use Rattle.cp_ends.specs.ByRows.{with_standing}
+use Rattle.cp_ends.specs.Halves.{width_of}
 use Rattle.cp_ends.proofs.Keeping.{states_on}
 use Rattle.cp_ends.proofs.RowsVisited.{kept_found}
 use Rattle.cp_ends.proofs.rows.RowSearch.find_row.Goals as goal
@@ -21,11 +22,11 @@ returns-clause-kept c = λ standing.
     (let r = c.args.job.now.run.program.now in
     let found = c.args.self.now.found in
     let old = with_standing found standing in
-    let halves = found.states.halves in
+    let lists = found.states.lists in
     let cache = subst (λ (d : Discipline). IsCache r d c.find_row.new.self) (sym c.requires.room.ruled) c.in_ok-find_row.ensures.cache in
     kept_found r old _
-    (record { table = c.find_row.ensures.table; ruled = refl; halves = pieces_same halves.items.items halves.ends.items; store = c.find_row.ensures.kept })
-    (λ states h. states_on r old.states _ states refl (record { table = c.find_row.ensures.table; ruled = refl; halves = pieces_same halves.items.items halves.ends.items; store = c.find_row.ensures.kept }) cache c.in_ok-find_row.ensures.standing h)
+    (record { table = c.find_row.ensures.table; ruled = refl; lists = pieces_same lists.items.items lists.ends.items; store = c.find_row.ensures.kept })
+    (λ states h. states_on r old.states _ states refl refl refl (record { table = c.find_row.ensures.table; ruled = refl; lists = pieces_same lists.items.items lists.ends.items; store = c.find_row.ensures.kept }) cache c.in_ok-find_row.ensures.standing h)
     refl refl)
 
 pub returns-clause-row : goal.returns-clause-row

@@ -1,73 +1,113 @@
-use Rattle.cp_ends.proofs.Vocabulary.{◌∙◌, ap, length, subst, sym, Shown, List}
-use Rattle.cp_run.specs.declared.outcome.Halt.{Halt}
-use Rattle.cp_stretches.specs.Stretching.{LeadsTo}
-use Rattle.cp_ends.specs.ByRows.{Goes, KeepFound, width_of}
-use Rattle.cp_ends.specs.Rows.{IsRowFor}
+use Rattle.std.proofs.Common.{◌≡◌, ◌∙◌, ap, arith, length, subst, sym, true}
+use Rattle.cp_ends.proofs.Vocabulary.{Found, goal_at}
+use Rattle.cp_run.specs.declared.outcome.Halt.TheVariants.{Choice, Ended}
+use Rattle.cp_stretches.specs.declared.cache.LegCache.{LegCache}
+use Rattle.cp_ends.specs.ByRows.{KeepFound}
+use Rattle.cp_ends.specs.Halves.{width_of}
 use Rattle.cp_ends.specs.declared.end.End.{End}
-use Rattle.cp_ends.proofs.GoingOn.{ok_to}
-use Rattle.cp_ends.proofs.RowsVisited.{kept_both}
-use Rattle.cp_ends.proofs.Rowwise.{goes_so, some_of, written_long, written_over}
+use Rattle.cp_ends.specs.Rows.{IsHalved}
+use Rattle.cp_ends.proofs.Halves.{stated_by}
+use Rattle.cp_ends.proofs.RowsVisited.{kept_both, same_row_for}
 use Rattle.cp_ends.proofs.rows.RowSearch.go.Goals as goal
 
-pub copy_from_slice-requires : goal.copy_from_slice-requires
-copy_from_slice-requires c = c.args.self.now.row.ok.0 ∙ c.requires.room.row ∙ sym c.requires.here.3.is.long
+pub go_by_legs-requires-clause-here : goal.go_by_legs-requires-clause-here
+go_by_legs-requires-clause-here c =
+    let kept = c.in_ok-follow_move.ensures.kept in
+    let h = c.requires.here in
+    (h.0, h.1, kept.holds h.0 h.2, kept.rows c.args.from.now h.1 h.3, h.4)
 
-pub leads-requires-clause-here : goal.leads-requires-clause-here
-leads-requires-clause-here c =
-    let kept = c.args.self.now.found.states in
-    let m = c.requires.here.1 in
-    (c.requires.here.0.states, m, c.requires.here.2.states, subst (λ l. IsRowFor c.args.job.now.run.program.now kept l m) (sym (c.as_mut_slice-row.ensures.value ∙ c.copy_from_slice.ensures.items)) c.requires.here.3, c.requires.here.4)
+pub learn-requires-clause-process : goal.learn-requires-clause-process
+learn-requires-clause-process c =
+    let h = c.requires.here in
+    let held = c.in_ok-halt.ensures.kept.holds h.0 (c.in_ok-follow_move.ensures.kept.holds h.0 h.2) in
+    omega (arith, held.states.cached.placed.processes, c.requires.below)
 
-pub returns-in-Some-clause-kept : goal.returns-in-Some-clause-kept
-returns-in-Some-clause-kept c = record { holds = λ f h. record { states = c.in_ok-halt.ensures.kept f.states h.states; ends = h.ends; values = h.values }; rows = λ row m is. c.leads.ensures.rows row m is }
+pub learn-requires-clause-long : goal.learn-requires-clause-long
+learn-requires-clause-long c =
+    let h = c.requires.here in
+    (c.in_ok-halt.ensures.kept.rows c.args.from.now h.1 (c.in_ok-follow_move.ensures.kept.rows c.args.from.now h.1 h.3)).is.long
 
-pub returns-in-Some-clause-room : goal.returns-in-Some-clause-room
-returns-in-Some-clause-room c =
-    let row = c.copy_from_slice.new.self in
+pub learn-requires-clause-halved : goal.learn-requires-clause-halved
+learn-requires-clause-halved c = c.in_ok-halt.ensures.kept.halved c.args.numbers.numbers c.args.from.now (c.in_ok-follow_move.ensures.kept.halved c.args.numbers.numbers c.args.from.now c.requires.halved)
+
+pub learn-requires-clause-states : goal.learn-requires-clause-states
+learn-requires-clause-states c =
+    let h = c.requires.here in
+    let held = c.in_ok-halt.ensures.kept.holds h.0 (c.in_ok-follow_move.ensures.kept.holds h.0 h.2) in
+    (c.args.job.now.run.program.now, h.0.states, held.states)
+
+pub halve-requires : goal.halve-requires
+halve-requires c = ap length c.deref.ensures.value ∙ c.in_ok-halt.ensures.room.row ∙ ap width_of (sym c.learn.ensures.table)
+
+pub returns-in_ok-self-in-Choice-clause-room : goal.returns-in_ok-self-in-Choice-clause-room
+returns-in_ok-self-in-Choice-clause-room c =
     record {
-      ruled = c.leads.ensures.ruled ∙ c.requires.room.ruled;
-      row = written_long row.items c.leads.new.row row.len (sym row.ok.0) ∙ row.ok.0 ∙ ap length c.copy_from_slice.ensures.items ∙ c.requires.here.3.is.long ∙ ap width_of (sym c.leads.ensures.table);
+      ruled = c.halve.ensures.ruled ∙ c.learn.ensures.ruled ∙ c.in_ok-halt.ensures.room.ruled;
+      row = c.in_ok-halt.ensures.room.row ∙ ap width_of (sym (ap (λ (x : LegCache). x.table) c.halve.ensures.cache ∙ c.learn.ensures.table));
     }
 
-pub returns-in-Some-clause-goes : goal.returns-in-Some-clause-goes
-returns-in-Some-clause-goes c = λ m is may.
-    (let r = c.args.job.now.run.program.now in
-    let discipline = c.args.job.now.run.limits.discipline in
-    let steps = c.args.job.now.run.limits.steps in
-    let p = c.args.process in
-    let old = c.args.self.now.found.states in
-    let kept = c.leads.new.self in
-    let row = c.copy_from_slice.new.self in
-    let new = c.leads.new.row in
-    let shown = c.leads.new.shown.items in
-    let halt = c.in-Some.halt in
-    let here = subst (λ l. IsRowFor r old l m) (sym (c.as_mut_slice-row.ensures.value ∙ c.copy_from_slice.ensures.items)) is in
-    let before = some_of _ halt _ c.in-Some.is c.in_ok-halt.ensures.leads m here may in
-    let leads = subst (λ (l : List Shown). LeadsTo r discipline kept.cache.store kept.cache.table steps m p l halt new shown) c.clear.ensures.items before in
-    let goes = goes_so r discipline steps m p halt kept new shown (c.leads.ensures.ruled ∙ c.requires.room.ruled) leads in
-    let long = leads.stands.stands.long ∙ ap width_of c.leads.ensures.table ∙ sym c.requires.here.3.is.long ∙ sym (ap length c.copy_from_slice.ensures.items) ∙ sym row.ok.0 in
-    let ends = subst (λ (h : Halt End). Goes r discipline steps m p h kept new shown) (sym c.ended.ensures) goes in
-    subst (λ l. Goes r discipline steps m p c.ended.result kept l shown) (sym (written_over row.items new row.len long)) ends)
+pub returns-in-Ended-clause-room : goal.returns-in-Ended-clause-room
+returns-in-Ended-clause-room c = record { ruled = c.learn.ensures.ruled ∙ c.in_ok-halt.ensures.room.ruled; row = c.in_ok-halt.ensures.room.row ∙ ap width_of (sym c.learn.ensures.table) }
 
-pub go_slowly-requires-clause-room : goal.go_slowly-requires-clause-room
-go_slowly-requires-clause-room c =
-    let row = c.copy_from_slice.new.self in
-    record {
-      ruled = c.leads.ensures.ruled ∙ c.requires.room.ruled;
-      row = written_long row.items c.leads.new.row row.len (sym row.ok.0) ∙ row.ok.0 ∙ ap length c.copy_from_slice.ensures.items ∙ c.requires.here.3.is.long ∙ ap width_of (sym c.leads.ensures.table);
-    }
-
-pub go_slowly-requires-clause-here : goal.go_slowly-requires-clause-here
-go_slowly-requires-clause-here c =
-    let h = c.requires.here.2 in
-    (c.requires.here.0, c.requires.here.1, record { states = c.in_ok-halt.ensures.kept c.requires.here.0.states h.states; ends = h.ends; values = h.values }, c.leads.ensures.rows c.args.from.now c.requires.here.1 c.requires.here.3, c.requires.here.4)
-
-pub returns-in-None-clause-kept : goal.returns-in-None-clause-kept
-returns-in-None-clause-kept c =
+pub returns-in-Ended-clause-kept : goal.returns-in-Ended-clause-kept
+returns-in-Ended-clause-kept c =
     let r = c.args.job.now.run.program.now in
-    let found = c.args.self.now.found in
-    let first : KeepFound r found (record found { states = c.leads.new.self }) = record { holds = λ f h. record { states = c.in_ok-halt.ensures.kept f.states h.states; ends = h.ends; values = h.values }; rows = λ row m is. c.leads.ensures.rows row m is } in
-    ok_to c.go_slowly.result _ _ c.go_slowly.ensures.kept (λ halt kept. kept_both r found (record found { states = c.leads.new.self }) _ first kept)
+    let a = c.args.self.now.found in
+    let b = c.follow_move.new.self.found in
+    let d = c.go_by_legs.new.self.found in
+    let e : Found = record d { states = c.learn.new.self } in
+    kept_both r a d e (kept_both r a b d c.in_ok-follow_move.ensures.kept c.in_ok-halt.ensures.kept)
+    (record {
+      holds = λ f h. record { states = c.in_ok-learn.ensures.kept r f.states h.states; ends = h.ends; values = h.values };
+      rows = λ row m is. c.learn.ensures.rows r row m is;
+      halved = λ numbers row is. c.learn.ensures.lists numbers row is;
+    })
 
-pub returns-in-None-clause-goes : goal.returns-in-None-clause-goes
-returns-in-None-clause-goes c = ok_to c.go_slowly.result _ _ c.go_slowly.ensures.goes (λ halt goes m is may. goes m (c.leads.ensures.rows c.args.from.now m is) may)
+pub returns-in_ok-self-in-Choice-clause-kept : goal.returns-in_ok-self-in-Choice-clause-kept
+returns-in_ok-self-in-Choice-clause-kept c =
+    let r = c.args.job.now.run.program.now in
+    let a = c.args.self.now.found in
+    let b = c.follow_move.new.self.found in
+    let d = c.go_by_legs.new.self.found in
+    let e : Found = record d { states = c.learn.new.self } in
+    let g : Found = record d { states = c.halve.new.self } in
+    let mid : KeepFound r d e =
+    record {
+      holds = λ f h. record { states = c.in_ok-learn.ensures.kept r f.states h.states; ends = h.ends; values = h.values };
+      rows = λ row m is. c.learn.ensures.rows r row m is;
+      halved = λ numbers row is. c.learn.ensures.lists numbers row is;
+    } in
+    kept_both r a e g (kept_both r a d e (kept_both r a b d c.in_ok-follow_move.ensures.kept c.in_ok-halt.ensures.kept) mid)
+    (record {
+      holds = λ f h. record { states = c.halve.ensures.kept r f.states h.states; ends = h.ends; values = h.values };
+      rows = λ row m is. same_row_for r e.states g.states row m c.halve.ensures.cache c.halve.ensures.ruled is;
+      halved = λ numbers row is. c.halve.ensures.lists numbers row is;
+    })
+
+pub returns-in-Ended-clause-goes : goal.returns-in-Ended-clause-goes
+returns-in-Ended-clause-goes c = λ m is may.
+    (let g = c.in_ok-halt.ensures.goes m (c.in_ok-follow_move.ensures.kept.rows c.args.from.now m is) may in
+    record { after = g.after; is = λ due. absurd (not_due c.in-Ended.end due); goal = ap (λ h. goal_at h g.after) (sym c.in-Ended.is) ∙ g.goal; told = g.told })
+  where
+    not_due : (e : End) → Ended e ≡ Choice → ⊥
+    not_due e h = cc
+
+pub returns-in_ok-self-in-Choice-clause-goes : goal.returns-in_ok-self-in-Choice-clause-goes
+returns-in_ok-self-in-Choice-clause-goes c = λ m is may.
+    (let r = c.args.job.now.run.program.now in
+    let g = c.in_ok-halt.ensures.goes m (c.in_ok-follow_move.ensures.kept.rows c.args.from.now m is) may in
+    let row = c.go_by_legs.new.self.row.items in
+    let mid = c.learn.new.self in
+    let new = c.halve.new.self in
+    let halved = c.in_ok-self-in-Choice.field-0 in
+    record {
+      after = g.after;
+      is = λ due. stated_by r mid new row halved.numbers g.after c.halve.ensures.cache c.halve.ensures.ruled (subst (IsHalved new halved.numbers) c.deref.ensures.value c.in_ok-self-in-Choice.ensures.halved) (c.learn.ensures.rows r row g.after (g.is c.in-Choice.is));
+      goal = ap (λ h. goal_at h g.after) (sym c.in-Choice.is) ∙ g.goal;
+      told = g.told;
+    })
+
+pub returns-then-branch-clause-goes : goal.returns-then-branch-clause-goes
+returns-then-branch-clause-goes c = λ m is may.
+    (let made : c.in_ok-follow_move.field-0 ≡ true = search in
+    c.in_ok-follow_move.ensures.goes made m is may)

@@ -7,5 +7,5 @@ abbrev pub invariant-loop-process : goal.invariant-loop-process
 invariant-loop-process l =
     record {
       room : HasRoom l.job.run.limits.discipline l.self;
-      within : (m : Machine) → IsWithinRow l.job.run.program.now l.job.run.limits.discipline l.job.run.limits.steps l.job.most l.initial.self l.from l.at m [] → IsWithinRow l.job.run.program.now l.job.run.limits.discipline l.job.run.limits.steps l.job.most l.self l.from l.at m (take l.process-index l.process-items);
+      within : (m : Machine) → IsWithinRow l.job.run.program.now l.job.run.limits.discipline l.job.run.limits.steps l.job.most l.initial.self l.numbers.numbers l.from l.at m [] → IsWithinRow l.job.run.program.now l.job.run.limits.discipline l.job.run.limits.steps l.job.most l.self l.numbers.numbers l.from l.at m (take l.process-index l.process-items);
     }

@@ -1,26 +1,38 @@
-use Rattle.cp_ends.proofs.Vocabulary.{◌≡◌, ◌+◌, arith, false, refl, subst, suc, sym, true, slot_graph, ends_tests, searched, HoldsFew, SlotFindings}
+use Rattle.cp_ends.proofs.Vocabulary.{◌≡◌, ◌∙◌, ◌+◌, arith, false, refl, subst, suc, sym, true, slot_graph, ends_tests, searched, HoldsFew, SlotFindings}
 use Rattle.cp_search.specs.Searched.{IsTaken}
 use Rattle.cp_ends.specs.Answer.{IsStopped}
-use Rattle.cp_ends.specs.Rows.{IsRowFor}
+use Rattle.cp_parts.specs.Parts.{IsPartRow}
+use Rattle.cp_ends.specs.Rows.{IsHalved}
+use Rattle.cp_ends.proofs.Thawing.{row_short}
 use Rattle.cp_resolved.proofs.names.Entries.{not_there as past_none}
 use Rattle.cp_ends.proofs.rows.RowSearch.visit_all.Goals as goal
 
-pub row_at-requires : goal.row_at-requires
-row_at-requires g c =
+pub row_with-row-requires : goal.row_with-row-requires
+row_with-row-requires g c =
     let job = c.args.job.now in
     let r = job.run.program.now in
+    let kept = c.loop-number.self.found.states in
     let f : SlotFindings = searched (slot_graph r job.run.limits.discipline job.run.limits.steps) ends_tests c.loop-number.number in
-    (r, f.states, c.loop-number.invariant.before.holds.states)
+    let h = c.loop-number.invariant.before.holds.states in
+    let x = c.in-Some.ensures.found r f.states h in
+    (x.2.row.row, x.2.row.halved, x.2.row.is.long, row_short r kept f.states h x.0.0 x.2.row.row x.2.row.is)
 
 pub take_choices-requires-clause-within : goal.take_choices-requires-clause-within
 take_choices-requires-clause-within g c =
     let job = c.args.job.now in
     let r = job.run.program.now in
     let n = c.loop-number.number in
+    let kept = c.loop-number.self.found.states in
     let f : SlotFindings = searched (slot_graph r job.run.limits.discipline job.run.limits.steps) ends_tests n in
     let x = c.in-Some.ensures.found r f.states c.loop-number.invariant.before.holds.states in
-    let row = subst (λ l. IsRowFor r c.loop-number.self.found.states l x.0.0) (sym c.as_slice.ensures.value) x.2 in
-    (x.0.0, record { row_is = row.is; within = record { from = x.0; is = x.1; here = refl; quiet = x.2.it.quiet; holds = c.loop-number.invariant.before } })
+    let same = c.as_slice.ensures.value ∙ c.row_with-row.ensures x.2.row.row x.2.row.halved x.2.row.is.long in (
+      x.0.0,
+      record {
+        row_is = subst (IsPartRow kept.cache.store kept.cache.table x.0.0) (sym same) x.2.row.is;
+        halved = subst (IsHalved kept c.in-Some.numbers.numbers) (sym same) x.2.row.halved;
+        within = record { from = x.0; is = x.1; here = refl; quiet = x.2.it.quiet; holds = c.loop-number.invariant.before };
+      },
+    )
 
 pub loop-number-init : goal.loop-number-init
 loop-number-init g c = record { room = c.requires.room; before = c.requires.begun }

@@ -1,14 +1,15 @@
-use Rattle.cp_ends.proofs.Vocabulary.{◌≡◌, ◌≤◌, ◌∙◌, ◌++◌, List, [], Some, ap, length, subst, sym, ends_tests, machine_of, output_of, searched, slice_get, slot_graph, slots, may, Machine, Shown, SlotArrival, SlotFindings, Graph, goal_at, those_below}
+use Rattle.cp_ends.proofs.Vocabulary.{◌≡◌, ◌∙◌, ◌++◌, [], ap, length, subst, sym, ends_tests, machine_of, output_of, searched, slot_graph, slots, may, Machine, Shown, SlotArrival, SlotFindings, Graph, goal_at, those_below}
 use Rattle.std.specs.Prelude.{◌∷◌}
 use Rattle.cp_machine.specs.Bodies.{KeepBodies, has_moved}
 use Rattle.cp_run.specs.declared.outcome.Halt.{Halt}
 use Rattle.cp_run.specs.declared.outcome.Halt.TheVariants.{Choice}
 use Rattle.cp_ends.specs.Answer.{halt_of}
-use Rattle.cp_ends.specs.Rows.{IsRowFor, middle_of}
+use Rattle.cp_ends.specs.Halves.{width_of}
+use Rattle.cp_ends.specs.Rows.{IsRowFor}
 use Rattle.cp_ends.specs.Visited.{gone_with}
 use Rattle.cp_ends.specs.declared.end.End.{End}
 use Rattle.cp_ends.proofs.GoingOn.{Takes, number_so, ok_both, ok_to, state_within, still_there, stops_at, within_more}
-use Rattle.cp_ends.proofs.Halves.{middle_within}
+use Rattle.cp_ends.proofs.Halves.{width_is}
 use Rattle.cp_ends.proofs.RowsVisited.{row_stands, takes_from}
 use Rattle.cp_ends.proofs.RuledStates.{within_ruled}
 use Rattle.cp_ends.proofs.search.EndsVisit.take_choice.Goals as goal
@@ -42,7 +43,7 @@ row_after-requires-clause-here g c =
     (f, w.from, w.holds.holds, still_there r gr job.most c.args.self.now.found c.args.at m done w, ap (λ k. may (slots r discipline) k p) (sym w.here) ∙ c.requires.may, c.in_ok-halt.ensures.goal ∙ ap (λ k. (gr.on k p).goal) (c.requires.copied ∙ w.here))
 
 pub arrive-requires : goal.arrive-requires
-arrive-requires g c = λ due. subst (λ l. middle_of c.row_after.new.found.states.cache.table ≤ length l) (sym c.as_slice.ensures.value) (middle_within c.row_after.new.found.states (machine_of c.choose.new.state) c.in_ok-row.row.items (c.in_ok-row.ensures.row due))
+arrive-requires g c = λ due. subst (λ l. length l ≡ width_of c.row_after.new.found.states.cache.table) (sym c.as_slice.ensures.value) (width_is c.row_after.new.found.states (machine_of c.choose.new.state) c.in_ok-row.row.items (c.in_ok-row.ensures.row due))
 
 pub returns-clause-kept : goal.returns-clause-kept
 returns-clause-kept g c =

@@ -1,11 +1,10 @@
-use Rattle.std.proofs.Common.{◌≡◌, ◌∙◌, refl, subst, sym}
+use Rattle.std.proofs.Common.{refl, subst, sym}
 use Rattle.std.specs.Prelude.{Option, None, Some, IfSome}
 use Rattle.cp_ends.proofs.Vocabulary.{Discipline}
 use Rattle.cp_parts.proofs.Pieces.{pieces_same}
 use Rattle.cp_stretches.specs.Cached.{IsCache, StandsFor}
-use Rattle.cp_ends.specs.Rows.{IsRowFor}
 use Rattle.cp_ends.proofs.GoingOn.{ok_both, ok_to}
-use Rattle.cp_ends.proofs.Halves.{row_for_on}
+use Rattle.cp_ends.proofs.Halves.{halved_on, row_for_on}
 use Rattle.cp_ends.proofs.Keeping.{states_on}
 use Rattle.cp_ends.proofs.Rowwise.{stands_for}
 use Rattle.cp_ends.proofs.states.States.leads.Goals as goal
@@ -31,12 +30,17 @@ pub returns-clause-kept : goal.returns-clause-kept
 returns-clause-kept c =
     let r = c.args.job.now.program.now in
     let old = c.args.self.now in
-    ok_both c.choose.result _ _ _ c.choose.ensures.cache c.choose.ensures.standing (λ b cache standing states h. states_on r old _ states refl (record { table = c.choose.ensures.table; ruled = refl; halves = pieces_same old.halves.items.items old.halves.ends.items; store = c.choose.ensures.kept }) (subst (λ (d : Discipline). IsCache r d c.choose.new.self) (sym c.requires.ruled) cache) standing h)
+    ok_both c.choose.result _ _ _ c.choose.ensures.cache c.choose.ensures.standing (λ b cache standing states h. states_on r old _ states refl refl refl (record { table = c.choose.ensures.table; ruled = refl; lists = pieces_same old.lists.items.items old.lists.ends.items; store = c.choose.ensures.kept }) (subst (λ (d : Discipline). IsCache r d c.choose.new.self) (sym c.requires.ruled) cache) standing h)
 
 pub returns-clause-rows : goal.returns-clause-rows
 returns-clause-rows c = λ list m is.
     (let old = c.args.self.now in
-    row_for_on c.args.job.now.program.now old _ list m (record { table = c.choose.ensures.table; ruled = refl; halves = pieces_same old.halves.items.items old.halves.ends.items; store = c.choose.ensures.kept }) is)
+    row_for_on c.args.job.now.program.now old _ list m (record { table = c.choose.ensures.table; ruled = refl; lists = pieces_same old.lists.items.items old.lists.ends.items; store = c.choose.ensures.kept }) is)
+
+pub returns-clause-lists : goal.returns-clause-lists
+returns-clause-lists c = λ numbers list is.
+    (let old = c.args.self.now in
+    halved_on old _ numbers list (record { table = c.choose.ensures.table; ruled = refl; lists = pieces_same old.lists.items.items old.lists.ends.items; store = c.choose.ensures.kept }) is)
 
 pub returns-clause-leads : goal.returns-clause-leads
 returns-clause-leads c =

@@ -9,4 +9,4 @@ use Rattle.cp_ends.proofs.states.States.row_of.Goals as goal
 pub returns-clause-kept : goal.returns-clause-kept
 returns-clause-kept c = λ r states h.
     (let old = c.args.self.now in
-    states_on r old _ states refl (record { table = refl; ruled = refl; halves = pieces_same old.halves.items.items old.halves.ends.items; store = c.row_of.ensures.kept }) (cache_on r old.discipline old.cache _ h.cached c.row_of.ensures.kept refl refl (λ k. k)) (record { own = h.standing.own; row = row_on old.cache.store _ old.cache.table (machine_of old.standing.state) old.standing.row.items c.row_of.ensures.kept h.standing.row }) h)
+    states_on r old _ states refl refl refl (record { table = refl; ruled = refl; lists = pieces_same old.lists.items.items old.lists.ends.items; store = c.row_of.ensures.kept }) (cache_on r old.discipline old.cache _ h.cached c.row_of.ensures.kept refl refl (λ k. k)) (record { own = h.standing.own; row = row_on old.cache.store _ old.cache.table (machine_of old.standing.state) old.standing.row.items c.row_of.ensures.kept h.standing.row }) h)

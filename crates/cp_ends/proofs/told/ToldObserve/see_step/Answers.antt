@@ -1,4 +1,4 @@
-use Rattle.std.proofs.Common.{◌≡◌, ◌∙◌, ◌++◌, ap, refl, sym}
+use Rattle.std.proofs.Common.{◌∙◌, ◌++◌, ap, refl, sym}
 use Rattle.std.specs.Prelude.{◌||◌}
 use Rattle.cp_machine.specs.Statements.{Stepped}
 use Rattle.cp_machine.specs.System.{machine_of}

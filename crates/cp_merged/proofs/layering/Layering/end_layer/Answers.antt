@@ -1,66 +1,68 @@
-use Rattle.cp_merged.proofs.Words.{rules, ◌≡◌, ◌∙◌, ◌∷◌, refl, sym, subst, arith, machine_of, output_of, slots, same_outcome, front_at, same_key, AreLeads, StateRow}
+use Rattle.std.proofs.Common.{refl, ◌∙◌, ◌++◌, ◌+◌, drop, append-nil, subst, arith}
+use Rattle.std.specs.Prelude.{[]}
+use Rattle.cp_merged.proofs.Words.{rows_of}
 use Rattle.cp_merged.proofs.Making.{Ending, ending_start, ending_next, ending_more, ending_done, ending_small}
-use Rattle.cp_merged.specs.declared.prefixes.Prefixes as code
+use Rattle.cp_merged.proofs.Rowing.{left_from, rows_end, rows_length}
 use Rattle.cp_merged.proofs.layering.Layering.end_layer.Goals as goal
 
-pub loop-key-init : goal.loop-key-init
-loop-key-init g c =
+pub loop-number-init : goal.loop-number-init
+loop-number-init g c =
     let r = c.args.job.now.run.program.now in
     let l = c.args.job.now.run.limits in
-    let store = c.args.self.now.frontier.store in
-    let all = c.into_iter-key-iterator.ensures.into_iter_gives ∙ c.iter-key-items.ensures.rest in
+    let self = c.args.self.now in
     record {
-      room = c.requires.own.reserved.output;
-      ending = ending_start r l.discipline l.steps l.choices store c.args.self.now.frontier.ended.entries c.into_iter-key-iterator.result c.requires.own.sound.few l.few_choices (subst (λ es. AreLeads r store es (front_at (slots r l.discipline) same_outcome same_key l.steps l.choices).layer) (sym all) c.requires.layer) c.requires.ended;
+      known = refl;
+      ending = ending_start r l.discipline l.steps l.choices self.known self.frontier.ended.entries (rows_of c.args.layer.now) c.requires.on.known_is.cached.sound.few l.few_choices c.requires.layer c.requires.ended;
     }
 
-pub take_output-requires : goal.take_output-requires
-take_output-requires g c =
+pub index-prefixes-requires : goal.index-prefixes-requires
+index-prefixes-requires g c = let layer = c.args.layer.now in omega (arith, rows_length layer.width layer.numbers.items layer.leads.items)
+
+pub row-requires : goal.row-requires
+row-requires g c = let layer = c.args.layer.now in omega (arith, rows_length layer.width layer.numbers.items layer.leads.items)
+
+pub output-shown-requires : goal.output-shown-requires
+output-shown-requires g c =
     let r = c.args.job.now.run.program.now in
     let l = c.args.job.now.run.limits in
-    let old = c.loop-key.self.frontier in
-    let es = c.next.new.self in
-    let e : StateRow × code.Prefixes = (c.in-Some.key.now, c.in-Some.prefixes.now) in
-    let at : c.loop-key.key-iterator ≡ (c.in-Some.key.now, c.in-Some.prefixes.now) ∷ c.next.new.self = first_of (search (rules, c.in-Some.ensures.steps), cc (c.in-Some.ensures.steps, c.in-Some.key-is, c.in-Some.prefixes-is), grind (arith, c.in-Some.ensures.steps, c.in-Some.key-is, c.in-Some.prefixes-is), assumption c.in-Some.ensures.steps) in
-    let m = subst (Ending r l.discipline l.steps l.choices old.store old.ended.entries) at c.loop-key.invariant.ending in
-    let n = ending_next r l.discipline l.steps l.choices old.store old.ended.entries es e m in
-    let shown = n.own.shown in
-    let room = c.loop-key.invariant.room in
-    (n.lead.state, omega (arith, shown, room), n.row)
+    let old = c.loop-number.self in
+    let layer = c.args.layer.now in
+    let at = left_from layer c.loop-number.number c.row.result.now c.index-prefixes.result.now (omega (arith, rows_length layer.width layer.numbers.items layer.leads.items)) c.row.ensures c.index-prefixes.ensures in
+    let m = subst (Ending r l.discipline l.steps l.choices old.known old.frontier.ended.entries) at c.loop-number.invariant.ending in
+    let n = ending_next r l.discipline l.steps l.choices old.known old.frontier.ended.entries (drop (c.loop-number.number + 1) (rows_of layer)) (c.row.result.now, c.index-prefixes.result.now) m in
+    (n.lead.state.output, n.row.output)
 
 pub end-requires : goal.end-requires
 end-requires g c =
     let r = c.args.job.now.run.program.now in
     let l = c.args.job.now.run.limits in
-    let old = c.loop-key.self.frontier in
-    let es = c.next.new.self in
-    let e : StateRow × code.Prefixes = (c.in-Some.key.now, c.in-Some.prefixes.now) in
-    let at : c.loop-key.key-iterator ≡ (c.in-Some.key.now, c.in-Some.prefixes.now) ∷ c.next.new.self = first_of (search (rules, c.in-Some.ensures.steps), cc (c.in-Some.ensures.steps, c.in-Some.key-is, c.in-Some.prefixes-is), grind (arith, c.in-Some.ensures.steps, c.in-Some.key-is, c.in-Some.prefixes-is), assumption c.in-Some.ensures.steps) in
-    let m = subst (Ending r l.discipline l.steps l.choices old.store old.ended.entries) at c.loop-key.invariant.ending in
-    ending_small r l.discipline l.steps l.choices old.store old.ended.entries es e m
+    let old = c.loop-number.self in
+    let layer = c.args.layer.now in
+    let at = left_from layer c.loop-number.number c.row.result.now c.index-prefixes.result.now (omega (arith, rows_length layer.width layer.numbers.items layer.leads.items)) c.row.ensures c.index-prefixes.ensures in
+    let m = subst (Ending r l.discipline l.steps l.choices old.known old.frontier.ended.entries) at c.loop-number.invariant.ending in
+    ending_small r l.discipline l.steps l.choices old.known old.frontier.ended.entries (drop (c.loop-number.number + 1) (rows_of layer)) (c.row.result.now, c.index-prefixes.result.now) m
 
-pub loop-key-preserved : goal.loop-key-preserved
-loop-key-preserved g c =
+pub loop-number-preserved : goal.loop-number-preserved
+loop-number-preserved g c =
     let r = c.args.job.now.run.program.now in
     let l = c.args.job.now.run.limits in
-    let old = c.loop-key.self.frontier in
-    let es = c.next.new.self in
-    let e : StateRow × code.Prefixes = (c.in-Some.key.now, c.in-Some.prefixes.now) in
-    let at : c.loop-key.key-iterator ≡ (c.in-Some.key.now, c.in-Some.prefixes.now) ∷ c.next.new.self = first_of (search (rules, c.in-Some.ensures.steps), cc (c.in-Some.ensures.steps, c.in-Some.key-is, c.in-Some.prefixes-is), grind (arith, c.in-Some.ensures.steps, c.in-Some.key-is, c.in-Some.prefixes-is), assumption c.in-Some.ensures.steps) in
-    let m = subst (Ending r l.discipline l.steps l.choices old.store old.ended.entries) at c.loop-key.invariant.ending in
-    let n = ending_next r l.discipline l.steps l.choices old.store old.ended.entries es e m in
+    let old = c.loop-number.self in
     let new = c.end.new.self in
-    let same : output_of (machine_of c.take_output.new.state) ≡ output_of n.lead.state = c.take_output.ensures.output n.lead.state n.row in
-    let room = c.loop-key.invariant.room in
-    let more = c.take_output.ensures.room in
+    let layer = c.args.layer.now in
+    let rest = drop (c.loop-number.number + 1) (rows_of layer) in
+    let at = left_from layer c.loop-number.number c.row.result.now c.index-prefixes.result.now (omega (arith, rows_length layer.width layer.numbers.items layer.leads.items)) c.row.ensures c.index-prefixes.ensures in
+    let m = subst (Ending r l.discipline l.steps l.choices old.known old.frontier.ended.entries) at c.loop-number.invariant.ending in
+    let n = ending_next r l.discipline l.steps l.choices old.known old.frontier.ended.entries rest (c.row.result.now, c.index-prefixes.result.now) m in
     record {
-      room = omega (arith, room, more);
-      ending = ending_more r l.discipline l.steps l.choices old.store new.store old.ended.entries new.ended.entries es e m (output_of (machine_of c.take_output.new.state)) c.in-Some.prefixes.now.first.items c.end.ensures.store same refl (λ ts h. c.in_ok-end.ensures.ended ts h);
+      known = c.loop-number.invariant.known;
+      ending = ending_more r l.discipline l.steps l.choices old.known old.frontier.ended.entries new.ended.entries rest (c.row.result.now, c.index-prefixes.result.now) m (c.output-shown.result.now ++ []) (append-nil c.output-shown.result.now ∙ c.output-shown.ensures n.lead.state.output n.row.output) (λ ts h. c.in_ok-end.ensures.ended ts h);
     }
 
 pub returns : goal.returns
 returns g c =
     let r = c.args.job.now.run.program.now in
     let l = c.args.job.now.run.limits in
-    let front = c.loop-key.self.frontier in
-    ending_done r l.discipline l.steps l.choices front.store front.ended.entries (subst (Ending r l.discipline l.steps l.choices front.store front.ended.entries) c.in-None.ensures.steps.0 c.loop-key.invariant.ending)
+    let self = c.loop-number.self in
+    let layer = c.args.layer.now in
+    let none = rows_end layer.width layer.numbers.items layer.leads.items c.loop-number.number (omega (arith, rows_length layer.width layer.numbers.items layer.leads.items)) in
+    ending_done r l.discipline l.steps l.choices self.known self.frontier.ended.entries (subst (Ending r l.discipline l.steps l.choices self.known self.frontier.ended.entries) none c.loop-number.invariant.ending)

@@ -1,133 +1,101 @@
-use Rattle.std.proofs.Common.{rules, ◌≡◌, ◌∙◌, ◌<◌, [], ◌∷◌, length, sym, subst, arith}
-use Rattle.cp_merged.proofs.Words.{machine_of, slots, IsRowOf, row_on, same_outcome, front_at, same_key, AreLeads, StateRow}
-use Rattle.cp_merged.specs.Stored.{IsStored}
+use Rattle.std.proofs.Common.{◌+◌, ◌<◌, drop, length, subst, arith}
+use Rattle.std.specs.Prelude.{[]}
+use Rattle.cp_merged.proofs.Words.{rows_of}
 use Rattle.cp_merged.proofs.Making.{Making, leads_length, making_start, making_next, making_more, making_done, making_many, making_room, making_small}
-use Rattle.cp_merged.specs.declared.prefixes.Prefixes as code
+use Rattle.cp_merged.proofs.Rowing.{left_from, rows_end, rows_length}
 use Rattle.cp_merged.proofs.layering.Layering.next_layer.Goals as goal
 
-pub loop-key-init : goal.loop-key-init
-loop-key-init g c =
+pub loop-number-init : goal.loop-number-init
+loop-number-init g c =
     let r = c.args.job.now.run.program.now in
     let l = c.args.job.now.run.limits in
-    let front = c.args.self.now.frontier in
-    let all = c.into_iter-key-iterator.ensures.into_iter_gives ∙ c.iter-key-items.ensures.rest in
+    let self = c.args.self.now in
     let due = c.requires.due in
-    let most = l.few_choices in
-    let none = leads_length r front.store front.layer.entries [] c.requires.front.layer in
+    let none = leads_length r self.known (rows_of self.frontier.layer) [] c.requires.front.layer in
     record {
-      here = c.requires.here;
-      next = c.requires.next;
+      on = c.requires.on;
       few = omega (arith, none);
-      making = making_start r l.discipline l.steps c.args.depth front.store front.ended.entries front.layer.entries c.into_iter-key-iterator.result c.requires.here.own.sound.few (omega (arith, due, most)) (subst (λ es. AreLeads r front.store es (front_at (slots r l.discipline) same_outcome same_key l.steps c.args.depth).layer) (sym all) c.requires.layer) c.requires.front;
+      making = making_start r l.discipline l.steps c.args.depth self.known self.frontier.ended.entries (rows_of self.frontier.layer) (rows_of c.args.layer.now) c.requires.on.known_is.cached.sound.few (omega (arith, due, l.few_choices)) c.requires.layer c.requires.front;
     }
 
-pub take-requires-clause-row : goal.take-requires-clause-row
-take-requires-clause-row g c =
-    let r = c.args.job.now.run.program.now in
-    let l = c.args.job.now.run.limits in
-    let d = c.args.depth in
-    let old = c.loop-key.self.frontier in
-    let es = c.next.new.self in
-    let e : StateRow × code.Prefixes = (c.in-Some.key.now, c.in-Some.prefixes.now) in
-    let at : c.loop-key.key-iterator ≡ (c.in-Some.key.now, c.in-Some.prefixes.now) ∷ c.next.new.self = first_of (search (rules, c.in-Some.ensures.steps), cc (c.in-Some.ensures.steps, c.in-Some.key-is, c.in-Some.prefixes-is), grind (arith, c.in-Some.ensures.steps, c.in-Some.key-is, c.in-Some.prefixes-is), assumption c.in-Some.ensures.steps) in
-    let m = subst (Making r l.discipline l.steps d old.store old.ended.entries old.layer.entries) at c.loop-key.invariant.making in
-    let n = making_next r l.discipline l.steps d old.store old.ended.entries old.layer.entries es e m in
-    (r, n.lead.state, c.loop-key.invariant.here.own, n.own, n.row)
+pub index-prefixes-requires : goal.index-prefixes-requires
+index-prefixes-requires g c = let layer = c.args.layer.now in omega (arith, rows_length layer.width layer.numbers.items layer.leads.items)
+
+pub row-row-requires : goal.row-row-requires
+row-row-requires g c = let layer = c.args.layer.now in omega (arith, rows_length layer.width layer.numbers.items layer.leads.items)
+
+pub take_choices-requires-clause-on : goal.take_choices-requires-clause-on
+take_choices-requires-clause-on g c = c.loop-number.invariant.on
 
 pub take_choices-requires-clause-here : goal.take_choices-requires-clause-here
 take_choices-requires-clause-here g c =
     let r = c.args.job.now.run.program.now in
     let l = c.args.job.now.run.limits in
-    let d = c.args.depth in
-    let old = c.loop-key.self.frontier in
-    let es = c.next.new.self in
-    let e : StateRow × code.Prefixes = (c.in-Some.key.now, c.in-Some.prefixes.now) in
-    let at : c.loop-key.key-iterator ≡ (c.in-Some.key.now, c.in-Some.prefixes.now) ∷ c.next.new.self = first_of (search (rules, c.in-Some.ensures.steps), cc (c.in-Some.ensures.steps, c.in-Some.key-is, c.in-Some.prefixes-is), grind (arith, c.in-Some.ensures.steps, c.in-Some.key-is, c.in-Some.prefixes-is), assumption c.in-Some.ensures.steps) in
-    let m = subst (Making r l.discipline l.steps d old.store old.ended.entries old.layer.entries) at c.loop-key.invariant.making in
-    let n = making_next r l.discipline l.steps d old.store old.ended.entries old.layer.entries es e m in
-    record {
-      own = c.take.ensures.own r n.lead.state c.loop-key.invariant.here.own n.own n.row;
-      row = subst (IsRowOf old.store c.in-Some.key.now.numbers) (sym (c.take.ensures.same r n.lead.state c.loop-key.invariant.here.own n.own n.row)) n.row;
-    }
-
-pub take_choices-requires-clause-next : goal.take_choices-requires-clause-next
-take_choices-requires-clause-next g c =
-    c.loop-key.invariant.next
+    let old = c.loop-number.self in
+    let layer = c.args.layer.now in
+    let at = left_from layer c.loop-number.number c.row-row.result.now c.index-prefixes.result.now (omega (arith, rows_length layer.width layer.numbers.items layer.leads.items)) c.row-row.ensures c.index-prefixes.ensures in
+    let m = subst (Making r l.discipline l.steps c.args.depth old.known old.frontier.ended.entries (rows_of old.frontier.layer)) at c.loop-number.invariant.making in
+    let n = making_next r l.discipline l.steps c.args.depth old.known old.frontier.ended.entries (rows_of old.frontier.layer) (drop (c.loop-number.number + 1) (rows_of layer)) (c.row-row.result.now, c.index-prefixes.result.now) m in
+    (n.lead.state, n.row, n.own)
 
 pub take_choices-requires-clause-room : goal.take_choices-requires-clause-room
 take_choices-requires-clause-room g c =
     let r = c.args.job.now.run.program.now in
     let l = c.args.job.now.run.limits in
-    let d = c.args.depth in
-    let old = c.loop-key.self.frontier in
-    let es = c.next.new.self in
-    let e : StateRow × code.Prefixes = (c.in-Some.key.now, c.in-Some.prefixes.now) in
-    let at : c.loop-key.key-iterator ≡ (c.in-Some.key.now, c.in-Some.prefixes.now) ∷ c.next.new.self = first_of (search (rules, c.in-Some.ensures.steps), cc (c.in-Some.ensures.steps, c.in-Some.key-is, c.in-Some.prefixes-is), grind (arith, c.in-Some.ensures.steps, c.in-Some.key-is, c.in-Some.prefixes-is), assumption c.in-Some.ensures.steps) in
-    let m = subst (Making r l.discipline l.steps d old.store old.ended.entries old.layer.entries) at c.loop-key.invariant.making in
+    let old = c.loop-number.self in
+    let layer = c.args.layer.now in
+    let at = left_from layer c.loop-number.number c.row-row.result.now c.index-prefixes.result.now (omega (arith, rows_length layer.width layer.numbers.items layer.leads.items)) c.row-row.ensures c.index-prefixes.ensures in
+    let m = subst (Making r l.discipline l.steps c.args.depth old.known old.frontier.ended.entries (rows_of old.frontier.layer)) at c.loop-number.invariant.making in
     let due = c.requires.due in
-    let most = l.few_choices in
-    making_room r l.discipline l.steps d old.store old.ended.entries old.layer.entries es e (omega (arith, due, most)) m
+    making_room r l.discipline l.steps c.args.depth old.known old.frontier.ended.entries (rows_of old.frontier.layer) (drop (c.loop-number.number + 1) (rows_of layer)) (c.row-row.result.now, c.index-prefixes.result.now) (omega (arith, due, l.few_choices)) m
 
 pub take_choices-requires-clause-small : goal.take_choices-requires-clause-small
 take_choices-requires-clause-small g c =
     let r = c.args.job.now.run.program.now in
     let l = c.args.job.now.run.limits in
-    let d = c.args.depth in
-    let old = c.loop-key.self.frontier in
-    let es = c.next.new.self in
-    let e : StateRow × code.Prefixes = (c.in-Some.key.now, c.in-Some.prefixes.now) in
-    let at : c.loop-key.key-iterator ≡ (c.in-Some.key.now, c.in-Some.prefixes.now) ∷ c.next.new.self = first_of (search (rules, c.in-Some.ensures.steps), cc (c.in-Some.ensures.steps, c.in-Some.key-is, c.in-Some.prefixes-is), grind (arith, c.in-Some.ensures.steps, c.in-Some.key-is, c.in-Some.prefixes-is), assumption c.in-Some.ensures.steps) in
-    let m = subst (Making r l.discipline l.steps d old.store old.ended.entries old.layer.entries) at c.loop-key.invariant.making in
-    making_small r l.discipline l.steps d old.store old.ended.entries old.layer.entries es e m
+    let old = c.loop-number.self in
+    let layer = c.args.layer.now in
+    let at = left_from layer c.loop-number.number c.row-row.result.now c.index-prefixes.result.now (omega (arith, rows_length layer.width layer.numbers.items layer.leads.items)) c.row-row.ensures c.index-prefixes.ensures in
+    let m = subst (Making r l.discipline l.steps c.args.depth old.known old.frontier.ended.entries (rows_of old.frontier.layer)) at c.loop-number.invariant.making in
+    making_small r l.discipline l.steps c.args.depth old.known old.frontier.ended.entries (rows_of old.frontier.layer) (drop (c.loop-number.number + 1) (rows_of layer)) (c.row-row.result.now, c.index-prefixes.result.now) m
 
 pub returns-then-len-job-clause-many : goal.returns-then-len-job-clause-many
 returns-then-len-job-clause-many g c =
     let r = c.args.job.now.run.program.now in
     let l = c.args.job.now.run.limits in
-    let d = c.args.depth in
-    let old = c.loop-key.self.frontier in
-    let es = c.next.new.self in
-    let e : StateRow × code.Prefixes = (c.in-Some.key.now, c.in-Some.prefixes.now) in
-    let at : c.loop-key.key-iterator ≡ (c.in-Some.key.now, c.in-Some.prefixes.now) ∷ c.next.new.self = first_of (search (rules, c.in-Some.ensures.steps), cc (c.in-Some.ensures.steps, c.in-Some.key-is, c.in-Some.prefixes-is), grind (arith, c.in-Some.ensures.steps, c.in-Some.key-is, c.in-Some.prefixes-is), assumption c.in-Some.ensures.steps) in
-    let m = subst (Making r l.discipline l.steps d old.store old.ended.entries old.layer.entries) at c.loop-key.invariant.making in
-    let n = making_next r l.discipline l.steps d old.store old.ended.entries old.layer.entries es e m in
-    let new = c.take_choices.new.self.frontier in
-    let same : machine_of c.take.new.state ≡ n.lead.state = c.take.ensures.same r n.lead.state c.loop-key.invariant.here.own n.own n.row in
-    let made = making_more r l.discipline l.steps d old.store new.store old.ended.entries new.ended.entries old.layer.entries new.layer.entries es e m (machine_of c.take.new.state) c.requires.here.own.sound.few c.in-Ok.ensures.kept same (λ f h. c.in-Ok.ensures.front f h) in
-    let many : c.args.job.now.most < length new.layer.entries = omega arith in
-    making_many r l.discipline l.steps d c.args.job.now.most new.store new.ended.entries new.layer.entries es many made
+    let old = c.loop-number.self in
+    let new = c.take_choices.new.self in
+    let layer = c.args.layer.now in
+    let rest = drop (c.loop-number.number + 1) (rows_of layer) in
+    let at = left_from layer c.loop-number.number c.row-row.result.now c.index-prefixes.result.now (omega (arith, rows_length layer.width layer.numbers.items layer.leads.items)) c.row-row.ensures c.index-prefixes.ensures in
+    let m = subst (Making r l.discipline l.steps c.args.depth old.known old.frontier.ended.entries (rows_of old.frontier.layer)) at c.loop-number.invariant.making in
+    let n = making_next r l.discipline l.steps c.args.depth old.known old.frontier.ended.entries (rows_of old.frontier.layer) rest (c.row-row.result.now, c.index-prefixes.result.now) m in
+    let made = making_more r l.discipline l.steps c.args.depth old.known new.known old.frontier.ended.entries new.frontier.ended.entries (rows_of old.frontier.layer) (rows_of new.frontier.layer) rest (c.row-row.result.now, c.index-prefixes.result.now) m c.requires.on.known_is.cached.sound.few c.in-Ok.ensures.kept (λ f h. c.in-Ok.ensures.front n.lead.state f n.row n.own h) in
+    let many : c.args.job.now.most < length (rows_of new.frontier.layer) = omega arith in
+    making_many r l.discipline l.steps c.args.depth c.args.job.now.most new.known new.frontier.ended.entries (rows_of new.frontier.layer) rest many made
 
-pub loop-key-preserved : goal.loop-key-preserved
-loop-key-preserved g c =
+pub loop-number-preserved : goal.loop-number-preserved
+loop-number-preserved g c =
     let r = c.args.job.now.run.program.now in
     let l = c.args.job.now.run.limits in
-    let d = c.args.depth in
-    let old = c.loop-key.self.frontier in
-    let es = c.next.new.self in
-    let e : StateRow × code.Prefixes = (c.in-Some.key.now, c.in-Some.prefixes.now) in
-    let at : c.loop-key.key-iterator ≡ (c.in-Some.key.now, c.in-Some.prefixes.now) ∷ c.next.new.self = first_of (search (rules, c.in-Some.ensures.steps), cc (c.in-Some.ensures.steps, c.in-Some.key-is, c.in-Some.prefixes-is), grind (arith, c.in-Some.ensures.steps, c.in-Some.key-is, c.in-Some.prefixes-is), assumption c.in-Some.ensures.steps) in
-    let m = subst (Making r l.discipline l.steps d old.store old.ended.entries old.layer.entries) at c.loop-key.invariant.making in
-    let n = making_next r l.discipline l.steps d old.store old.ended.entries old.layer.entries es e m in
-    let new = c.take_choices.new.self.frontier in
-    let same : machine_of c.take.new.state ≡ n.lead.state = c.take.ensures.same r n.lead.state c.loop-key.invariant.here.own n.own n.row in
-    let made = making_more r l.discipline l.steps d old.store new.store old.ended.entries new.ended.entries old.layer.entries new.layer.entries es e m (machine_of c.take.new.state) c.requires.here.own.sound.few c.in-Ok.ensures.kept same (λ f h. c.in-Ok.ensures.front f h) in
-    let is = subst (IsRowOf old.store c.in-Some.key.now.numbers) (sym same) n.row in
+    let old = c.loop-number.self in
+    let new = c.take_choices.new.self in
+    let layer = c.args.layer.now in
+    let rest = drop (c.loop-number.number + 1) (rows_of layer) in
+    let at = left_from layer c.loop-number.number c.row-row.result.now c.index-prefixes.result.now (omega (arith, rows_length layer.width layer.numbers.items layer.leads.items)) c.row-row.ensures c.index-prefixes.ensures in
+    let m = subst (Making r l.discipline l.steps c.args.depth old.known old.frontier.ended.entries (rows_of old.frontier.layer)) at c.loop-number.invariant.making in
+    let n = making_next r l.discipline l.steps c.args.depth old.known old.frontier.ended.entries (rows_of old.frontier.layer) rest (c.row-row.result.now, c.index-prefixes.result.now) m in
     record {
-      here = subst (IsStored r new.store) (sym c.take_choices.ensures.here) (record {
-        own = c.take.ensures.own r n.lead.state c.loop-key.invariant.here.own n.own n.row;
-        row = row_on old.store new.store c.in-Some.key.now.numbers (machine_of c.take.new.state) c.in-Ok.ensures.kept is;
-      });
-      next = c.in-Ok.ensures.next;
+      on = c.in-Ok.ensures.on;
       few = omega arith;
-      making = made;
+      making = making_more r l.discipline l.steps c.args.depth old.known new.known old.frontier.ended.entries new.frontier.ended.entries (rows_of old.frontier.layer) (rows_of new.frontier.layer) rest (c.row-row.result.now, c.index-prefixes.result.now) m c.requires.on.known_is.cached.sound.few c.in-Ok.ensures.kept (λ f h. c.in-Ok.ensures.front n.lead.state f n.row n.own h);
     }
 
 pub returns-clause-front : goal.returns-clause-front
 returns-clause-front g c =
     let r = c.args.job.now.run.program.now in
     let l = c.args.job.now.run.limits in
-    let front = c.loop-key.self.frontier in
-    making_done r l.discipline l.steps c.args.depth front.store front.ended.entries front.layer.entries (subst (Making r l.discipline l.steps c.args.depth front.store front.ended.entries front.layer.entries) c.in-None.ensures.steps.0 c.loop-key.invariant.making)
-
-pub take-requires-clause-known : goal.take-requires-clause-known
-take-requires-clause-known g c = c.loop-key.invariant.here.row
+    let self = c.loop-number.self in
+    let layer = c.args.layer.now in
+    let none = rows_end layer.width layer.numbers.items layer.leads.items c.loop-number.number (omega (arith, rows_length layer.width layer.numbers.items layer.leads.items)) in
+    making_done r l.discipline l.steps c.args.depth self.known self.frontier.ended.entries (rows_of self.frontier.layer) (subst (Making r l.discipline l.steps c.args.depth self.known self.frontier.ended.entries (rows_of self.frontier.layer)) none c.loop-number.invariant.making)

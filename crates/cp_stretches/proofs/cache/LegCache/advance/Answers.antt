@@ -1,17 +1,17 @@
-use Rattle.std.proofs.Common.{◌≡◌, ◌∙◌, ◌+◌, ◌-◌, ◌++◌, ◌<◌, List, ap, arith, length, refl, subst, sym, ℕ}
-use Rattle.std.specs.Prelude.{All, IfSome, option_to_list}
+use Rattle.std.proofs.Common.{◌≡◌, ◌+◌, ◌-◌, ◌<◌, List, arith, length, subst, sym}
+use Rattle.std.specs.Prelude.{IfSome}
 use Rattle.std.proofs.lemmas.List.Elements.{All-weaker}
 use Rattle.cp_machine.specs.declared.shown.Shown.{Shown}
+use Rattle.cp_run.specs.declared.outcome.Turn.TheVariants.{Goes}
 use Rattle.cp_effects.specs.declared.changes.Write.{Write}
 use Rattle.cp_effects.specs.declared.table.KnownLeg.{KnownLeg}
 use Rattle.cp_effects.specs.Changes.{written}
 use Rattle.cp_effects.specs.Known.{writes_of}
-use Rattle.cp_stretches.specs.declared.cache.LegCache.{LegCache}
 use Rattle.cp_stretches.specs.Numbers.{CanRead}
 use Rattle.cp_stretches.specs.Stretching.{GoesOn, MayGo}
 use Rattle.cp_stretches.specs.Telling.{IsTold}
 use Rattle.cp_stretches.proofs.Going.{after, gone_on, not_local, stands_after}
-use Rattle.cp_stretches.proofs.Growing.{can_read, may_go_on}
+use Rattle.cp_stretches.proofs.Growing.{can_read, stands_at_on}
 use Rattle.cp_stretches.proofs.Knowing.{row_long}
 use Rattle.cp_stretches.proofs.cache.LegCache.advance.Goals as goal
 
@@ -45,7 +45,7 @@ returns-clause-goes c = λ m may.
     let known = c.in-Some.known in
     let cache = c.in_ok-known.ensures.cache in
     let told : IsTold s t r discipline self.legs.effects row pid known = subst (λ o. IfSome o (λ (e : KnownLeg). IsTold s t r discipline self.legs.effects row pid e)) c.in-Some.is c.in_ok-known.ensures.told in
-    let may_now : MayGo r discipline s t m row pid = subst (λ u. MayGo r discipline s u m row pid) (sym c.leg.ensures.table) (may_go_on old.store s c.leg.ensures.kept r discipline old.table m row pid may) in
+    let may_now : MayGo r discipline s t m row pid = subst (λ u. MayGo r discipline s u m row pid) (sym c.leg.ensures.table) (stands_at_on old.store s c.leg.ensures.kept r discipline old.table m (Goes pid) row may) in
     let new = written (writes_of self.legs.effects.writes.items known) row in
     let there = after r discipline s t m row pid self.legs.effects known cache.sound may_now told in
     let stands = stands_after r discipline s t m row pid self.legs.effects known cache.sound may_now told in
@@ -56,5 +56,5 @@ returns-clause-goes c = λ m may.
     let left = c.args.left.now in
     let some : known.leg.steps + (left - known.leg.steps) ≡ left = omega arith in
     let on = gone_on r discipline s t m row pid self.legs.effects known cache.sound may_now told left (left - known.leg.steps) c.args.shown.now.items c.in_ok-turn.turn some (c.in_ok-turn.ensures.turn r s there discipline read told_by) in
-    subst (λ xs. GoesOn r discipline s t m pid left c.args.shown.now.items c.in_ok-turn.turn (left - known.leg.steps) xs c.pass.new.shown.items) (sym written_row)
-    (subst (λ (ys : List Shown). GoesOn r discipline s t m pid left c.args.shown.now.items c.in_ok-turn.turn (left - known.leg.steps) new ys) (sym shows) on))
+    subst (λ xs. GoesOn r discipline s t m (Goes pid) left c.args.shown.now.items c.in_ok-turn.turn (left - known.leg.steps) xs c.pass.new.shown.items) (sym written_row)
+    (subst (λ (ys : List Shown). GoesOn r discipline s t m (Goes pid) left c.args.shown.now.items c.in_ok-turn.turn (left - known.leg.steps) new ys) (sym shows) on))

@@ -1,12 +1,13 @@
-use Rattle.std.proofs.Common.{◌≡◌, ◌∙◌, refl, subst, sym}
+use Rattle.std.proofs.Common.{◌≡◌, ◌∙◌, refl, subst, sym, ℕ}
 use Rattle.std.specs.Prelude.{IfSome}
 use Rattle.cp_machine.specs.Machine.{Machine}
 use Rattle.cp_parts.proofs.Keeping.{store_on, store_same}
 use Rattle.cp_run.specs.declared.outcome.Halt.{Halt}
 use Rattle.cp_run.specs.declared.outcome.OutcomeKind.{OutcomeKind}
 use Rattle.cp_run.specs.declared.outcome.Turn.{Turn}
-use Rattle.cp_stretches.specs.Stretching.{GoesOn, LeadsTo, MayGo, turn_of}
-use Rattle.cp_stretches.proofs.Going.{gone_further, gone_nowhere, leads, may_go}
+use Rattle.cp_run.specs.declared.outcome.Turn.TheVariants.{Goes}
+use Rattle.cp_stretches.specs.Stretching.{GoesOn, MayGo, StandsAt, turn_of}
+use Rattle.cp_stretches.proofs.Going.{gone_further, gone_nowhere, may_go}
 use Rattle.cp_stretches.proofs.Knowing.{some_to}
 use Rattle.cp_stretches.proofs.cache.LegCache.go.Goals as goal
 
@@ -20,7 +21,7 @@ loop-init c =
       standing = c.requires.standing;
       kept = store_same self.store;
       table = refl;
-      goes = λ m may. gone_nowhere r discipline self.table m c.args.process c.args.job.now.limits.steps c.args.shown.now.items self.store c.args.row.now may;
+      goes = λ m stands. gone_nowhere r discipline self.table m c.args.first c.args.job.now.limits.steps c.args.shown.now.items self.store c.args.row.now stands;
     }
 
 pub advance-requires : goal.advance-requires
@@ -33,7 +34,7 @@ advance-requires c =
     record {
       cache = c.loop.invariant.cache;
       standing = c.loop.invariant.standing;
-      row = (g.after, may_go r discipline self.table m c.args.process c.args.job.now.limits.steps c.args.shown.now.items self.store c.loop.turn c.loop.left c.loop.row c.loop.shown.items c.in-Goes.pid g c.in-Goes.is);
+      row = (g.after, may_go r discipline self.table m c.args.first c.args.job.now.limits.steps c.args.shown.now.items self.store c.loop.turn c.loop.left c.loop.row c.loop.shown.items c.in-Goes.pid g c.in-Goes.is);
     }
 
 pub loop-preserved : goal.loop-preserved
@@ -50,25 +51,26 @@ loop-preserved c =
       standing = c.in_ok-next.ensures.standing;
       kept = store_on c.args.self.now.store old.store new.store c.loop.invariant.kept c.advance.ensures.kept;
       table = table ∙ c.loop.invariant.table;
-      goes = λ m may.
-          (let g = c.loop.invariant.goes m may in
-          let goes = subst (λ o. IfSome o (λ (turn : Turn). (n : Machine) → MayGo r discipline old.store old.table n c.loop.row q → GoesOn r discipline new.store new.table n q c.loop.left c.loop.shown.items turn c.advance.new.left c.advance.new.row c.advance.new.shown.items)) c.in-Some.is c.in_ok-next.ensures.goes in
-          gone_further r discipline new.table m c.args.process c.args.job.now.limits.steps c.args.shown.now.items old.store new.store c.loop.turn next c.loop.left c.advance.new.left c.loop.row c.advance.new.row c.loop.shown.items c.advance.new.shown.items q
-          (subst (λ t. GoesOn r discipline old.store t m c.args.process c.args.job.now.limits.steps c.args.shown.now.items c.loop.turn c.loop.left c.loop.row c.loop.shown.items) (sym table) g) c.in-Goes.is
+      goes = λ m stands.
+          (let g = c.loop.invariant.goes m stands in
+          let goes = subst (λ o. IfSome o (λ (turn : Turn). (n : Machine) → MayGo r discipline old.store old.table n c.loop.row q → GoesOn r discipline new.store new.table n (Goes q) c.loop.left c.loop.shown.items turn c.advance.new.left c.advance.new.row c.advance.new.shown.items)) c.in-Some.is c.in_ok-next.ensures.goes in
+          gone_further r discipline new.table m c.args.first c.args.job.now.limits.steps c.args.shown.now.items old.store new.store c.loop.turn next c.loop.left c.advance.new.left c.loop.row c.advance.new.row c.loop.shown.items c.advance.new.shown.items q
+          (subst (λ t. GoesOn r discipline old.store t m c.args.first c.args.job.now.limits.steps c.args.shown.now.items c.loop.turn c.loop.left c.loop.row c.loop.shown.items) (sym table) g) c.in-Goes.is
           (λ n there. goes n (subst (λ t. MayGo r discipline old.store t n c.loop.row q) table there)));
     }
 
-pub returns-clause-leads : goal.returns-clause-leads
-returns-clause-leads c =
+pub returns-clause-goes : goal.returns-clause-goes
+returns-clause-goes c =
     let r = c.args.job.now.program.now in
     let discipline = c.args.job.now.limits.discipline in
     let self = c.loop.self in
+    let first = c.args.first in
     let steps = c.args.job.now.limits.steps in
     let before = c.args.shown.now.items in
     some_to c.halt_of.result
     (λ (halt : Halt OutcomeKind). c.loop.turn ≡ turn_of halt)
-    (λ (halt : Halt OutcomeKind). (m : Machine) → MayGo r discipline c.args.self.now.store c.args.self.now.table m c.args.row.now c.args.process → LeadsTo r discipline self.store self.table steps m c.args.process before halt c.loop.row c.loop.shown.items)
-    (λ halt is m may. leads r discipline self.table m c.args.process steps before self.store c.loop.turn c.loop.left c.loop.row c.loop.shown.items halt may.free (c.loop.invariant.goes m may) is)
+    (λ (halt : Halt OutcomeKind). (m : Machine) → StandsAt r discipline c.args.self.now.store c.args.self.now.table m first c.args.row.now → (rest : ℕ) × GoesOn r discipline self.store self.table m first steps before (turn_of halt) rest c.loop.row c.loop.shown.items)
+    (λ halt is m stands. (c.loop.left, subst (λ turn. GoesOn r discipline self.store self.table m first steps before turn c.loop.left c.loop.row c.loop.shown.items) is (c.loop.invariant.goes m stands)))
     c.halt_of.ensures
 
 pub returns-in_err-next-clause-kept : goal.returns-in_err-next-clause-kept

@@ -2,7 +2,7 @@ use Rattle.std.proofs.Common.{◌≡◌}
 use Rattle.cp_machine.specs.Machine.{Machine}
 use Rattle.cp_parts.specs.Parts.{KeepStore}
 use Rattle.cp_stretches.specs.Cached.{IsCache, IsStanding}
-use Rattle.cp_stretches.specs.Stretching.{GoesOn, MayGo}
+use Rattle.cp_stretches.specs.Stretching.{GoesOn, StandsAt}
 use Rattle.cp_stretches.proofs.cache.LegCache.go.Given as goal
 
 abbrev pub invariant-loop : goal.invariant-loop
@@ -14,5 +14,5 @@ invariant-loop l =
       standing : IsStanding r l.self.store l.self.table l.standing;
       kept : KeepStore l.fn.self.store l.self.store;
       table : l.self.table ≡ l.fn.self.table;
-      goes : (m : Machine) → MayGo r discipline l.fn.self.store l.fn.self.table m l.fn.row l.process → GoesOn r discipline l.self.store l.self.table m l.process l.job.limits.steps l.fn.shown.items l.turn l.left l.row l.shown.items;
+      goes : (m : Machine) → StandsAt r discipline l.fn.self.store l.fn.self.table m l.fn.first l.fn.row → GoesOn r discipline l.self.store l.self.table m l.fn.first l.job.limits.steps l.fn.shown.items l.turn l.left l.row l.shown.items;
     }

@@ -2,16 +2,18 @@ use Rattle.std.proofs.Common.{◌≡◌, ◌∙◌, ◌+◌, ◌<◌, ap, length
 use Rattle.std.specs.Prelude.{All, IfSome, option_to_list}
 use Rattle.cp_machine.specs.Machine.{Machine, is_pending, is_ready, machine_of, output_of}
 use Rattle.cp_parts.specs.Parts.{IsPartRow}
-use Rattle.cp_parts.proofs.Keeping.{store_on, store_same}
+use Rattle.cp_parts.proofs.Keeping.{store_on}
 use Rattle.cp_effects.specs.declared.changes.Write.{Write}
 use Rattle.cp_effects.specs.declared.effect.Effect.{Effect}
 use Rattle.cp_effects.specs.Changes.{numbers_at, written}
 use Rattle.cp_effects.specs.Remembered.{GoesAs, IsRemembered}
 use Rattle.cp_effects.specs.Watching.{came_to}
-use Rattle.cp_effects.proofs.Knowing.{remembered_on}
 use Rattle.cp_stretches.specs.declared.cache.LegCache.{LegCache}
-use Rattle.cp_stretches.proofs.Growing.{cache_on}
-use Rattle.cp_stretches.proofs.Knowing.{pid_within, positions_inside, row_long, some_to}
+use Rattle.cp_stretches.specs.declared.legs.LegKey.{LegKey}
+use Rattle.cp_stretches.specs.declared.legs.LegTable.{LegTable}
+use Rattle.cp_stretches.specs.Telling.{IsSought}
+use Rattle.cp_stretches.proofs.Growing.{cache_on, legs_on}
+use Rattle.cp_stretches.proofs.Knowing.{made_stays, pid_within, positions_inside, row_long, some_to}
 use Rattle.cp_stretches.proofs.cache.LegCache.learn.Goals as goal
 
 pub stand-requires-clause-row : goal.stand-requires-clause-row
@@ -81,21 +83,23 @@ pub returns-clause-cache : goal.returns-clause-cache
 returns-clause-cache c =
     let r = c.args.job.now.program.now in
     let discipline = c.args.job.now.limits.discipline in
-    let pid = c.args.pid in
     let second = c.follow.new.self in
-    let first : LegCache = record c.args.self.now { store = c.make_effect.new.store } in
-    let places = c.make_effect.new.touched.places.items in
-    let row = c.args.row.now in
-    let old = c.args.self.now.table in
     let there = c.in_ok-follow.ensures.cache in
-    cache_on r discipline second (record second { legs = c.note.new.self }) there (store_same second.store) refl refl
-    (λ known. c.in_ok-note.ensures second.store r discipline known
-    (subst (λ t. IfSome c.in_ok-made.made (λ (e : Effect). IsRemembered second.store t r discipline pid places (numbers_at t places row) e.leg (option_to_list e.shown) e.writes.items)) (sym c.follow.ensures.table)
-    (some_to c.in_ok-made.made
-    (λ (e : Effect). IsRemembered first.store old r discipline pid places (numbers_at old places row) e.leg (option_to_list e.shown) e.writes.items)
-    (λ (e : Effect). IsRemembered second.store old r discipline pid places (numbers_at old places row) e.leg (option_to_list e.shown) e.writes.items)
-    (λ e is. remembered_on first.store second.store old r discipline c.follow.ensures.kept pid places (numbers_at old places row) e.leg (option_to_list e.shown) e.writes.items is)
-    (subst (λ d. IfSome c.in_ok-made.made (λ (e : Effect). IsRemembered first.store old r d pid places (numbers_at old places row) e.leg (option_to_list e.shown) e.writes.items)) (ap (λ (n : Machine). n.discipline) (c.stand.ensures.state c.requires.row.0 c.requires.row.1.machine) ∙ c.requires.row.1.machine.ruled) c.in_ok-made.ensures.effect))))
+    let m = c.requires.row.1.machine in
+    let ruled = ap (λ (n : Machine). n.discipline) (c.stand.ensures.state c.requires.row.0 m) ∙ m.ruled in
+    let made = made_stays c.in_ok-made.made c.make_effect.new.store second.store c.args.self.now.table second.table r c.stand.new.standing.state.discipline discipline c.args.pid c.make_effect.new.touched.places.items c.args.row.now c.follow.ensures.kept c.follow.ensures.table ruled c.in_ok-made.ensures.effect in
+    legs_on r discipline second c.note.new.self there (λ known. (c.in_ok-known.ensures second.store r discipline there.placed known made).0)
+
+pub returns-clause-told : goal.returns-clause-told
+returns-clause-told c =
+    let r = c.args.job.now.program.now in
+    let discipline = c.args.job.now.limits.discipline in
+    let second = c.follow.new.self in
+    let there = c.in_ok-follow.ensures.cache in
+    let m = c.requires.row.1.machine in
+    let ruled = ap (λ (n : Machine). n.discipline) (c.stand.ensures.state c.requires.row.0 m) ∙ m.ruled in
+    let made = made_stays c.in_ok-made.made c.make_effect.new.store second.store c.args.self.now.table second.table r c.stand.new.standing.state.discipline discipline c.args.pid c.make_effect.new.touched.places.items c.args.row.now c.follow.ensures.kept c.follow.ensures.table ruled c.in_ok-made.ensures.effect in
+    (c.in_ok-known.ensures second.store r discipline there.placed there.known made).1
 
 pub returns-clause-standing : goal.returns-clause-standing
 returns-clause-standing c = c.in_ok-follow.ensures.standing
@@ -109,5 +113,13 @@ returns-clause-table c = c.follow.ensures.table
 pub returns-in_err-follow-clause-kept : goal.returns-in_err-follow-clause-kept
 returns-in_err-follow-clause-kept c = store_on c.args.self.now.store c.make_effect.new.store c.follow.new.self.store c.make_effect.ensures.kept c.follow.ensures.kept
 
-pub returns-in_err-note-clause-kept : goal.returns-in_err-note-clause-kept
-returns-in_err-note-clause-kept c = store_on c.args.self.now.store c.make_effect.new.store c.follow.new.self.store c.make_effect.ensures.kept c.follow.ensures.kept
+pub returns-in_err-known-clause-kept : goal.returns-in_err-known-clause-kept
+returns-in_err-known-clause-kept c = store_on c.args.self.now.store c.make_effect.new.store c.follow.new.self.store c.make_effect.ensures.kept c.follow.ensures.kept
+
+pub note-requires-clause-sought : goal.note-requires-clause-sought
+note-requires-clause-sought c =
+    let self = c.args.self.now in
+    let row = c.args.row.now in
+    let pid = c.args.pid in
+    subst (λ t. IfSome c.args.sought (λ (k : LegKey). IsSought c.follow.new.self.legs.effects t row pid k)) (sym c.follow.ensures.table)
+    (subst (λ (legs : LegTable). IfSome c.args.sought (λ (k : LegKey). IsSought legs.effects self.table row pid k)) (sym c.follow.ensures.legs) c.requires.sought)

@@ -12,4 +12,5 @@ returns c = λ discipline.
       placed = c.in_ok-table.ensures;
       numbers = subst (λ monitors. AreStatusNumbers s monitors c.in_ok-numbers.numbers) c.in_ok-table.ensures.monitors c.in_ok-numbers.ensures.numbers;
       known = c.new-4.ensures s t r discipline;
+      admissions = c.new-5.ensures s t r;
     })

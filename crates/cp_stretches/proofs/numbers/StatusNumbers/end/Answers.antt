@@ -1,6 +1,5 @@
 use Rattle.std.proofs.Common.{◌∙◌, ap, if◌then◌else◌, sym, Bool}
 use Rattle.cp_run.specs.declared.outcome.OutcomeKind.TheVariants.{AllWaiting, Finished}
-use Rattle.cp_run.specs.declared.outcome.Turn.{Turn}
 use Rattle.cp_run.specs.declared.outcome.Turn.TheVariants.{Over}
 use Rattle.cp_stretches.proofs.numbers.StatusNumbers.end.Goals as goal
 

@@ -1,4 +1,4 @@
-use Rattle.std.proofs.Common.{◌≡◌, ◌∙◌, ◌<◌, arith, false, sym, ℕ}
+use Rattle.std.proofs.Common.{◌≡◌, ◌∙◌, ◌<◌, arith, false, sym}
 use borrow.Author.Count.{below_more}
 use Rattle.cp_machine.specs.Machine.{is_waiting}
 use Rattle.cp_states.specs.Numbers.{number_at}

@@ -39,3 +39,9 @@ returns-in_err-waiting-clause-known g c = λ some. none_well c.from_residual-in_
 
 pub returns-in_err-waiting-clause-who : goal.returns-in_err-waiting-clause-who
 returns-in_err-waiting-clause-who g c = λ some asks. none_well c.from_residual-in_err-waiting.result _ _ c.from_residual-in_err-waiting.ensures.1
+
+pub returns-in_err-ends-clause-known : goal.returns-in_err-ends-clause-known
+returns-in_err-ends-clause-known g c = λ some. none_well c.from_residual-in_err-ends.result _ _ c.from_residual-in_err-ends.ensures.1
+
+pub returns-in_err-ends-clause-who : goal.returns-in_err-ends-clause-who
+returns-in_err-ends-clause-who g c = λ some asks. none_well c.from_residual-in_err-ends.result _ _ c.from_residual-in_err-ends.ensures.1

@@ -1,0 +1,4 @@
+var c: char;
+begin
+  c := c + 1
+end.

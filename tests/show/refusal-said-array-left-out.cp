@@ -1,0 +1,2 @@
+var a: [1..3] of integer;
+begin end.

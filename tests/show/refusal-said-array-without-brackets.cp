@@ -1,0 +1,2 @@
+type t = array 1..5 of integer;
+begin end.

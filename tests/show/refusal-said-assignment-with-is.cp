@@ -1,0 +1,2 @@
+var x: integer;
+begin x is 3 end.

@@ -1,0 +1,5 @@
+type sem = monitor(k: integer);
+var n: integer;
+begin n := k end;
+var s: sem;
+begin init s := 3 end.

@@ -1,0 +1,5 @@
+type light = (red, green);
+var l, m: light;
+begin
+  l m
+end.

@@ -1,0 +1,2 @@
+var a: integer;
+begin "(* assert 0 <= a <= 3 *)" a := 1 end.

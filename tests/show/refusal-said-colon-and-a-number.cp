@@ -1,0 +1,5 @@
+var n: integer;
+begin
+  n : 1;
+  display(n)
+end.

@@ -1,0 +1,2 @@
+var x: boolean;
+begin x : not x end.

@@ -1,0 +1,2 @@
+const k = 3;
+begin n : k end.

@@ -1,0 +1,3 @@
+const a = 1; b = 5;
+var x: a:b;
+begin end.

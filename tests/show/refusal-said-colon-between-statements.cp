@@ -1,0 +1,2 @@
+var x: integer;
+begin x := 1: x := 2 end.

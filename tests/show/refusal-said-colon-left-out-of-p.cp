@@ -1,0 +1,3 @@
+type producer = process begin end;
+var p producer;
+begin init p end.

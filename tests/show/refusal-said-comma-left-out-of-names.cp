@@ -1,0 +1,2 @@
+type way = (up down);
+begin end.

@@ -1,0 +1,3 @@
+type w = monitor begin end;
+var a: array [1..2] of array [1..2] of w;
+begin end.

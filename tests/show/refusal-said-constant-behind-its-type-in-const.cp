@@ -1,0 +1,3 @@
+type color = (red, green);
+const c = color.red;
+begin end.

@@ -1,0 +1,5 @@
+type color = (red, green);
+var c: color;
+begin
+  c := color.red
+end.

@@ -1,0 +1,2 @@
+var c: char;
+begin c := ‘a’ end.

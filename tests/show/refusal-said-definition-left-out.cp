@@ -1,0 +1,4 @@
+type
+  var n: integer;
+begin end;
+begin end.

@@ -1,0 +1,3 @@
+type p = process(n: integer);
+begin delay(n) end;
+begin end.

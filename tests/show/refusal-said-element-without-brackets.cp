@@ -1,0 +1,7 @@
+type color = (red, green);
+palette = set of color;
+var p: palette;
+begin
+  p := [];
+  p := p or red
+end.

@@ -1,0 +1,8 @@
+var x: integer;
+begin
+  repeat
+    x := x + 1;
+  end;
+  until x = 3;
+  display(x)
+end.

@@ -1,0 +1,3 @@
+type buffer monitor;
+begin end;
+begin end.

@@ -1,0 +1,4 @@
+var x: integer;
+begin
+  x := 1 to 3 do display(x)
+end.

@@ -1,0 +1,4 @@
+var x: integer;
+begin
+  x = 0 then display(x)
+end.

@@ -1,0 +1,2 @@
+var s: set of 1..5; x: integer;
+begin include(s, x) end.

@@ -1,0 +1,2 @@
+var c: integer;
+begin c := monitor(0) end.

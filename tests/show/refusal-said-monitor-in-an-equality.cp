@@ -1,0 +1,3 @@
+type m = monitor(k: integer); begin end;
+var counter: m;
+begin counter = monitor(0) end.

@@ -1,0 +1,3 @@
+type color = (red, green);
+var c: color;
+begin c := color.blue end.

@@ -1,0 +1,5 @@
+type counter = monitor(integer)
+var n: integer;
+begin n := 0 end;
+var c: counter;
+begin init c end.

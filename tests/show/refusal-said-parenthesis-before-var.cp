@@ -1,0 +1,4 @@
+type p = process(n: integer;
+var i: integer;
+begin end;
+begin end.

@@ -1,0 +1,2 @@
+procedure p(3); begin end;
+begin end.

@@ -1,0 +1,3 @@
+type p = (n: integer);
+begin end;
+begin end.

@@ -1,0 +1,7 @@
+var x: integer;
+begin
+  repeat
+    x := x + 1;
+  while x < 3;
+  display(x)
+end.

@@ -1,0 +1,2 @@
+const in-line = 3;
+begin end.

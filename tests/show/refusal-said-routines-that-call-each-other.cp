@@ -1,0 +1,3 @@
+procedure a; begin b end;
+procedure b; begin a end;
+begin end.

@@ -1,0 +1,2 @@
+type w = monitor begin end; u = w;
+begin end.

@@ -1,0 +1,5 @@
+var x: integer;
+begin
+  while x < 3;
+  display(x)
+end.

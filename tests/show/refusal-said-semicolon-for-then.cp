@@ -1,0 +1,5 @@
+var x: integer;
+begin
+  if x < 3;
+  display(x)
+end.

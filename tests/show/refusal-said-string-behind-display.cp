@@ -1,0 +1,1 @@
+begin display "x" end.

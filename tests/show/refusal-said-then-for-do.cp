@@ -1,0 +1,4 @@
+var x: integer;
+begin
+  while x < 3 then x := x + 1
+end.

@@ -1,0 +1,4 @@
+var x: integer;
+begin
+  if x <> = 3 then display(x)
+end.

@@ -1,0 +1,2 @@
+type t = ;
+begin end.

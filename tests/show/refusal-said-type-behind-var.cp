@@ -1,0 +1,3 @@
+var n: integer;
+m = monitor begin end;
+begin end.

@@ -1,0 +1,3 @@
+const n = 3;
+t = -1..n;
+begin end.

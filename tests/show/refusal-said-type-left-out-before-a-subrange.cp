@@ -1,0 +1,3 @@
+const n = 3;
+idx = 1..n;
+begin end.

@@ -1,0 +1,6 @@
+var x: integer; done: boolean;
+begin
+  repeat
+    x := x + 1
+    done
+end.
