@@ -1,5 +1,5 @@
 -- What was gone through is so still when more is found; a choice more, and a kept state more.
-use Rattle.std.proofs.Common.{◌≡◌, ◌∙◌, ◌⊎◌, inl, inr, ◌+◌, ◌<◌, ◌≤◌, ◌==◌, ℕ, List, [], ◌∷◌, ◌++◌, Bool, true, false, not, length, get_or, Option, None, Some, is_some, sym, ap, subst, arith}
+use Rattle.std.proofs.Common.{◌≡◌, ◌∙◌, ◌⊎◌, inl, inr, ◌+◌, ◌<◌, ◌≤◌, ◌==◌, ℕ, List, [], ◌∷◌, ◌++◌, Bool, true, false, length, get_or, None, Some, sym, ap, subst, arith}
 use Rattle.std.specs.Prelude.{Contains}
 use Rattle.cp_at_once.proofs.Words.{slice_get, same_Some, slice_get_cases, slice_get_within, All-weaker, Tables, Machine, may, Shown, Goal, ArrivesAt}
 use Rattle.cp_at_once.proofs.Words.{LeadsToPlace, SlotArrival, End, all_at, Holds, IsWordOf, FoundAtOnce, OriginAtOnce}
@@ -9,12 +9,13 @@ use Rattle.std.proofs.lemmas.Map.Views.{Contains-from_any}
 use Rattle.cp_run.specs.Run.{those_below}
 use Rattle.cp_run.specs.System.{System}
 use Rattle.cp_run.proofs.Wanting.{any_wanted}
-use Rattle.cp_search.specs.Searched.{IsSearched}
 use Rattle.cp_ends.proofs.words.Returns.{number}
 use Rattle.cp_ends.proofs.words.Translated.{arrival_on}
 use Rattle.cp_at_once.specs.Following.{Answers, Follows, GoesOn, GoesThrough, Grows, IsDone, IsGone, IsGoneThrough, SlotGraph, Within}
+use Rattle.cp_at_once.specs.ByRows.{KeepStore, with_store}
 use Rattle.cp_at_once.specs.declared.kept.Kept.{Kept}
-use Rattle.cp_at_once.proofs.Following.{States, done_still, gone_still}
+use Rattle.cp_ends.specs.declared.states.States.{States as Store}
+use Rattle.cp_at_once.proofs.Following.{States, done_still, gone_still, store_else}
 use Rattle.cp_at_once.proofs.Keeping.{word_choice}
 
 -- a due choice may take one of those
@@ -35,6 +36,20 @@ module _ (r : Tables) (g : SlotGraph) (Leg : Machine → ℕ → Type 0) (most :
       let h : FoundAtOnce = record f { kept = kept } in
       let m : Grows f states h states = record { ends = λ e k. k; values = λ v k. k; kept = λ m k. k; places = λ i y k. k } in
       record { start = gone_still g Leg f states h states m 8 g.start t.start; on = λ i x less at. done_still g Leg f states h states m 8 x.0 (t.on i x less at) }
+
+  -- so were some choices of a state
+  pub within_else : (f : FoundAtOnce) (at : ℕ) (m : Machine) (done : List ℕ) → Within r g Leg most 8 f at m done → (store : Store) → KeepStore r f.kept.store store → Within r g Leg most 8 (with_store f store) at m done
+  within_else f at m done x store stays =
+      let h : FoundAtOnce = with_store f store in
+      let grow : Grows f x.states h x.states = record { ends = λ e k. k; values = λ v k. k; kept = λ m k. k; places = λ i y k. k } in
+      record {
+        states = x.states;
+        word = x.word;
+        is = x.is;
+        holds = store_else r g most f x.states x.holds store stays;
+        through = kept_through f at x.states x.through (record f.kept { store = store });
+        on = All-weaker (λ q. IsGone f (Follows g Leg f x.states 8) (g.on m q)) (λ q. IsGone h (Follows g Leg h x.states 8) (g.on m q)) (λ q was. gone_still g Leg f x.states h x.states grow 8 (g.on m q) was) done x.on;
+      }
 
   -- ---- a choice is taken in a kept state
 
@@ -97,10 +112,3 @@ module _ (r : Tables) (g : SlotGraph) (Leg : Machine → ℕ → Type 0) (most :
       by : (b : Bool) → Answers r g Leg most 8 f b → Answers r g Leg most 8 marked b
       by true (states, h, t) = (states, holds states h, through_still f states marked states (grows states) (length states) (omega arith) t)
       by false (states, h, many) = (states, holds states h, many)
-
-  -- where the search did not stop, all was gone through
-  pub answers_told : (f : FoundAtOnce) (stopped : Option ℕ) (w : Bool) → is_some stopped ≡ not w → IsSearched (Answers r g Leg most 8 f true) (λ at. Answers r g Leg most 8 f false) stopped → Answers r g Leg most 8 (record f { is_whole = w }) w
-  answers_told f None true e h = answers_marked f true true h
-  answers_told f (Some at) false e h = answers_marked f false false h
-  answers_told f None false e h = absurd (cc)
-  answers_told f (Some at) true e h = absurd (cc)

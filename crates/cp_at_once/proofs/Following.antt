@@ -10,7 +10,9 @@ use Rattle.cp_ends.proofs.words.Translated.{arrival_on}
 use Rattle.cp_at_once.specs.Following.{Follows, GoesOn, Grows, IsDone, IsGone, IsKept, IsKnownGoal, NotesArrival, SlotGraph}
 use Rattle.cp_at_once.specs.Holds.{AreKept}
 use Rattle.cp_at_once.specs.declared.kept.Kept.{Kept}
-use Rattle.cp_at_once.proofs.Keeping.{word_grows}
+use Rattle.cp_at_once.specs.ByRows.{KeepStore, with_store}
+use Rattle.cp_ends.specs.declared.states.States.{States as Store}
+use Rattle.cp_at_once.proofs.Keeping.{kept_on, word_grows}
 use Rattle.cp_at_once.proofs.Noting.{grows_on, grows_same}
 
 abbrev pub States : Type 0
@@ -52,6 +54,22 @@ words_still a b on o P h = (h.0, word_grows a b o h.0 on h.1, h.2)
 -- the same states, which the code keeps in another way
 pub kept_else : (r : Tables) (g : SlotGraph) (most : ℕ) (found : FoundAtOnce) (states : States) → Holds r g most found states → (kept : Kept) → AreKept r kept states → Holds r g most (record found { kept = kept }) states
 kept_else r g most found states h kept are = record { kept = are; few = h.few; reached = h.reached; ends = h.ends; values = h.values }
+
+-- with another store
+pub store_else : (r : Tables) (g : SlotGraph) (most : ℕ) (found : FoundAtOnce) (states : States) → Holds r g most found states → (store : Store) → KeepStore r found.kept.store store → Holds r g most (with_store found store) states
+store_else r g most found states h store stays = kept_else r g most found states h (record found.kept { store = store }) (kept_on r found.kept states h.kept store stays)
+
+module _ (r : Tables) (g : SlotGraph) (most : ℕ) (found : FoundAtOnce) (store : Store) (after : FoundAtOnce) (is : after ≡ with_store found store) where
+  pub stored : KeepStore r found.kept.store store → (states : States) → Holds r g most found states → Holds r g most after states
+  stored stays states h = subst (λ (f : FoundAtOnce). Holds r g most f states) (sym is) (store_else r g most found states h store stays)
+
+  -- what is kept from there on is kept from here on
+  pub kept_from : (states : States) (last : FoundAtOnce) (m : Machine) (is_room : Bool) → IsKept r g most after states last m is_room → IsKept r g most found states last m is_room
+  kept_from states last m is_room k = by is_room (subst (λ (f : FoundAtOnce). IsKept r g most f states last m is_room) is k)
+    where
+      by : (b : Bool) → IsKept r g most (with_store found store) states last m b → IsKept r g most found states last m b
+      by true i = (i.0, i.1, record { ends = λ e j. i.2.ends e j; values = λ v j. i.2.values v j; kept = i.2.kept; places = i.2.places }, i.3)
+      by false i = i
 
 module _ (r : Tables) (g : SlotGraph) (most : ℕ) (found : FoundAtOnce) (states : States) (h : Holds r g most found states) (m : Machine) (word : List ℕ) (leads : LeadsToPlace g m word) (new : has same_key states m ≡ false) where
   abbrev more : States
@@ -117,6 +135,27 @@ module _ (r : Tables) (g : SlotGraph) (Leg : Machine → ℕ → Type 0) (most :
   pub going_first : (before : FoundAtOnce) (states : States) (a : SlotArrival) (goal : Goal Machine End) (told : List Shown) (o : OriginAtOnce) (word : List ℕ) → Holds r g most before states → IsWordOf states o word → ArrivesAt g word a → goal ≡ a.goal → told ≡ a.shown → Going before states before a goal told o 0
   going_first before states a goal told o word h is arrives to shows =
       record { more = states; word = word; here = a; left = 8; count = refl; holds = h; grows = grows_same before states; is_word = is; arrives = arrives; to = to; shows = shows; onward = λ after last m k. k }
+
+  -- with another store
+  pub going_on : (before : FoundAtOnce) (states : States) (now : FoundAtOnce) (a : SlotArrival) (goal : Goal Machine End) (told : List Shown) (o : OriginAtOnce) (made : ℕ) → Going before states now a goal told o made → (store : Store) → KeepStore r now.kept.store store → Going before states (with_store now store) a goal told o made
+  going_on before states now a goal told o made x store stays =
+      record {
+        more = x.more;
+        word = x.word;
+        here = x.here;
+        left = x.left;
+        count = x.count;
+        holds = store_else r g most now x.more x.holds store stays;
+        grows = record { ends = λ e k. x.grows.ends e k; values = λ v k. x.grows.values v k; kept = x.grows.kept; places = x.grows.places };
+        is_word = x.is_word;
+        arrives = x.arrives;
+        to = x.to;
+        shows = x.shows;
+        onward = λ after last m k. x.onward after last (record { ends = λ e i. m.ends e i; values = λ v i. m.values v i; kept = m.kept; places = m.places }) k;
+      }
+
+  pub going_stored : (before : FoundAtOnce) (states : States) (now : FoundAtOnce) (a : SlotArrival) (goal : Goal Machine End) (told : List Shown) (o : OriginAtOnce) (made : ℕ) (store : Store) (after : FoundAtOnce) → after ≡ with_store now store → KeepStore r now.kept.store store → Going before states now a goal told o made → Going before states after a goal told o made
+  going_stored before states now a goal told o made store after is stays x = subst (λ (f : FoundAtOnce). Going before states f a goal told o made) (sym is) (going_on before states now a goal told o made x store stays)
 
   module _ (before : FoundAtOnce) (states : States) (now mid : FoundAtOnce) (a : SlotArrival) (goal : Goal Machine End) (told : List Shown) (o : OriginAtOnce) (made : ℕ) (x : Going before states now a goal told o made) (noted : NotesArrival r g most now x.more mid x.here) where
     -- at an end

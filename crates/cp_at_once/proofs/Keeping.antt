@@ -1,30 +1,28 @@
 -- The entries of the code are the kept states, each with its word.
 use Rattle.std.proofs.Common.{◌≡◌, ◌∙◌, ◌⊎◌, inl, inr, ◌<◌, ◌≤◌, ℕ, zero, suc, Bool, true, false, cond, if◌then◌else◌, List, [], ◌∷◌, ◌++◌, length, Option, None, Some, is_some, get_or, refl, sym, ap, subst, arith}
-use Rattle.std.specs.Cmp.Lexicographic.{bytes_decides}
-use Rattle.std.specs.Prelude.{nat_eq, slice_get}
+use Rattle.std.specs.Prelude.{All, nat_eq, slice_get}
 use Rattle.std.specs.Map.{lookup}
-use Rattle.std.proofs.lemmas.Cmp.{nat_list_eq_equiv}
 use Rattle.std.proofs.lemmas.List.{append_assoc}
-use Rattle.std.proofs.lemmas.List.Elements.{All-push}
+use Rattle.std.proofs.lemmas.List.Elements.{All-push, All-weaker}
 use Rattle.std.proofs.lemmas.Option.{same_Some, slice_get_cases, slice_get_past, slice_get_within}
 use Rattle.indexmap.specs.IndexMap.{insert_entry}
 use lib.Pointwise.{pointwise}
-use Rattle.cp_at_once.proofs.Words.{Tables, IsStateOf, Machine, same_key, has, all_at, OriginAtOnce}
+use Rattle.cp_at_once.proofs.Words.{Tables, Machine, same_key, has, all_at, OriginAtOnce}
 use Rattle.cp_key.specs.Room.{IsMachineOf}
-use Rattle.cp_states.specs.Rows.{IsRowOf, KeepParts}
-use Rattle.cp_states.specs.declared.row.StateRow.{StateRow}
-use Rattle.cp_states.specs.declared.store.Store.{Store}
-use Rattle.cp_states.proofs.Alone.{one_machine, one_row}
-use Rattle.cp_states.proofs.Following.{row_on}
+use Rattle.cp_parts.specs.Placed.{IsPlaced}
+use Rattle.cp_ends.specs.Holds as by_states
+use Rattle.cp_ends.specs.Rows.{IsHalvedRow, IsQuiet, IsStated}
+use Rattle.cp_ends.specs.declared.row.HalvedRow.{HalvedRow}
+use Rattle.cp_ends.specs.declared.states.States.{States}
+use Rattle.cp_ends.proofs.Halves.{same_rows}
 use Rattle.cp_ends.proofs.Keeping.{get_more}
-use Rattle.cp_ends.proofs.named.Keys.{key_same, key_self}
-use Rattle.cp_machine_laws.proofs.expressions.SetRanges.{same_truth as both_true}
 use Rattle.cp_at_once.specs.Holds.{AreKept, AreRows, AreStates, IsBefore, IsWordBy, IsWordOf}
+use Rattle.cp_at_once.specs.ByRows.{KeepStore}
 use Rattle.cp_at_once.specs.declared.kept.Kept.{Kept}
 use Rattle.cp_resolved.proofs.names.Entries.{last_or_before as get_cases}
 
 abbrev pub Entry : Type 0
-Entry = StateRow × OriginAtOnce
+Entry = HalvedRow × OriginAtOnce
 
 abbrev pub Stated : Type 0
 Stated = Machine × List ℕ
@@ -67,66 +65,45 @@ word_start states o state numbers = subst (λ s. IsWordBy states s o.numbers.ite
 
 -- ---- rows
 
--- in one store, rows are the same exactly where the machines of a program are
-same_rows : (r : Tables) (store : Store) (row other : List ℕ) (m n : Machine) → IsMachineOf r m → IsMachineOf r n → IsRowOf store row m → IsRowOf store other n → pointwise nat_eq row other ≡ same_key n m
-same_rows r store row other m n mine theirs a b = both_true (pointwise nat_eq row other) (same_key n m) on back
-  where
-    on : pointwise nat_eq row other ≡ true → same_key n m ≡ true
-    on h =
-        let e : row ≡ other = (bytes_decides row other).0 h in
-        let same : m ≡ n = one_machine store row m n (mine.fits.threads ∙ sym theirs.fits.threads) a (subst (λ l. IsRowOf store l n) (sym e) b) in
-        ap (same_key n) same ∙ key_self n
-
-    back : same_key n m ≡ true → pointwise nat_eq row other ≡ true
-    back h =
-        let same : n ≡ m = key_same n m h in
-        let e : row ≡ other = one_row store row other m a (subst (IsRowOf store other) same b) in
-        ap (pointwise nat_eq row) (sym e) ∙ nat_list_eq_equiv.refl row
-
-pub rows_length : (store : Store) (es : List Entry) (xs : List Stated) → AreRows store es xs → length es ≡ length xs
+pub rows_length : (store : States) (es : List Entry) (xs : List Stated) → AreRows store es xs → length es ≡ length xs
 rows_length store [] [] h = refl
 rows_length store (e ∷ es) (x ∷ xs) h = ap suc (rows_length store es xs h.1)
 rows_length store _ _ h = absurd h
 
 -- what stands at one place is the row of the state there
-row_here : (store : Store) (es : List Entry) (xs : List Stated) (i : ℕ) (e : Entry) (x : Stated) → AreRows store es xs → slice_get es i ≡ Some e → slice_get xs i ≡ Some x → IsRowOf store e.0.numbers x.0
+row_here : (store : States) (es : List Entry) (xs : List Stated) (i : ℕ) (e : Entry) (x : Stated) → AreRows store es xs → slice_get es i ≡ Some e → slice_get xs i ≡ Some x → IsHalvedRow store e.0.numbers x.0
 row_here store [] xs i e x h at to = cc
 row_here store (k ∷ es) [] i e x h at to = absurd h
-row_here store (k ∷ es) (y ∷ xs) zero e x h at to = subst (λ (z : Entry). IsRowOf store z.0.numbers x.0) (same_Some k e at) (subst (λ (z : Stated). IsRowOf store k.0.numbers z.0) (same_Some y x to) h.0)
+row_here store (k ∷ es) (y ∷ xs) zero e x h at to = subst (λ (z : Entry). IsHalvedRow store z.0.numbers x.0) (same_Some k e at) (subst (λ (z : Stated). IsHalvedRow store k.0.numbers z.0) (same_Some y x to) h.0)
 row_here store (k ∷ es) (y ∷ xs) (suc i) e x h at to = row_here store es xs i e x h.1 at to
 
-rows_more : (store : Store) (es : List Entry) (xs : List Stated) (e : Entry) (x : Stated) → IsRowOf store e.0.numbers x.0 → AreRows store es xs → AreRows store (es ++ e ∷ []) (xs ++ x ∷ [])
+rows_more : (store : States) (es : List Entry) (xs : List Stated) (e : Entry) (x : Stated) → IsHalvedRow store e.0.numbers x.0 → AreRows store es xs → AreRows store (es ++ e ∷ []) (xs ++ x ∷ [])
 rows_more store [] [] e x is h = (is, tt)
 rows_more store (k ∷ es) (y ∷ xs) e x is h = (h.0, rows_more store es xs e x is h.1)
 rows_more store _ _ e x is h = absurd h
 
--- rows stay where the store keeps its parts
-rows_on : (s t : Store) (es : List Entry) (xs : List Stated) → KeepParts s t → AreRows s es xs → AreRows t es xs
-rows_on s t [] [] kept h = tt
-rows_on s t (e ∷ es) (x ∷ xs) kept h = (row_on s t e.0.numbers x.0 kept h.0, rows_on s t es xs kept h.1)
-rows_on s t _ _ kept h = absurd h
+-- rows stay where more is known
+row_on : (r : Tables) (old new : States) (numbers : List ℕ) (m : Machine) → KeepStore r old new → IsQuiet r old m → IsHalvedRow old numbers m → IsHalvedRow new numbers m
+row_on r old new numbers m kept quiet h = record { row = h.row; halved = kept.halved numbers h.row h.halved; is = (kept.rows h.row m (record { it = quiet; is = h.is })).is }
 
-pub kept_on : (r : Tables) (old new : Kept) (xs : List Stated) → new.known.entries ≡ old.known.entries → KeepParts old.store new.store → IsStateOf r new.last → AreKept r old xs → AreKept r new xs
-kept_on r old new xs same parts last h =
-    record {
-      entries = subst (λ l. AreStates r l xs) (sym same) h.entries;
-      rows = subst (λ l. AreRows new.store l xs) (sym same) (rows_on old.store new.store old.known.entries xs parts h.rows);
-      last = last;
-    }
+rows_on : (r : Tables) (old new : States) (es : List Entry) (xs : List Stated) → KeepStore r old new → ((i : ℕ) (x : Stated) → slice_get xs i ≡ Some x → IsQuiet r old x.0) → AreRows old es xs → AreRows new es xs
+rows_on r old new [] [] kept owns h = tt
+rows_on r old new (e ∷ es) (x ∷ xs) kept owns h = (row_on r old new e.0.numbers x.0 kept (owns 0 x refl) h.0, rows_on r old new es xs kept (λ i y at. owns (suc i) y at) h.1)
+rows_on r old new _ _ kept owns h = absurd h
 
 -- a row is that of an entry exactly where its machine is a state
-pub found_same : (r : Tables) (store : Store) (es : List Entry) (xs : List Stated) (row : StateRow) (m : Machine) → AreRows store es xs → ((i : ℕ) (x : Stated) → slice_get xs i ≡ Some x → IsMachineOf r x.0) → IsMachineOf r m → IsRowOf store row.numbers m → is_some (lookup (λ j. pointwise nat_eq row.numbers j.numbers) es) ≡ has same_key xs m
-found_same r store [] [] row m h owns own is = refl
-found_same r store (e ∷ es) (x ∷ xs) row m h owns own is = by (pointwise nat_eq row.numbers e.0.numbers) (same_key x.0 m) (same_rows r store row.numbers e.0.numbers m x.0 own (owns 0 x refl) is h.0) (found_same r store es xs row m h.1 (λ i y at. owns (suc i) y at) own is)
+pub found_same : (r : Tables) (store : States) (placed : IsPlaced r store.cache.table) (es : List Entry) (xs : List Stated) (row : HalvedRow) (m : Machine) → AreRows store es xs → ((i : ℕ) (x : Stated) → slice_get xs i ≡ Some x → IsQuiet r store x.0) → IsStated r store row.numbers m → is_some (lookup (λ j. pointwise nat_eq row.numbers j.numbers) es) ≡ has same_key xs m
+found_same r store placed [] [] row m h owns is = refl
+found_same r store placed (e ∷ es) (x ∷ xs) row m h owns is = by (pointwise nat_eq row.numbers e.0.numbers) (same_key x.0 m) (same_rows store r placed row.numbers e.0.numbers m x.0 is.it (owns 0 x refl) is.row h.0) (found_same r store placed es xs row m h.1 (λ i y at. owns (suc i) y at) is)
   where
     by : (b c : Bool) → b ≡ c → is_some (lookup (λ j. pointwise nat_eq row.numbers j.numbers) es) ≡ has same_key xs m → is_some (cond b (Some e.1) (lookup (λ j. pointwise nat_eq row.numbers j.numbers) es)) ≡ (if c then true else has same_key xs m)
     by true true t on = refl
     by false false t on = on
     by true false t on = cc
     by false true t on = cc
-found_same r store _ _ row m h owns own is = absurd h
+found_same r store placed _ _ row m h owns is = absurd h
 
-insert_new : (eq : StateRow → StateRow → Bool) (es : List Entry) (k : StateRow) (o : OriginAtOnce) → is_some (lookup (eq k) es) ≡ false → insert_entry eq es k o ≡ es ++ (k, o) ∷ []
+insert_new : (eq : HalvedRow → HalvedRow → Bool) (es : List Entry) (k : HalvedRow) (o : OriginAtOnce) → is_some (lookup (eq k) es) ≡ false → insert_entry eq es k o ≡ es ++ (k, o) ∷ []
 insert_new eq [] k o new = refl
 insert_new eq (e ∷ es) k o new = by (eq k e.0) new (insert_new eq es k o)
   where
@@ -138,15 +115,30 @@ module _ (r : Tables) (kept : Kept) (xs : List Stated) (h : AreKept r kept xs) w
   abbrev es : List Entry
   es = kept.known.entries
 
-  pub owned : (i : ℕ) (x : Stated) → slice_get xs i ≡ Some x → IsMachineOf r x.0
-  owned i x at = all_at (λ (x : Stated). IsMachineOf r x.0) xs i x h.entries.own at
+  pub owned : (i : ℕ) (x : Stated) → slice_get xs i ≡ Some x → IsQuiet r kept.store x.0
+  owned i x at =
+      record {
+        own = all_at (λ (x : Stated). IsMachineOf r x.0) xs i x h.entries.own at;
+        quiet = all_at (λ (x : Stated). x.0.output ≡ []) xs i x h.entries.quiet at;
+        ruled = all_at (λ (x : Stated). x.0.discipline ≡ kept.store.discipline) xs i x h.ruled at;
+      }
+
+  -- with another store
+  pub kept_on : (store : States) → KeepStore r kept.store store → AreKept r (record kept { store = store }) xs
+  kept_on store stays =
+      record {
+        entries = h.entries;
+        rows = rows_on r kept.store store es xs stays owned h.rows;
+        ruled = All-weaker (λ (x : Stated). x.0.discipline ≡ kept.store.discipline) (λ (x : Stated). x.0.discipline ≡ store.discipline) (λ x e. e ∙ sym stays.ruled) xs h.ruled;
+        known = stays.known h.known;
+      }
 
   -- the state of an entry
-  pub state_of : (i : ℕ) (e : Entry) → slice_get kept.known.entries i ≡ Some e → (x : Stated) × (slice_get xs i ≡ Some x) × IsMachineOf r x.0 × (x.0.output ≡ []) × IsRowOf kept.store e.0.numbers x.0
+  pub state_of : (i : ℕ) (e : Entry) → slice_get kept.known.entries i ≡ Some e → (x : Stated) × (slice_get xs i ≡ Some x) × IsStated r kept.store e.0.numbers x.0
   state_of i e at = by (slice_get_cases xs i).1
     where
-      by : ((z : Stated) × (i < length xs) × (slice_get xs i ≡ Some z) × (get_or xs i z ≡ z)) ⊎ ((length xs ≤ i) × (slice_get xs i ≡ None)) → (x : Stated) × (slice_get xs i ≡ Some x) × IsMachineOf r x.0 × (x.0.output ≡ []) × IsRowOf kept.store e.0.numbers x.0
-      by (inl z) = (z.0, z.2, all_at (λ (x : Stated). IsMachineOf r x.0) xs i z.0 h.entries.own z.2, all_at (λ (x : Stated). x.0.output ≡ []) xs i z.0 h.entries.quiet z.2, row_here kept.store es xs i e z.0 h.rows at z.2)
+      by : ((z : Stated) × (i < length xs) × (slice_get xs i ≡ Some z) × (get_or xs i z ≡ z)) ⊎ ((length xs ≤ i) × (slice_get xs i ≡ None)) → (x : Stated) × (slice_get xs i ≡ Some x) × IsStated r kept.store e.0.numbers x.0
+      by (inl z) = (z.0, z.2, record { it = owned i z.0 z.2; row = row_here kept.store es xs i e z.0 h.rows at z.2 })
       by (inr none) = let past = none.0 in let within = slice_get_within es i e at in let few = h.entries.count in absurd (omega (arith, past, within, few))
 
   -- where there is none there is no entry
@@ -158,12 +150,12 @@ module _ (r : Tables) (kept : Kept) (xs : List Stated) (h : AreKept r kept xs) w
       by (inr past) = let le = past.0 in let few = h.entries.count in slice_get_past xs i (omega (arith, le, few))
 
   -- one more
-  module _ (k : StateRow) (o : OriginAtOnce) (m : Machine) (word : List ℕ) where
-    pub states_more : has same_key xs m ≡ false → IsMachineOf r m → m.output ≡ [] → IsRowOf kept.store k.numbers m → IsWordOf xs o word → (new : Kept) → new.store ≡ kept.store → new.last ≡ kept.last → new.known.entries ≡ insert_entry (λ a b. pointwise nat_eq a.numbers b.numbers) kept.known.entries k o → AreKept r new (xs ++ (m, word) ∷ [])
-    states_more fresh own quiet row is new same lasts listed = more
+  module _ (k : HalvedRow) (o : OriginAtOnce) (m : Machine) (word : List ℕ) where
+    pub states_more : has same_key xs m ≡ false → IsStated r kept.store k.numbers m → IsWordOf xs o word → (new : Kept) → new.store ≡ kept.store → new.known.entries ≡ insert_entry (λ a b. pointwise nat_eq a.numbers b.numbers) kept.known.entries k o → AreKept r new (xs ++ (m, word) ∷ [])
+    states_more fresh stated is new same listed = more
       where
         put : insert_entry (λ a b. pointwise nat_eq a.numbers b.numbers) es k o ≡ es ++ (k, o) ∷ []
-        put = insert_new (λ a b. pointwise nat_eq a.numbers b.numbers) es k o (found_same r kept.store es xs k m h.rows owned own row ∙ fresh)
+        put = insert_new (λ a b. pointwise nat_eq a.numbers b.numbers) es k o (found_same r kept.store h.known.cached.placed es xs k m h.rows owned stated ∙ fresh)
 
         words : (i : ℕ) (e : Entry) (x : Stated) → (slice_get es i ≡ Some e) ⊎ ((i ≡ length es) × (e ≡ (k, o))) → (slice_get xs i ≡ Some x) ⊎ ((i ≡ length xs) × (x ≡ (m, word))) → IsWordOf (xs ++ (m, word) ∷ []) e.1 x.1
         words i e x (inl at) (inl to) = word_more xs (m, word) e.1 x.1 (h.entries.words i e x at to)
@@ -181,20 +173,21 @@ module _ (r : Tables) (kept : Kept) (xs : List Stated) (h : AreKept r kept xs) w
         states : AreStates r (es ++ (k, o) ∷ []) (xs ++ (m, word) ∷ [])
         states =
             record {
-              count = rows_length kept.store (es ++ (k, o) ∷ []) (xs ++ (m, word) ∷ []) (rows_more kept.store es xs (k, o) (m, word) row h.rows);
-              own = All-push (λ (x : Stated). IsMachineOf r x.0) xs (m, word) h.entries.own own;
-              quiet = All-push (λ (x : Stated). x.0.output ≡ []) xs (m, word) h.entries.quiet quiet;
+              count = rows_length kept.store (es ++ (k, o) ∷ []) (xs ++ (m, word) ∷ []) (rows_more kept.store es xs (k, o) (m, word) stated.row h.rows);
+              own = All-push (λ (x : Stated). IsMachineOf r x.0) xs (m, word) h.entries.own stated.it.own;
+              quiet = All-push (λ (x : Stated). x.0.output ≡ []) xs (m, word) h.entries.quiet stated.it.quiet;
               words = λ i e x at to. words i e x (get_cases es (k, o) i e at) (get_cases xs (m, word) i x to);
               before = λ i e at. befores i e (get_cases es (k, o) i e at);
             }
 
         rows : AreRows new.store (es ++ (k, o) ∷ []) (xs ++ (m, word) ∷ [])
-        rows = subst (λ s. AreRows s (es ++ (k, o) ∷ []) (xs ++ (m, word) ∷ [])) (sym same) (rows_more kept.store es xs (k, o) (m, word) row h.rows)
+        rows = subst (λ s. AreRows s (es ++ (k, o) ∷ []) (xs ++ (m, word) ∷ [])) (sym same) (rows_more kept.store es xs (k, o) (m, word) stated.row h.rows)
 
         more : AreKept r new (xs ++ (m, word) ∷ [])
         more =
             record {
               entries = subst (λ l. AreStates r l (xs ++ (m, word) ∷ [])) (sym all) states;
               rows = subst (λ l. AreRows new.store l (xs ++ (m, word) ∷ [])) (sym all) rows;
-              last = subst (IsStateOf r) (sym lasts) h.last;
+              ruled = subst (λ (s : States). All (λ (x : Stated). x.0.discipline ≡ s.discipline) (xs ++ (m, word) ∷ [])) (sym same) (All-push (λ (x : Stated). x.0.discipline ≡ kept.store.discipline) xs (m, word) h.ruled stated.it.ruled);
+              known = subst (λ (s : States). by_states.AreStates r s []) (sym same) h.known;
             }

@@ -4,9 +4,9 @@ pub mod Following
 pub mod Choices
 pub mod Arriving
 pub mod Nothing
+pub mod Phases
 pub mod Legs
-pub mod MonitorCalls
-pub mod Same
+pub mod Staying
 pub mod Pending
 pub mod Tied
 pub mod Saying

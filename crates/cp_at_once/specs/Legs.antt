@@ -5,7 +5,7 @@ use Rattle.cp_machine.specs.declared.event.Event.{Event}
 use Rattle.cp_machine.specs.declared.event.Event.TheVariants.{Local, Kernel, Ended, Fault, OutputFull}
 use Rattle.cp_machine.specs.declared.discipline.Discipline.{Discipline}
 use Rattle.cp_machine.specs.System.{Machine, is_pending}
-use Rattle.cp_endless_laws.specs.Silent.{silent_slots, without_output}
+use Rattle.cp_endless_laws.specs.Silent.{silent_slots}
 use Rattle.cp_at_once_laws.specs.AtOnce.{QuietLeg}
 use Rattle.cp_at_once_laws.specs.Quiet.{is_quiet, is_quiet_call}
 
@@ -16,10 +16,6 @@ ends_quietly (Kernel c) = is_quiet_call c
 ends_quietly Ended = true
 ends_quietly (Fault e) = false
 ends_quietly OutputFull = false
-
--- the steps of the process up to and with such an end, none of them an enter or a run error; what the last one showed is still there
-abbrev pub EndsQuietly : Tables → Discipline → Machine → ℕ → Machine → Type 0
-EndsQuietly r discipline m p n = QuietLeg (silent_slots r discipline) (λ k q. is_quiet ((silent_slots r discipline).event k q) ≡ true) m p (without_output n)
 
 -- Nobody is to be let in, and the process has a leg without an enter and a run error, after which each class and monitor has the status that it had.
 pub record HasLeg (r : Tables) (discipline : Discipline) (m : Machine) (p : ℕ) : Type 0 where

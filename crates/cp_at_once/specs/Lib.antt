@@ -1,5 +1,5 @@
 pub mod Holds
 pub mod Legs
-pub mod Entering
 pub mod Following
+pub mod ByRows
 pub mod Whole

@@ -3,7 +3,7 @@
 ghost use Rattle.std.specs.Prelude.{◌≡◌, ◌≤◌, ◌∷◌, ℕ, List, [], IfOk, All, length, true};
 ghost use Rattle.std.specs.List.{list_any};
 ghost use Rattle.cp_slots.specs.Tables.{Tables};
-ghost use Rattle.cp_machine.specs.System.{Machine, IsStateOf};
+ghost use Rattle.cp_machine.specs.System.{Machine, machine_of, opening};
 ghost use Rattle.cp_ends.specs.Answer.{ends_tests};
 ghost use Rattle.cp_ends.specs.Graph.{LeadsToEnd, ShowsLast};
 ghost use Rattle.cp_at_once.specs.Following.{NotesEnd, NotesValues, SlotGraph};
@@ -14,8 +14,8 @@ use crate::order::{place_of_end, place_of_value};
 use crate::origin::OriginAtOnce;
 use cp_ends::End;
 use cp_ends::found::MOST_VALUES;
-use cp_machine::{Shown, State};
-use cp_run::OutcomeKind;
+use cp_machine::Shown;
+use cp_run::{Job, OutcomeKind};
 use std::alloc::{AllocError, Global};
 
 /// An end, with a word that leads to it.
@@ -44,15 +44,14 @@ pub struct FoundAtOnce {
 }
 
 impl FoundAtOnce {
-    /// Nothing was found of the program of a state.
-    pub fn new(alloc: Global, state: &State) -> Result<FoundAtOnce, AllocError>
-        ensures kept { IfOk result (λ found. found.kept.known.entries ≡ []) }
-        ensures last { IfOk result (λ found. (r : Tables) → IsStateOf r state.now → IsStateOf r found.kept.last) }
-        ensures ends { IfOk result (λ found. found.ends.items ≡ []) }
-        ensures values { IfOk result (λ found. found.values.items ≡ []) }
+    /// Nothing was found. The opening state stands in the room for one.
+    pub fn new(alloc: Global, job: &Job<'_>) -> Result<FoundAtOnce, AllocError>
+        ensures nothing { IfOk result (λ found. (g : SlotGraph) (most : ℕ) → Holds job.now.program.now g most found []) }
+        ensures ruled { IfOk result (λ found. found.kept.store.discipline ≡ job.now.limits.discipline) }
+        ensures start { IfOk result (λ found. machine_of found.kept.store.standing.state ≡ opening job.now.program.now job.now.limits.discipline) }
     {
         Ok(FoundAtOnce {
-            kept: Kept::new(alloc, state)?,
+            kept: Kept::new(alloc, job)?,
             ends: Vec::new(alloc),
             values: Vec::new(alloc),
             is_whole: false,
@@ -61,7 +60,8 @@ impl FoundAtOnce {
 
     /// A word leads to an end.
     pub fn add_end(&mut self, end: End, origin: &OriginAtOnce) -> Result<(), AllocError>
-        ensures { IfOk result (λ _. (r : Tables) (g : SlotGraph) (most : ℕ) (states : List (Machine × List ℕ)) (word : List ℕ) → Holds r g most self.old states → IsWordOf states origin.now word → LeadsToEnd g end word → NotesEnd r g most self.old states self.new end) }
+        ensures kept { self.new.kept ≡ self.old.kept }
+        ensures end { IfOk result (λ _. (r : Tables) (g : SlotGraph) (most : ℕ) (states : List (Machine × List ℕ)) (word : List ℕ) → Holds r g most self.old states → IsWordOf states origin.now word → LeadsToEnd g end word → NotesEnd r g most self.old states self.new end) }
     {
         let ends = self.ends.as_slice();
         let at = place_among_ends(ends, end);
@@ -75,7 +75,8 @@ impl FoundAtOnce {
 
     /// A word leads to a stretch that displays these values.
     pub fn add_values(&mut self, values: &[Shown], origin: &OriginAtOnce) -> Result<(), AllocError>
-        ensures { IfOk result (λ _. (r : Tables) (g : SlotGraph) (most : ℕ) (states : List (Machine × List ℕ)) (word : List ℕ) → Holds r g most self.old states → IsWordOf states origin.now word → All (λ v. ShowsLast g v word) values.now → NotesValues r g most self.old states self.new values.now) }
+        ensures kept { self.new.kept ≡ self.old.kept }
+        ensures values { IfOk result (λ _. (r : Tables) (g : SlotGraph) (most : ℕ) (states : List (Machine × List ℕ)) (word : List ℕ) → Holds r g most self.old states → IsWordOf states origin.now word → All (λ v. ShowsLast g v word) values.now → NotesValues r g most self.old states self.new values.now) }
     {
         for value in values {
             self.add_value(*value, origin)?;
@@ -84,7 +85,8 @@ impl FoundAtOnce {
     }
 
     fn add_value(&mut self, value: Shown, origin: &OriginAtOnce) -> Result<(), AllocError>
-        ensures { IfOk result (λ _. (r : Tables) (g : SlotGraph) (most : ℕ) (states : List (Machine × List ℕ)) (word : List ℕ) → Holds r g most self.old states → IsWordOf states origin.now word → ShowsLast g value word → NotesValues r g most self.old states self.new (value ∷ [])) }
+        ensures kept { self.new.kept ≡ self.old.kept }
+        ensures value { IfOk result (λ _. (r : Tables) (g : SlotGraph) (most : ℕ) (states : List (Machine × List ℕ)) (word : List ℕ) → Holds r g most self.old states → IsWordOf states origin.now word → ShowsLast g value word → NotesValues r g most self.old states self.new (value ∷ [])) }
     {
         let values = self.values.as_slice();
         let at = place_among_values(values, value);

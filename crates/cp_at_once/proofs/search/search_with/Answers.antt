@@ -1,8 +1,13 @@
-use Rattle.cp_at_once.proofs.Words.{◌≡◌, ◌∙◌, ◌++◌, [], true, false, ap, subst, slot_graph, goal_at, GoesOn, HasLeg}
+use Rattle.cp_at_once.proofs.Words.{◌≡◌, [], true, false, subst, slot_graph, GoesOn, HasLeg}
 use Rattle.cp_at_once.proofs.Arriving.{begun, first_followed}
-use Rattle.cp_at_once.proofs.Choices.{answers_marked, answers_told}
-use Rattle.cp_at_once.proofs.Nothing.{nothing_found}
+use Rattle.cp_at_once.proofs.Choices.{answers_marked}
 use Rattle.cp_at_once.proofs.search.search_with.Goals as goal
+
+pub follow-requires-clause-known : goal.follow-requires-clause-known
+follow-requires-clause-known g c = c.in_ok-arrival.ensures.nothing.kept.known
+
+pub follow-requires-clause-row : goal.follow-requires-clause-row
+follow-requires-clause-row g c = λ due. (c.in_ok-arrival.ensures.opens.0, c.in_ok-arrival.ensures.opens.1 due)
 
 pub visit_all-requires-clause-begun : goal.visit_all-requires-clause-begun
 visit_all-requires-clause-begun g c =
@@ -10,16 +15,13 @@ visit_all-requires-clause-begun g c =
     let r = job.run.program.now in
     let gr = slot_graph r job.run.limits.discipline job.run.limits.steps in
     let Leg = HasLeg r job.run.limits.discipline in
-    let f = c.in_ok-found.found in
+    let f = c.open.new.self.found in
     let h = c.follow.new.self.found in
-    let room : c.in_ok-is_room.is_room ≡ true = search in (
-      c.follow.ensures.ahead,
-      begun r gr Leg job.most f [] h
-          (subst (GoesOn r gr Leg job.most 8 f [] h gr.start) room
-          (first_followed r gr Leg job.most f h c.start-origin.result c.start-origin.ensures.state c.start-origin.ensures.numbers
-          (nothing_found r gr job.most f c.in_ok-found.ensures.kept (c.in_ok-found.ensures.last r c.in_ok-state.ensures.own) c.in_ok-found.ensures.ends c.in_ok-found.ensures.values) _ _
-          (ap (λ m. goal_at c.in_ok-arrival.arrival m) c.in_ok-next.ensures.same ∙ c.in_ok-arrival.ensures.goal) (c.in_ok-arrival.ensures.shown ∙ ap (λ l. l ++ gr.start.shown) c.new-told.ensures) c.in_ok-is_room.is_room c.in_ok-is_room.ensures.found)),
-    )
+    let o = c.in_ok-arrival.ensures.opens in
+    let room : c.in_ok-is_room.is_room ≡ true = search in
+    begun r gr Leg job.most f [] h
+    (subst (GoesOn r gr Leg job.most 8 f [] h gr.start) room
+    (first_followed r gr Leg job.most f h c.start-2.result c.start-2.ensures.state c.start-2.ensures.numbers c.in_ok-arrival.ensures.nothing _ _ o.2 o.3 c.in_ok-is_room.is_room (λ states word a held is arrives to shown. c.in_ok-is_room.ensures.found states word a o.0 held is arrives o.1 to shown)))
 
 pub returns-then-not-is_room : goal.returns-then-not-is_room
 returns-then-not-is_room g c =
@@ -27,20 +29,16 @@ returns-then-not-is_room g c =
     let r = job.run.program.now in
     let gr = slot_graph r job.run.limits.discipline job.run.limits.steps in
     let Leg = HasLeg r job.run.limits.discipline in
-    let f = c.in_ok-found.found in
+    let f = c.open.new.self.found in
     let h = c.follow.new.self.found in
+    let o = c.in_ok-arrival.ensures.opens in
     let none : c.in_ok-is_room.is_room ≡ false = search in
     answers_marked r gr Leg job.most h false false
     (subst (GoesOn r gr Leg job.most 8 f [] h gr.start) none
-    (first_followed r gr Leg job.most f h c.start-origin.result c.start-origin.ensures.state c.start-origin.ensures.numbers
-    (nothing_found r gr job.most f c.in_ok-found.ensures.kept (c.in_ok-found.ensures.last r c.in_ok-state.ensures.own) c.in_ok-found.ensures.ends c.in_ok-found.ensures.values) _ _
-    (ap (λ m. goal_at c.in_ok-arrival.arrival m) c.in_ok-next.ensures.same ∙ c.in_ok-arrival.ensures.goal) (c.in_ok-arrival.ensures.shown ∙ ap (λ l. l ++ gr.start.shown) c.new-told.ensures) c.in_ok-is_room.is_room c.in_ok-is_room.ensures.found))
+    (first_followed r gr Leg job.most f h c.start-2.result c.start-2.ensures.state c.start-2.ensures.numbers c.in_ok-arrival.ensures.nothing _ _ o.2 o.3 c.in_ok-is_room.is_room (λ states word a held is arrives to shown. c.in_ok-is_room.ensures.found states word a o.0 held is arrives o.1 to shown)))
 
 pub returns : goal.returns
 returns g c =
     let job = c.args.job.now in
     let r = job.run.program.now in
-    answers_told r (slot_graph r job.run.limits.discipline job.run.limits.steps) (HasLeg r job.run.limits.discipline) job.most c.visit_all.new.visit.found c.in_ok-stopped.stopped c.is_none-search.result c.is_none-search.ensures c.in_ok-stopped.ensures.searched
-
-pub follow-requires-clause-ahead : goal.follow-requires-clause-ahead
-follow-requires-clause-ahead g c = c.in_ok-copy.ensures.own c.args.job.now.run.program.now c.in_ok-state.ensures.own
+    answers_marked r (slot_graph r job.run.limits.discipline job.run.limits.steps) (HasLeg r job.run.limits.discipline) job.most c.visit_all.new.self.found c.in_ok-is_whole.is_whole c.in_ok-is_whole.is_whole c.in_ok-is_whole.ensures
