@@ -14,7 +14,8 @@ TYPE = re.compile(r"^(?:pub(?:\(\w+\))? )?(?:struct|enum) (\w+)", re.M)
 NAMED_ITEM = re.compile(r"(?:const|static|struct|enum|macro_rules!|type) (\w+)")
 DEFINED = re.compile(r"(?:(?:pub|abbrev|unfoldable|data|record|infix\w*|rec) )*([^\s:{(]+)")
 WORD = re.compile(r"[^\s(){}\[\].,;:@\"`]+")
-PROMISED = re.compile(r"\s*(requires|ensures|ghost|pub|fn|impl|struct|enum)\b")
+# (what a drop without a clause takes apart promises nothing)
+PROMISED = re.compile(r"\s*(?!impl\b[^{]* Drop for |fn drop\(self\) \{)(requires|ensures|ghost|pub|fn|impl|struct|enum)\b")
 
 
 # Crates and pages.

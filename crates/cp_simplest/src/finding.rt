@@ -41,7 +41,7 @@ pub fn simplest<O: ObserveProgress>(
     outcomes: &[&Outcome],
     observer: &mut O,
 ) -> Result<Searched, AllocError> {
-    // A state is gone on from by several words, so the visitor counts its states itself.
+    // A state is expanded by several words, so the visitor counts its states itself.
     let job = SearchJob {
         alloc,
         run: job,

@@ -23,20 +23,20 @@ use std::collections::BTreeMap;
 #[derive(Drop)]
 pub struct SimplestVisit {
     pub states: States,
-    /// For each state, and for each process that made the last step, the lengths of the words that were gone on from there, as bits.
+    /// For each state, and for each process that made the last step, the lengths of the words that were expanded there, as bits.
     lengths: Vec<[u128; 16]>,
     /// How many states there may be.
     most: u32,
-    /// Whether words of all lengths are gone on from: where a run ends at the limit of choices, a shorter one stands for no longer one.
+    /// Whether words of all lengths are expanded: where a run ends at the limit of choices, a shorter one stands for no longer one.
     by_length: bool,
     /// The outcomes for which a word is looked for.
     ends: IndexSet<EndKey>,
     pub found: Vec<Option<SimplestSchedule>>,
     /// How many outcomes have no word yet.
     missing: usize,
-    /// The words that are to be gone on from or end, and where they lead to.
+    /// The words that are to be expanded or end, and where they lead to.
     labels: BTreeMap<Label, Target>,
-    /// The word that is gone on from, the process that made its last step, and whether this one can be chosen, but not at a gate.
+    /// The word that is expanded, the process that made its last step, and whether this one can be chosen, but not at a gate.
     label: Label,
     last: u8,
     may_stay: bool,
@@ -143,7 +143,7 @@ impl SimplestVisit {
         Ok(number)
     }
 
-    // The next word that is to be gone on from becomes the one that is. The number of its state; none where none is left, or none needed.
+    // The next word that is to be expanded becomes the one that is. The number of its state; none where none is left, or none needed.
     fn next_word(&mut self) -> Option<usize>
         ensures { self.new.states ≡ self.old.states }
     {

@@ -1,4 +1,4 @@
-//! Who waits at the ends of schedules of any length: the states that a search of ends kept, gone on from once more.
+//! Who waits at the ends of schedules of any length: the states that a search of ends kept, expanded once more.
 
 ghost use Rattle.std.specs.Prelude.{◌≡◌, ◌+◌, ◌∷◌, ◌++◌, ℕ, List, [], Option, true, IfOk};
 ghost use Rattle.cp_slots.specs.Tables.{Tables};

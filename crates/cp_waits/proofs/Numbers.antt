@@ -32,7 +32,3 @@ may_there r discipline m p = refl
 
 pub quiet_may : (r : Tables) (discipline : Discipline) (m : Machine) → may (slots r discipline) m ≡ may (silent_slots r discipline) m
 quiet_may r discipline m = λ i p. may_there r discipline m p i
-
--- there are at most sixteen processes
-pub few_processes : (r : Tables) (s : State) → IsStateOf r s → length s.processes.items ≤ 16 → length r.processes ≤ 16
-few_processes r s own few = let same : length r.processes ≡ length s.processes.items = sym (threads_count r s own) ∙ length-map s.processes.items thread_of in omega (arith, same, few)

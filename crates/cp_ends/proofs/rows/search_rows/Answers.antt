@@ -7,6 +7,6 @@ returns g c =
     let job = c.args.job.now in
     let r = job.run.program.now in
     let gr = slot_graph r job.run.limits.discipline job.run.limits.steps in
-    let found = c.visit_all.new.self.found in
+    let found = c.visit_rows.new.visit.found in
     let stopped = c.in_ok-stopped.stopped in
     stop_noted r gr job.most found stopped stopped (search_answer r gr job.most found stopped c.in_ok-stopped.ensures)
