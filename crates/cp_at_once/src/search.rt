@@ -119,7 +119,7 @@ impl SearchAtOnce {
         })
     }
 
-    // What stands in the room for a state has its row again. What stood there before is free.
+    // What stands in the room for a state has its row again, whatever stood there before.
     fn find_row(&mut self, job: &SearchJob<'_>) -> Result<(), AllocError>
         requires cache { IsCache job.now.run.program.now job.now.run.limits.discipline self.old.found.kept.store.cache }
         requires own { IsStateOf job.now.run.program.now self.old.found.kept.store.standing.state }
