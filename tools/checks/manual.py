@@ -28,8 +28,13 @@ def options_of(program, words):
 
 
 def manual_faults(path, program, parts):
-    """For each option of a program, or of its parts, what the page lacks of it, or None."""
+    """For each option of a program, or of its parts, what the page lacks of it, or None; and for each option of the page whether there is one."""
     text = plain(path.read_text())
     options = {(name, what) for words in parts for name, help_text in options_of(program, words) for what in [name, *RANGE.findall(help_text)]}
     for name, what in sorted(options):
         yield None if re.search(re.escape(what) + r"(?![a-z-])", text) else f"{path.name}: there is no {what} of {name}"
+    told = {name for name, _ in options} | {"--version"}
+    for name in sorted(set(re.findall(r"(?<![a-z-])--[a-z]+(?:-[a-z]+)*", text))):
+        yield None if name in told else f"{path.name}: no help tells {name}"
+    if not options:
+        yield f"{path.name}: no option is told by {program}"
