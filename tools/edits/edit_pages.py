@@ -14,7 +14,8 @@ TYPE = re.compile(r"^(?:pub(?:\(\w+\))? )?(?:struct|enum) (\w+)", re.M)
 NAMED_ITEM = re.compile(r"(?:const|static|struct|enum|macro_rules!|type) (\w+)")
 DEFINED = re.compile(r"(?:(?:pub|abbrev|unfoldable|data|record|infix\w*|rec) )*([^\s:{(]+)")
 WORD = re.compile(r"[^\s(){}\[\].,;:@\"`]+")
-PROMISED = re.compile(r"\s*(requires|ensures|ghost|pub|fn|impl|struct|enum)\b")
+# (what a drop without a clause takes apart promises nothing)
+PROMISED = re.compile(r"\s*(?!impl\b[^{]* Drop for |fn drop\(self\) \{)(requires|ensures|ghost|pub|fn|impl|struct|enum)\b")
 
 
 # Crates and pages.
@@ -42,7 +43,7 @@ class Page:
 
     def __init__(self, path, text):
         self.path, self.crate, self.name = path, path.parent.parent, f"{path.parent.parent.name}/{path.stem}"
-        self.pairs, file, old = [], None, None
+        self.pairs, self.stray, file, old = [], None, None, None
         for line in text.splitlines():
             word, _, rest = line.partition(" ")
             if word == "file:":
@@ -52,6 +53,8 @@ class Page:
             elif word == "new:" and file and old:
                 self.pairs.append((file, old, rest))
                 old = None
+            elif line.startswith(" "):
+                self.stray = line.strip()
 
     def applied(self, texts):
         """These texts of the crate, by file, with the edit; those that are not given are read."""
@@ -69,6 +72,8 @@ class Page:
             self.applied({})
         except (OSError, ValueError) as why:
             return str(why)
+        if self.stray:
+            return f"a text is one line, and this is a second one: {self.stray}"
         return None if self.pairs else "it has no 'old:' and 'new:'"
 
 

@@ -9,6 +9,7 @@ ghost use Rattle.cp_expectation.specs.Steps.{claims, meant_by, value_in};
 use crate::expectation::{
     Claim, EndPattern, Expectation, OutputItem, OutputPattern, Topic, WhoPattern,
 };
+use crate::reading::Reading;
 use crate::vocabulary::{as_name, claim_of, error_of, process_of, value_of};
 use cp_machine::ErrorName;
 use std::alloc::{AllocError, Global};
@@ -40,11 +41,21 @@ pub enum Addition {
 }
 
 /// The expectations read so far, and the one that is being read.
-#[derive(Drop)]
 pub struct Reader {
     pub done: Vec<Expectation>,
     pub part: ReadPart,
     pub doubtful: Option<&'static str>,
+}
+
+// One call where it is dropped, not one for each list: proofs of functions that may end early are much shorter.
+impl Drop for Reader {
+    fn drop(self) {
+        let Reader {
+            done: _,
+            part: _,
+            doubtful: _,
+        } = self;
+    }
 }
 
 fn with_end(expectation: Expectation, end: EndPattern) -> ReadPart
@@ -395,6 +406,21 @@ impl Reader {
             done: Vec::new(alloc),
             part: ReadPart::Nothing,
             doubtful: None,
+        }
+    }
+
+    /// The expectations that were read, and the word that is doubtful.
+    pub fn into_reading(self) -> Reading
+        ensures { result.expectations.items ≡ self.done.items }
+    {
+        let Reader {
+            done,
+            part: _,
+            doubtful,
+        } = self;
+        Reading {
+            expectations: done,
+            doubtful,
         }
     }
 

@@ -121,10 +121,7 @@ pub fn expectations(alloc: Global, text: &str) -> Result<Reading, Misread>
     }
     let wanted = wanted_by(&reader.part);
     if reader.end()? {
-        Ok(Reading {
-            expectations: reader.done,
-            doubtful: reader.doubtful,
-        })
+        Ok(reader.into_reading())
     } else {
         Err(Misread::Unexpected {
             wanted,

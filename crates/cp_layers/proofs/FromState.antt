@@ -1,4 +1,4 @@
--- What comes of going on from one state.
+-- What comes of expanding one state.
 use Rattle.std.proofs.Common.{◌≡◌, ◌⊎◌, inl, inr, ⊎_elim, ℕ, Bool, true, false, if◌then◌else◌, List, [], ◌∷◌, ◌++◌, refl, sym, ap, subst, ◌∙◌, arith}
 use Rattle.cp_layers.proofs.Words.{Contains, Tables, Machine, System, StateKey, Marking, Adds}
 use Rattle.std.specs.List.{list_any}

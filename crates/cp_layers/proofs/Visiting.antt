@@ -1,4 +1,4 @@
--- How a layer is gone on from, state after state and choice after choice.
+-- How a layer is expanded, state after state and choice after choice.
 use Rattle.std.proofs.Common.{◌≡◌, ◌≤◌, ◌+◌, ℕ, suc, List, [], ◌∷◌, ◌++◌, Bool, true, false, None, Some, length, refl, sym, ap, subst, arith}
 use Rattle.std.specs.Prelude.{Option, is_some, slice_get}
 use Rattle.cp_machine.specs.declared.discipline.Discipline.{Discipline}

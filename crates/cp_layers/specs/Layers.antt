@@ -1,4 +1,4 @@
--- Layers of states, and what comes of going on from them.
+-- Layers of states, and what comes of expanding them.
 use Rattle.std.specs.Prelude.{◌≡◌, ◌⊎◌, ◌<◌, ◌≤◌, ◌+◌, ℕ, suc, List, true, Contains, Some, length, slice_get}
 use Rattle.cp_slots.specs.Tables.{Tables}
 use Rattle.cp_key.specs.Key.{key_of}

@@ -1,4 +1,4 @@
--- How far a layer is gone on from.
+-- How far a layer is expanded.
 use Rattle.std.specs.Prelude.{◌≡◌, ◌≤◌, ℕ, List, Some, length, slice_get}
 use Rattle.cp_slots.specs.Tables.{Tables}
 use Rattle.cp_machine.specs.Machine.{Machine}

@@ -18,10 +18,16 @@ use indexmap::IndexSet;
 use std::alloc::{AllocError, Global};
 
 /// States in which a choice is due, each once, with the words of the first schedules that led there, one behind the other: all are of one length.
-#[derive(Drop)]
 pub struct Layer {
     pub known: IndexSet<StateKey>,
     words: Vec<u8>,
+}
+
+// One call where it is dropped, not one for each list: proofs of functions that may end early are much shorter.
+impl Drop for Layer {
+    fn drop(self) {
+        let Layer { known: _, words: _ } = self;
+    }
 }
 
 impl Layer {

@@ -1,4 +1,4 @@
-//! What all schedules come to, by layers of states: each state is gone on from once, and whoever notes is told of each stretch.
+//! What all schedules come to, by layers of states: each state is expanded once, and whoever notes is told of each stretch.
 #![tactic(auto)]
 
 pub mod layer;

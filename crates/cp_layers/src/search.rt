@@ -26,7 +26,7 @@ pub struct Noted<N> {
     pub is_whole: bool,
 }
 
-// A layer that is gone on from, and what is noted so far.
+// A layer that is expanded, and what is noted so far.
 #[derive(Drop)]
 struct LayerVisit<N> {
     note: N,
@@ -137,7 +137,7 @@ impl<N: Note> LayerVisit<N> {
         self.next.arrive(job, state, halt, &[])
     }
 
-    // The layer that was found, of as many choices as the job says, is now the one to be gone on from.
+    // The layer that was found, of as many choices as the job says, is now the one to be expanded.
     fn begin_layer(&mut self, job: &SearchJob<'_>)
         requires known { IsKnown (N.marking (slots job.now.run.program.now job.now.run.limits.discipline) job.now.run.limits.steps) job.now.run.program.now (slots job.now.run.program.now job.now.run.limits.discipline) job.now.run.limits.steps job.now.most job.now.run.limits.choices (N.marks self.old.note) self.old.next.known.keys }
         requires words { KnowsWords (N.marking (slots job.now.run.program.now job.now.run.limits.discipline) job.now.run.limits.steps) (slots job.now.run.program.now job.now.run.limits.discipline) job.now.run.limits.steps job.now.run.limits.choices self.old.next.known.keys self.old.next.words.items (N.words self.old.note) }

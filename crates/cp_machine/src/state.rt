@@ -53,7 +53,6 @@ impl Readiness {
 }
 
 /// The state of a run of a program.
-#[derive(Drop)]
 pub struct State {
     /// The permanent cells of all components.
     pub permanents: Vec<i16>,
@@ -68,6 +67,23 @@ pub struct State {
     /// Room for evaluated arguments.
     pub bounds: Vec<Bound>,
     pub ghost few: { length processes.items ≤ 16 },
+}
+
+// One call where it is dropped, not one for each list: proofs of functions that may end early are much shorter.
+impl Drop for State {
+    fn drop(self) {
+        let State {
+            permanents: _,
+            bindings: _,
+            phases: _,
+            processes: _,
+            guards: _,
+            pending: _,
+            discipline: _,
+            output: _,
+            bounds: _,
+        } = self;
+    }
 }
 
 impl State {

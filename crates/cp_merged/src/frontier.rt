@@ -39,10 +39,16 @@ fn add_end(ended: &mut Ends, key: EndKey, prefixes: &Prefixes) -> Result<(), All
 }
 
 /// Where words have arrived: the outcomes of those that have ended, and the layer that is made.
-#[derive(Drop)]
 pub struct Frontier {
     pub ended: Ends,
     pub layer: StateLayer,
+}
+
+// One call where it is dropped, not one for each list: proofs of functions that may end early are much shorter.
+impl Drop for Frontier {
+    fn drop(self) {
+        let Frontier { ended: _, layer: _ } = self;
+    }
 }
 
 impl Frontier {
@@ -73,7 +79,8 @@ impl Frontier {
     pub fn into_ends(self) -> Ends
         ensures { result.entries ≡ self.ended.entries }
     {
-        self.ended
+        let Frontier { ended, layer: _ } = self;
+        ended
     }
 
     /// Words end where this was displayed, and more. Where there are too many outcomes already, nothing changes.

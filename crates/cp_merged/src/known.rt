@@ -20,7 +20,6 @@ use std::alloc::{AllocError, Global};
 
 /// The parts of the states so far, the legs that are known, and what was displayed. The row of a state has the number of what it displayed at
 /// its end.
-#[derive(Drop)]
 pub struct KnownStates {
     pub cache: LegCache,
     pub outputs: ListStore<Shown>,
@@ -29,6 +28,19 @@ pub struct KnownStates {
     /// Room for a state with its row, in which legs are made.
     pub standing: Standing,
     pub discipline: Discipline,
+}
+
+// One call where it is dropped, not one for each list: proofs of functions that may end early are much shorter.
+impl Drop for KnownStates {
+    fn drop(self) {
+        let KnownStates {
+            cache: _,
+            outputs: _,
+            output_room: _,
+            standing: _,
+            discipline: _,
+        } = self;
+    }
 }
 
 impl KnownStates {

@@ -10,7 +10,6 @@ use cp_states::hashing::hash_of;
 use std::alloc::{AllocError, Global};
 
 /// Different rows, all as long, and the words that lead to the state of each.
-#[derive(Drop)]
 pub struct StateLayer {
     /// How many numbers a row has.
     pub width: usize,
@@ -21,6 +20,18 @@ pub struct StateLayer {
     pub ghost long: { length numbers.items ≡ length leads.items * width },
     pub ghost hashed: { AreRowHashes width numbers.items (length leads.items) (hashes index) },
     pub ghost different: { AreDifferentRows width numbers.items (length leads.items) },
+}
+
+// One call where it is dropped, not one for each list: proofs of functions that may end early are much shorter.
+impl Drop for StateLayer {
+    fn drop(self) {
+        let StateLayer {
+            width: _,
+            numbers: _,
+            index: _,
+            leads: _,
+        } = self;
+    }
 }
 
 impl StateLayer {

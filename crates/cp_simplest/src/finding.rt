@@ -41,7 +41,7 @@ pub fn simplest<O: ObserveProgress>(
     outcomes: &[&Outcome],
     observer: &mut O,
 ) -> Result<Searched, AllocError> {
-    // A state is gone on from by several words, so the visitor counts its states itself.
+    // A state is expanded by several words, so the visitor counts its states itself.
     let job = SearchJob {
         alloc,
         run: job,
@@ -55,7 +55,7 @@ pub fn simplest<O: ObserveProgress>(
     }
     match visit_all(&job, &mut visit, &mut state, &mut next, observer)? {
         Some(_) => Ok(Searched::TooMany),
-        None => Ok(Searched::Found(visit.found)),
+        None => Ok(Searched::Found(visit.into_found())),
     }
 }
 

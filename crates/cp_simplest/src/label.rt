@@ -1,8 +1,8 @@
-//! Words that are to be gone on from.
+//! Words that are to be expanded.
 
 use cp_merged::Word;
 
-/// A word, in the order in which words are gone on from: by switches, then by numbers, then in dictionary order.
+/// A word, in the order in which words are expanded: by switches, then by numbers, then in dictionary order.
 #[derive(PartialEq, Eq, PartialOrd, Ord, Drop)]
 pub struct Label {
     pub switches: u8,

@@ -20,26 +20,44 @@ use std::alloc::AllocError;
 use std::collections::BTreeMap;
 
 /// What was found so far. A visit is one of a word, which leads to a state that others may lead to as well.
-#[derive(Drop)]
 pub struct SimplestVisit {
     pub states: States,
-    /// For each state, and for each process that made the last step, the lengths of the words that were gone on from there, as bits.
+    /// For each state, and for each process that made the last step, the lengths of the words that were expanded there, as bits.
     lengths: Vec<[u128; 16]>,
     /// How many states there may be.
     most: u32,
-    /// Whether words of all lengths are gone on from: where a run ends at the limit of choices, a shorter one stands for no longer one.
+    /// Whether words of all lengths are expanded: where a run ends at the limit of choices, a shorter one stands for no longer one.
     by_length: bool,
     /// The outcomes for which a word is looked for.
     ends: IndexSet<EndKey>,
     pub found: Vec<Option<SimplestSchedule>>,
     /// How many outcomes have no word yet.
     missing: usize,
-    /// The words that are to be gone on from or end, and where they lead to.
+    /// The words that are to be expanded or end, and where they lead to.
     labels: BTreeMap<Label, Target>,
-    /// The word that is gone on from, the process that made its last step, and whether this one can be chosen, but not at a gate.
+    /// The word that is expanded, the process that made its last step, and whether this one can be chosen, but not at a gate.
     label: Label,
     last: u8,
     may_stay: bool,
+}
+
+// One call where it is dropped, not one for each list: proofs of functions that may end early are much shorter.
+impl Drop for SimplestVisit {
+    fn drop(self) {
+        let SimplestVisit {
+            states: _,
+            lengths: _,
+            most: _,
+            by_length: _,
+            ends: _,
+            found: _,
+            missing: _,
+            labels: _,
+            label: _,
+            last: _,
+            may_stay: _,
+        } = self;
+    }
 }
 
 impl SimplestVisit {
@@ -76,6 +94,24 @@ impl SimplestVisit {
             last: 0,
             may_stay: false,
         })
+    }
+
+    /// The schedules that were found, one for each outcome, if there is one.
+    pub fn into_found(self) -> Vec<Option<SimplestSchedule>> {
+        let SimplestVisit {
+            states: _,
+            lengths: _,
+            most: _,
+            by_length: _,
+            ends: _,
+            found,
+            missing: _,
+            labels: _,
+            label: _,
+            last: _,
+            may_stay: _,
+        } = self;
+        found
     }
 
     /// Begins with the empty word. `false` where there are too many states.
@@ -143,7 +179,7 @@ impl SimplestVisit {
         Ok(number)
     }
 
-    // The next word that is to be gone on from becomes the one that is. The number of its state; none where none is left, or none needed.
+    // The next word that is to be expanded becomes the one that is. The number of its state; none where none is left, or none needed.
     fn next_word(&mut self) -> Option<usize>
         ensures { self.new.states ≡ self.old.states }
     {

@@ -1,7 +1,7 @@
 use Rattle.std.proofs.Common.{◌≡◌, ◌∙◌, List, ℕ, Bor, Some, map, length, ap, sym, subst, arith}
 use Rattle.std.proofs.lemmas.List.{length-map}
 use Rattle.cp_expectation.specs.Misread.{StopsAt}
-use Rattle.cp_expectation.specs.Plain.{Expected}
+use Rattle.cp_expectation.specs.Plain.{Expected, expected_of}
 use Rattle.cp_expectation.specs.Reader.{state_of}
 use Rattle.cp_expectation.specs.Spelling.{Spells}
 use Rattle.cp_expectation.specs.Steps.{expected_at, behind, start, step, ended}
@@ -42,7 +42,8 @@ returns-then-branch-clause-spelled c =
     let s = state_of c.loop-place.reader in
     let t = state_of c.end.new.self in
     let es = ended_some s.done (expected_at s.place) t (fits (behind s.done (expected_at s.place)) c.in_ok-end.field-0 t c.if-branch.true c.in_ok-end.ensures) in
-    subst (λ l. Spells l t.done) are (spelled_at_end step ended start Spells is_reader ws c.loop-place.place s t.done (omega (arith, long)) c.loop-place.invariant es)
+    let there = subst (λ l. Spells l t.done) are (spelled_at_end step ended start Spells is_reader ws c.loop-place.place s t.done (omega (arith, long)) c.loop-place.invariant es) in
+    subst (λ xs. Spells (words_of c.args.text.now) (map expected_of xs)) (sym c.into_reading.ensures) there
 
 pub returns-clause-none : goal.returns-clause-none
 returns-clause-none c =
