@@ -1,29 +1,43 @@
 //! What no schedule comes to, as JSON.
 
 use crate::gaps::{Gaps, UnreachedLine};
-use serde_json::{Value, json};
+use serde_json::{Map, Value, json, put};
 use std::alloc::{AllocError, Global};
 
 /// What no schedule comes to, as one object: how many choices the schedules have, whether these are all, and the lines, annotations,
 /// queues and entries that nobody came to.
 pub fn cover_json(alloc: Global, gaps: &Gaps) -> Result<Value, AllocError> {
-    let mut lines = Vec::new(alloc);
-    for line in &gaps.lines {
-        lines.push(json!(in alloc; { "line": line.line, "part": line.is_part })?)?;
+    let mut cover = Map::new(alloc);
+    put_gaps(alloc, &mut cover, gaps)?;
+    Ok(Value::Object(cover))
+}
+
+fn put_gaps(alloc: Global, cover: &mut Map<String, Value>, gaps: &Gaps) -> Result<(), AllocError> {
+    put(cover, alloc, "complete", Value::Bool(gaps.is_whole))?;
+    put(cover, alloc, "choices", Value::from(gaps.choices))?;
+    put(cover, alloc, "lines", lines(alloc, &gaps.lines)?)?;
+    put(
+        cover,
+        alloc,
+        "assertions",
+        annotations(alloc, &gaps.assertions)?,
+    )?;
+    put(
+        cover,
+        alloc,
+        "invariants",
+        annotations(alloc, &gaps.invariants)?,
+    )?;
+    put(cover, alloc, "queues", names(alloc, &gaps.queues)?)?;
+    put(cover, alloc, "gates", names(alloc, &gaps.gates)?)
+}
+
+fn lines(alloc: Global, lines: &[UnreachedLine]) -> Result<Value, AllocError> {
+    let mut items = Vec::new(alloc);
+    for line in lines {
+        items.push(json!(in alloc; { "line": line.line, "part": line.is_part })?)?;
     }
-    let assertions = annotations(alloc, &gaps.assertions)?;
-    let invariants = annotations(alloc, &gaps.invariants)?;
-    let queues = names(alloc, &gaps.queues)?;
-    let gates = names(alloc, &gaps.gates)?;
-    json!(in alloc; {
-        "complete": gaps.is_whole,
-        "choices": gaps.choices,
-        "lines": lines,
-        "assertions": assertions,
-        "invariants": invariants,
-        "queues": queues,
-        "gates": gates
-    })
+    Ok(Value::Array(items))
 }
 
 // Annotations by the lines in which their expressions begin.

@@ -27,7 +27,7 @@ use std::alloc::{AllocError, Global};
 /// The first outcomes, whose first schedules are gone along to their ends.
 const MOST_LAID_OUT: usize = 500;
 
-/// What is told where the page does not go on from a state.
+/// What is told where the page does not expand a state.
 #[derive(Clone, Copy)]
 enum Edge {
     /// How many schedules lead on to which outcome.
@@ -308,7 +308,7 @@ fn lay_out<K: Schedules, O: ObserveProgress>(
     Ok(start)
 }
 
-// Finds the states along words, until so many were gone on from for these.
+// Finds the states along words, until so many were expanded for these.
 fn lay_words<K: Schedules, O: ObserveProgress>(
     job: &SearchJob<'_>,
     observer: &mut O,

@@ -32,9 +32,9 @@ struct Node {
     calls: Vec<Vec<OpenCall>>,
     /// The fewest choices that lead here.
     depth: u8,
-    /// An edge for each number that may be chosen, where the state was gone on from.
+    /// An edge for each number that may be chosen, where the state was expanded.
     edges: Vec<usize>,
-    /// What can still come, where it was not gone on from.
+    /// What can still come, where it was not expanded.
     onward: Vec<Onward>,
 }
 
@@ -193,7 +193,7 @@ impl<'a, K: Schedules> PageGraph<'a, K> {
         }
     }
 
-    /// Goes on from the states along a word that were not gone on from; the answer is how many these were.
+    /// Expands the states along a word that were not expanded; the answer is how many these were.
     pub fn lay(
         &mut self,
         job: &SearchJob<'_>,
@@ -221,7 +221,7 @@ impl<'a, K: Schedules> PageGraph<'a, K> {
         Ok(count)
     }
 
-    // Goes on from the state of this place with each process that may be chosen, if it was not gone on from; the answer is how many states these are.
+    // Expands the state of this place with each process that may be chosen, if it was not expanded; the answer is how many states these are.
     fn expand(
         &mut self,
         job: &SearchJob<'_>,
@@ -258,7 +258,7 @@ impl<'a, K: Schedules> PageGraph<'a, K> {
         Ok(())
     }
 
-    /// The edges of a state; none where it was not gone on from.
+    /// The edges of a state; none where it was not expanded.
     pub fn edges_at(&self, at: usize) -> &[usize] {
         match self.nodes.get(at) {
             Some(node) => &node.edges,
@@ -271,7 +271,7 @@ impl<'a, K: Schedules> PageGraph<'a, K> {
         *self.targets.get(edge?)?
     }
 
-    /// Whether a state was not gone on from.
+    /// Whether a state was not expanded.
     pub fn is_open(&self, at: usize) -> bool {
         match self.nodes.get(at) {
             Some(node) => node.edges.is_empty(),
@@ -290,7 +290,7 @@ impl<'a, K: Schedules> PageGraph<'a, K> {
         node.edges.get(place).copied()
     }
 
-    /// Appends the states: `[gate, [number, edge, ..]]`, where the gate is -1 if a process is chosen, and an edge -1 if the state was not gone on from.
+    /// Appends the states: `[gate, [number, edge, ..]]`, where the gate is -1 if a process is chosen, and an edge -1 if the state was not expanded.
     /// What can still come of such a state follows, if it is known: `[left, row, ..]`.
     pub fn put_nodes(&self, json: &mut Json) {
         json.open();

@@ -1,4 +1,4 @@
-//! What can still come beyond the page: of each state that it does not go on from, how many schedules lead on to which outcome.
+//! What can still come beyond the page: of each state that it does not expand, how many schedules lead on to which outcome.
 
 ghost use Rattle.std.specs.Prelude.{◌≡◌, ◌≤◌, All, IfOk, IfSome, slice_get};
 ghost use Rattle.cp_machine.specs.System.{Machine, machine_of, IsStateOf};
@@ -41,7 +41,7 @@ pub fn tell_onward<K: Schedules>(
     Ok(())
 }
 
-// The states to which one choice more leads from these. Those that the page does not go on from are told of, with so many choices left.
+// The states to which one choice more leads from these. Those that the page does not expand are told of, with so many choices left.
 fn next_layer<K: Schedules>(
     job: &SearchJob<'_>,
     graph: &mut PageGraph<'_, K>,
@@ -77,7 +77,7 @@ fn add_targets<K: Schedules>(
     Ok(())
 }
 
-// Tells what can still come from the state of this place on, where the page does not go on from it, and if it can be counted.
+// Tells what can still come from the state of this place on, where the page does not expand it, and if it can be counted.
 fn tell_state<K: Schedules>(
     job: &SearchJob<'_>,
     graph: &mut PageGraph<'_, K>,

@@ -6,7 +6,6 @@ use cp_legend::Legend;
 use std::alloc::Global;
 
 /// Texts, frames, views, events, edges, ends, and what can still come beyond the page, each once.
-#[derive(Drop)]
 pub struct Register<'a> {
     pub alloc: Global,
     pub legend: &'a Legend,
@@ -20,6 +19,24 @@ pub struct Register<'a> {
     pub further: PageRows,
     /// These outcomes with how many schedules lead on to them.
     pub ways: PageRows,
+}
+
+// One call where it is dropped, not one for each list: proofs of functions that may end early are much shorter.
+impl<'a> Drop for Register<'a> {
+    fn drop(self) {
+        let Register {
+            alloc: _,
+            legend: _,
+            strings: _,
+            frames: _,
+            views: _,
+            events: _,
+            edges: _,
+            ends: _,
+            further: _,
+            ways: _,
+        } = self;
+    }
 }
 
 impl<'a> Register<'a> {

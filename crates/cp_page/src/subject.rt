@@ -23,7 +23,7 @@ pub struct PageSubject<'a> {
     pub legend: &'a Legend,
     pub limits: Limits,
     pub length: Length,
-    /// How many states are gone on from.
+    /// How many states are expanded.
     pub states: u32,
     /// The bytes of the source.
     pub source: &'a [u8],
