@@ -37,7 +37,7 @@ ends_so g word a d arrives to = (a, arrives, sym to)
 -- ---- the start
 
 module _ (r : Tables) (g : SlotGraph) (Leg : Machine → ℕ → Type 0) (most : ℕ) where
-  -- what is begun when the first arrival was gone on from
+  -- what is begun when the first arrival was expanded
   pub begun : (before : FoundAtOnce) (states : States) (after : FoundAtOnce) → GoesOn r g Leg most 8 before states after g.start true → (more : States) × Holds r g most after more × IsGoneThrough g Leg 8 0 after more
   begun before states after k = (k.0, k.1, record { start = k.3; on = λ i x less at. absurd (omega (arith, less)) })
 

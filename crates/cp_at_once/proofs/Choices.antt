@@ -81,7 +81,7 @@ module _ (r : Tables) (g : SlotGraph) (Leg : Machine → ℕ → Type 0) (most :
 
   -- ---- kept states
 
-  -- one more was gone on from
+  -- one more was expanded
   pub through_more : (f : FoundAtOnce) (at : ℕ) (m : Machine) (done : List ℕ) → Within r g Leg most 8 f at m done → ((p : ℕ) → g.may m p ≡ true → Contains done p) → GoesThrough r g Leg most 8 (at + 1) f
   through_more f at m done x all = (x.states, x.holds, record { start = x.through.start; on = λ i y less there. by i y there (cases_order i at) less })
     where

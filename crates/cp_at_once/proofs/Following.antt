@@ -117,7 +117,7 @@ known_again r g most found states m h kept are there = (states, kept_else r g mo
 -- ---- an arrival
 
 module _ (r : Tables) (g : SlotGraph) (Leg : Machine → ℕ → Type 0) (most : ℕ) where
-  -- From `before` on so much was found, and the arrival b is to be gone on from with c legs in a row at most, so that a is gone on from.
+  -- From `before` on so much was found, and the arrival b is to be expanded with c legs in a row at most, so that a is expanded.
   pub record Going (before : FoundAtOnce) (states : States) (now : FoundAtOnce) (a : SlotArrival) (goal : Goal Machine End) (told : List Shown) (o : OriginAtOnce) (made : ℕ) : Type 0 where
     pub more : States
     pub word : List ℕ

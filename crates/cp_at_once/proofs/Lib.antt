@@ -7,6 +7,7 @@ pub mod Nothing
 pub mod Phases
 pub mod Legs
 pub mod Staying
+pub mod Going
 pub mod Pending
 pub mod Tied
 pub mod Saying

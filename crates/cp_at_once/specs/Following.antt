@@ -30,12 +30,12 @@ abbrev pub IsKnownGoal : FoundAtOnce → (Machine → Type 0) → Goal Machine E
 IsKnownGoal found followed (Place s) = followed s
 IsKnownGoal found followed (graph.End e) = knows_end found e ≡ true
 
--- where a stretch arrives is gone on from, and what it shows is found
+-- where a stretch arrives is expanded, and what it shows is found
 pub record IsGone (found : FoundAtOnce) (followed : Machine → Type 0) (a : SlotArrival) : Type 0 where
   pub goal : IsKnownGoal found followed a.goal
   pub shown : (v : Shown) → Contains a.shown v → knows_value found v ≡ true
 
--- A due choice is followed: its state is kept, or one process makes a leg at once (`Leg`), and where that arrives is gone on from, with c in a row at most.
+-- A due choice is followed: its state is kept, or one process makes a leg at once (`Leg`), and where that arrives is expanded, with c in a row at most.
 abbrev pub Follows : SlotGraph → (Machine → ℕ → Type 0) → FoundAtOnce → List (Machine × List ℕ) → ℕ → Machine → Type 0
 Follows g Leg found states zero s = has same_key states s ≡ true
 Follows g Leg found states (suc c) s = (has same_key states s ≡ true) ⊎ ((p : ℕ) × (g.may s p ≡ true) × Leg s p × IsGone found (Follows g Leg found states c) (g.on s p))
@@ -72,16 +72,16 @@ abbrev pub IsKept : Tables → SlotGraph → ℕ → FoundAtOnce → List (Machi
 IsKept r g most before states after m true = (more : List (Machine × List ℕ)) × Holds r g most after more × Grows before states after more × (has same_key more m ≡ true)
 IsKept r g most before states after m false = Holds r g most after states × IsOneTooMany g most states
 
--- what holds when an arrival was gone on from with c legs in a row at most; `false` where there is a state too many
+-- what holds when an arrival was expanded with c legs in a row at most; `false` where there is a state too many
 abbrev pub GoesOn : Tables → SlotGraph → (Machine → ℕ → Type 0) → (most c : ℕ) → FoundAtOnce → List (Machine × List ℕ) → FoundAtOnce → SlotArrival → Bool → Type 0
 GoesOn r g Leg most c before states after a true = (more : List (Machine × List ℕ)) × Holds r g most after more × Grows before states after more × IsGone after (Follows g Leg after more c) a
 GoesOn r g Leg most c before states after a false = (more : List (Machine × List ℕ)) × Holds r g most after more × IsOneTooMany g most more
 
--- each choice of a state was gone on from
+-- each choice of a state was followed
 abbrev pub IsDone : SlotGraph → (Machine → ℕ → Type 0) → (c : ℕ) → FoundAtOnce → List (Machine × List ℕ) → Machine → Type 0
 IsDone g Leg c found states s = (p : ℕ) → g.may s p ≡ true → IsGone found (Follows g Leg found states c) (g.on s p)
 
--- The first arrival and each choice of the first n kept states were gone on from.
+-- The first arrival and each choice of the first n kept states were followed.
 pub record IsGoneThrough (g : SlotGraph) (Leg : Machine → ℕ → Type 0) (c n : ℕ) (found : FoundAtOnce) (states : List (Machine × List ℕ)) : Type 0 where
   pub start : IsGone found (Follows g Leg found states c) g.start
   pub on : (i : ℕ) (x : Machine × List ℕ) → i < n → slice_get states i ≡ Some x → IsDone g Leg c found states x.0

@@ -1,4 +1,4 @@
--- What a search that makes calls at once answers: true words, and, where each kept state was gone on from and no stretch was cut, nothing is left out.
+-- What a search that makes calls at once answers: true words, and, where each kept state was expanded and no stretch was cut, nothing is left out.
 use Rattle.std.specs.Prelude.{◌≡◌, ◌≤◌, ℕ, List, All, true, false, length}
 use Rattle.cp_slots.specs.Tables.{Tables}
 use Rattle.cp_machine.specs.declared.discipline.Discipline.{Discipline}

@@ -39,7 +39,7 @@ pub struct FoundAtOnce {
     pub ends: Vec<EndAtOnce>,
     /// The first of all values; one more than is told.
     pub values: Vec<ValueAtOnce>,
-    /// Whether each kept state was gone on from.
+    /// Whether each kept state was expanded.
     pub is_whole: bool,
 }
 

@@ -12,11 +12,11 @@ ghost use Rattle.cp_stretches.specs.declared.cache.Standing.{Standing};
 ghost use Rattle.cp_search.specs.Searched.{IsTaken};
 ghost use Rattle.cp_ends.specs.Answer.{slot_graph};
 ghost use Rattle.cp_ends.specs.Arrivals.{goal_at};
-ghost use Rattle.cp_ends.specs.ByRows.{Goes, end_of};
+ghost use Rattle.cp_ends.specs.ByRows.{end_of};
 ghost use Rattle.cp_ends.specs.Graph.{ArrivesAt, LeadsToPlace};
 ghost use Rattle.cp_ends.specs.Holds.{AreStates, SlotArrival};
 ghost use Rattle.cp_ends.specs.Rows.{IsRowFor};
-ghost use Rattle.cp_at_once.specs.ByRows.{HasRoom, IsWithinRow, KeepStore, with_store};
+ghost use Rattle.cp_at_once.specs.ByRows.{Goes, HasRoom, IsWithinRow, KeepStore, with_store};
 ghost use Rattle.cp_at_once.specs.Following.{Answers, GoesOn, GoesThrough, IsKept, NotesArrival, SlotGraph};
 ghost use Rattle.cp_at_once.specs.Holds.{Holds, IsWordOf};
 ghost use Rattle.cp_at_once.specs.Legs.{HasLeg};
@@ -47,7 +47,7 @@ pub struct SearchAtOnce {
     pub entering: EnteringParts,
 }
 
-/// Goes on from the opening state, and from each state that is kept, with each number that may be chosen there. Where a choice is due after that, a leg
+/// Expands the opening state, and each state that is kept, with each number that may be chosen there. Where a choice is due after that, a leg
 /// that may be made at once is, up to so many in a row, and the state after them is kept. Stops where more than so many states would be.
 pub fn search_at_once(alloc: Global, job: &Job<'_>, most: u32) -> Result<FoundAtOnce, AllocError>
     ensures { IfOk result (λ found. IsAnswer job.now.program.now job.now.limits.discipline job.now.limits.steps most found) }
@@ -313,7 +313,7 @@ impl SearchAtOnce {
         self.follow(job, arrival, OriginAtOnce::choice(at, process))
     }
 
-    // Goes on from the kept state of this number and row with each number that may be chosen there. `false` where there is no room to.
+    // Expands the kept state of this number and row with each number that may be chosen there. `false` where there is no room for that.
     fn take_choices(
         &mut self,
         job: &SearchJob<'_>,
@@ -334,7 +334,7 @@ impl SearchAtOnce {
         Ok(true)
     }
 
-    // Goes on from each state that is kept, and from those that are kept then. `false` where there was no room to.
+    // Expands each state that is kept, and those that are kept then. `false` where there was no room for that.
     fn visit_all<O: ObserveProgress>(
         &mut self,
         job: &SearchJob<'_>,

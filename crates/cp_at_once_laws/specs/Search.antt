@@ -9,7 +9,7 @@ use Rattle.cp_endless_laws.specs.Rounds.{IsCut, spot_after}
 use Rattle.cp_endless_laws.specs.Settled.{IsIn}
 use Rattle.cp_at_once_laws.specs.Through.{IsOpeningKnown}
 
--- `AtOnce` says whose leg may be made at once in a state, `kept` which states are gone on from with each choice. Told are ends (`known`), who is alone for ever (`alone`), who spins (`spins`), and
+-- `AtOnce` says whose leg may be made at once in a state, `kept` which states are expanded with each choice. Told are ends (`known`), who is alone for ever (`alone`), who spins (`spins`), and
 -- of each step whatever there is to tell (`shown`), as the values that it shows.
 
 -- a stretch comes to a choice that is followed, or to an end that is told

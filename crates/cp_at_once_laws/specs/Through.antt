@@ -8,10 +8,10 @@ use Rattle.cp_run.specs.Run.{may, turn_at, turn_after}
 use Rattle.cp_endless_laws.specs.Rounds.{spot_after}
 use Rattle.cp_at_once_laws.specs.AtOnce.{QuietLeg}
 
--- `among c s`: the choice that is due in state s is gone on from, and c legs may still be made at once. `begun c b f`: the stretch that begins in
+-- `among c s`: the choice that is due in state s is expanded, and c legs may still be made at once. `begun c b f`: the stretch that begins in
 -- state b with a step of process f is gone through. `known kind`: an end of this kind is found.
 
--- what comes before the next step is an end that is found, a choice that is gone on from, or no choice
+-- what comes before the next step is an end that is found, a choice that is expanded, or no choice
 abbrev pub IsTurnKnown : {S : Type 0} → (S → Type 0) → (OutcomeKind → Type 0) → S → Turn → Type 0
 IsTurnKnown among known t (Over kind) = known kind
 IsTurnKnown among known t Due = among t

@@ -6,7 +6,7 @@ use Rattle.cp_run.specs.Run.{may, chosen, opened}
 use Rattle.cp_endless_laws.specs.Reachable.{EndsAfter}
 use Rattle.cp_endless_laws.specs.Settled.{IsIn}
 
--- `layer k` has what at most k choices lead to; each state that fewer than d choices lead to is gone on from
+-- `layer k` has what at most k choices lead to; each state that fewer than d choices lead to is expanded
 pub record IsClosedTo {S : Type 0} (sys : System S) (steps d : ℕ) (layer : ℕ → S → Type 0) (known : OutcomeKind → Type 0) : Type 0 where
   pub start : IsIn (layer 0) known (opened sys steps)
   pub on : (k : ℕ) (s : S) (p : ℕ) → k < d → layer k s → may sys s p ≡ true → IsIn (layer (suc k)) known (chosen sys steps s p)

@@ -30,7 +30,7 @@ pub fn law_settled()
     ensures meaning { (sys : System State) → SettledLaw sys }
 {}
 
-/// Where states are gone on from layer by layer, no word of at most so many choices leads to an end that is not listed.
+/// Where states are expanded layer by layer, no word of at most so many choices leads to an end that is not listed.
 pub fn law_ends_to()
     ensures machine { (sys : System Machine) → EndsToLaw sys }
     ensures meaning { (sys : System State) → EndsToLaw sys }
@@ -46,7 +46,7 @@ pub fn law_witness()
     ensures { (r : Tables) (discipline : Discipline) → WitnessLaw (slots r discipline) without_output }
 {}
 
-/// No word shows a value that is not listed; and no word of at most so many choices, where states are gone on from layer by layer.
+/// No word shows a value that is not listed; and no word of at most so many choices, where states are expanded layer by layer.
 pub fn law_values()
     ensures machine { (sys : System Machine) (forget : Machine → Machine) (states : List Machine) (ends : List OutcomeKind) → ValuesLaw sys forget (Contains states) (Contains ends) }
     ensures meaning { (sys : System State) (forget : State → State) (states : List State) (ends : List OutcomeKind) → ValuesLaw sys forget (Contains states) (Contains ends) }

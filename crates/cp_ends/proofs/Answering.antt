@@ -75,7 +75,7 @@ module _ {S : Type 0} (sys : System S) (forget : S → S) (eq : S → S → Bool
   values_alike : SayTheSame (ShowsLast g) (ShowsSo sys forget steps)
   values_alike = record { there = λ v w h. shows_there sys forget eq steps same self v w h; back = λ v w h. shows_back sys forget eq steps same self v w h }
 
-  -- each place was gone on from
+  -- each place was expanded
   pub answers_whole : (n most : ℕ) → length (searched g t n).states ≤ n → length (searched g t n).states ≤ most → IsWhole sys forget steps most (searched g t n)
   answers_whole n most done few =
       record {

@@ -1,4 +1,4 @@
--- What the code finds when words arrive, and when a state is gone on from.
+-- What the code finds when words arrive, and when a state is expanded.
 use Rattle.std.proofs.Common.{◌≡◌, ◌∙◌, ◌<◌, ◌≤◌, ℕ, zero, suc, Bool, true, false, if◌then◌else◌, List, [], ◌∷◌, ◌++◌, length, Option, None, Some, refl, sym, ap, subst, arith}
 use Rattle.std.specs.Prelude.{Result, Ok, Err, IfOk, slice_get}
 use Rattle.cp_ends.proofs.Vocabulary.{same_Some, slice_get_within, Tables, Machine, those_below, Goal, Place, End, Graph, has, with_first, arrived, gone_on}
@@ -102,7 +102,7 @@ module _ (g : Graph Machine code.End Shown) (x : Machine × List ℕ) where
       by (Place s) e many = record { number = c; below = below; may = may; state = s; goal = e; new = many.0; full = many.1; holds = h.0 }
       by (End e) at many = absurd many
 
--- ---- the numbers of the state that is gone on from
+-- ---- the numbers of the state that is expanded
 
 module _ (r : Tables) (g : Graph Machine code.End Shown) (most : ℕ) (old new : Found) (at : ℕ) (m : Machine) (p : ℕ) (within : IsWithin r g most old at m (those_below p (g.may m))) where
   abbrev f : SlotFindings
@@ -145,20 +145,20 @@ module _ (r : Tables) (g : Graph Machine code.End Shown) (most : ℕ) (old new :
       subst (λ (x : Machine × List ℕ). HasNumber (gone_with g x (those_below p (g.may m) ++ p ∷ []) f).states s number) (same_Some within.from from (sym within.is ∙ is))
       (subst (λ (q : SlotFindings). HasNumber q.states s number) (sym more_is) here)
 
--- the state that is gone on from stays where it is
+-- the state that is expanded stays where it is
 pub still_there : (r : Tables) (g : Graph Machine code.End Shown) (most : ℕ) (found : Found) (at : ℕ) (m : Machine) (done : List ℕ) (within : IsWithin r g most found at m done) → slice_get (gone_with g within.from done (searched g ends_tests at)).states at ≡ Some within.from
 still_there r g most found at m done within =
     let f : SlotFindings = searched g ends_tests at in
     let k : SlotFindings = gone_with g within.from done f in
     grown_at f.states k.states at within.from (list_grows g within.from done f) within.is
 
--- the machine that is gone on from is a state
+-- the machine that is expanded is a state
 pub state_within : (r : Tables) (g : Graph Machine code.End Shown) (most : ℕ) (found : Found) (at : ℕ) (m : Machine) (done : List ℕ) → IsWithin r g most found at m done → IsQuiet r found.states m
 state_within r g most found at m done within =
     let k : SlotFindings = gone_with g within.from done (searched g ends_tests at) in
     subst (IsQuiet r found.states) (sym within.here) (owned r found.states k.states within.holds.holds.states at within.from (still_there r g most found at m done within))
 
--- a state was gone on from with all its numbers
+-- a state was expanded with all its numbers
 pub all_gone : (r : Tables) (g : Graph Machine code.End Shown) (most : ℕ) (found : Found) (at : ℕ) (m : Machine) (within : IsWithin r g most found at m (those_below g.below (g.may m))) → gone_with g within.from (those_below g.below (g.may m)) (searched g ends_tests at) ≡ searched g ends_tests (suc at)
 all_gone r g most found at m within =
     let f : SlotFindings = searched g ends_tests at in

@@ -1,3 +1,4 @@
+pub mod Again
 pub mod Answering
 pub mod Arriving
 pub mod Dealing
@@ -9,7 +10,9 @@ pub mod Keeping
 pub mod Learned
 pub mod Legs
 pub mod Listing
+pub mod LocalInside
 pub mod Looked
+pub mod Looks
 pub mod Made
 pub mod Moving
 pub mod Numbering
@@ -20,6 +23,7 @@ pub mod Ruled
 pub mod RuledStates
 pub mod Saying
 pub mod Searching
+pub mod Seen
 pub mod Staying
 pub mod Stepping
 pub mod Stretches

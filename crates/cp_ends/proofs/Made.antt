@@ -5,10 +5,10 @@ use Rattle.std.proofs.lemmas.List.Elements.{All-weaker}
 use Rattle.cp_machine.specs.declared.shown.Shown.{Shown}
 use Rattle.cp_machine.specs.Machine.{is_pending}
 use Rattle.cp_machine.specs.Step.{is_local}
-use Rattle.cp_run.specs.declared.outcome.Halt.TheVariants.{Choice}
-use Rattle.cp_run.specs.declared.outcome.Turn.TheVariants.{Due, Goes}
+use Rattle.cp_run.specs.declared.outcome.Turn.TheVariants.{Due}
 use Rattle.cp_run.specs.Run.{may, turn_after}
 use Rattle.cp_run.specs.Slots.{slots}
+use Rattle.cp_run.proofs.Choosing.{may_be_ready}
 use Rattle.cp_states.specs.Numbers.{number_at}
 use Rattle.cp_states.specs.Pieces.{IsPiece}
 use Rattle.cp_effects.specs.declared.changes.Write.{Write}
@@ -19,16 +19,15 @@ use Rattle.cp_effects.specs.Remembered.{IsRemembered}
 use Rattle.cp_effects.proofs.Looking.{look_law}
 use Rattle.cp_stretches.specs.Cached.{IsCache, StandsFor}
 use Rattle.cp_stretches.specs.Numbers.{CanRead}
-use Rattle.cp_stretches.specs.Stretching.{Begins, LeadsTo}
+use Rattle.cp_stretches.specs.Stretching.{MayGo}
 use Rattle.cp_stretches.specs.Telling.{IsTold}
-use Rattle.cp_stretches.proofs.Admitting.{begins_free}
-use Rattle.cp_stretches.proofs.Going.{after, gone_on, leads, not_local, stands_after}
+use Rattle.cp_stretches.proofs.Going.{after, makes_leg, not_local, stands_after}
 use Rattle.cp_stretches.proofs.Growing.{can_read}
 use Rattle.cp_stretches.proofs.Knowing.{positions_inside}
 use Rattle.cp_stretches.proofs.Statuses.{is_free}
 use Rattle.cp_ends.specs.Halves.{half_in, half_position, is_in_first, statuses_in, width_of}
 use Rattle.cp_ends.specs.Holds.{AreStates}
-use Rattle.cp_ends.specs.Moves.{HasHalf, IsMove, StaysWithin, Suits}
+use Rattle.cp_ends.specs.Moves.{HasHalf, IsMove, IsOneLeg, StaysWithin, Suits}
 use Rattle.cp_ends.specs.Rows.{IsHalved, IsRowFor}
 use Rattle.cp_ends.specs.declared.moves.Move.{Move}
 use Rattle.cp_ends.proofs.Vocabulary.{Tables, Machine, Discipline, States}
@@ -96,8 +95,8 @@ module _ (r : Tables) (discipline : Discipline) (kept : States) (steps : ℕ) (n
     pub free : is_pending m ≡ false
     free = is_free r kept.cache.store kept.cache.table kept.cache.numbers m row (can_read r discipline kept.cache m row cache stands) suits.free
 
-    abbrev pub begins : Begins r discipline kept.cache.store kept.cache.table m e.process (Goes e.process) row
-    begins = begins_free r discipline kept.cache.store kept.cache.table m row e.process stands free may_be
+    pub may_go : MayGo r discipline kept.cache.store kept.cache.table m row e.process
+    may_go = record { machine = stands; ready = may_be_ready (slots r discipline) m e.process free may_be; free = free }
 
     pub leg : IsRemembered kept.cache.store kept.cache.table r discipline e.process its.places its.numbers e.leg.leg (option_to_list e.leg.shown) ws
     leg = subst (λ (d : Discipline). IsRemembered kept.cache.store kept.cache.table r d e.process its.places its.numbers e.leg.leg (option_to_list e.leg.shown) ws) ruled its.leg
@@ -116,17 +115,18 @@ module _ (r : Tables) (discipline : Discipline) (kept : States) (steps : ℕ) (n
         }
 
     abbrev pub there : Machine
-    there = after r discipline kept.cache.store kept.cache.table begins.after row e.process table e.leg cache.sound begins.stands told
+    there = after r discipline kept.cache.store kept.cache.table m row e.process table e.leg cache.sound may_go told
 
     pub can_read_there : CanRead r kept.cache.store kept.cache.table kept.cache.numbers there new
-    can_read_there = can_read r discipline kept.cache there new cache (stands_after r discipline kept.cache.store kept.cache.table begins.after row e.process table e.leg cache.sound begins.stands told)
+    can_read_there = can_read r discipline kept.cache there new cache (stands_after r discipline kept.cache.store kept.cache.table m row e.process table e.leg cache.sound may_go told)
 
     pub no_local : is_local e.leg.leg.event ≡ false
-    no_local = not_local r discipline kept.cache.store kept.cache.table begins.after row e.process table e.leg cache.sound begins.stands told
+    no_local = not_local r discipline kept.cache.store kept.cache.table m row e.process table e.leg cache.sound may_go told
 
-    pub move_leads : (before : List Shown) → Due ≡ turn_after (slots r discipline) there e.process e.leg.leg.event → LeadsTo r discipline kept.cache.store kept.cache.table steps m e.process before Choice new (before ++ option_to_list e.leg.shown)
-    move_leads before due =
-        let rest = steps - e.leg.leg.steps in
-        let some : e.leg.leg.steps + rest ≡ steps = omega (arith, suits.short) in
-        leads r discipline kept.cache.store kept.cache.store kept.cache.table kept.cache.table m e.process steps (Goes e.process) rest row new before (before ++ option_to_list e.leg.shown) Choice begins
-        (gone_on r discipline kept.cache.store kept.cache.table begins.after row e.process table e.leg cache.sound begins.stands told steps rest before Due some due)
+    pub move_makes : (before : List Shown) → Due ≡ turn_after (slots r discipline) there e.process e.leg.leg.event → IsOneLeg r discipline kept.cache.store kept.cache.table steps m e.process before new (before ++ option_to_list e.leg.shown)
+    move_makes before due =
+        record {
+          free = free;
+          rest = steps - e.leg.leg.steps;
+          made = makes_leg r discipline kept.cache.store kept.cache.table m row e.process table e.leg cache.sound may_go told steps (steps - e.leg.leg.steps) before Due (omega (arith, suits.short)) due;
+        }

@@ -1,26 +1,28 @@
 -- Where choices lead by rows.
-use Rattle.std.proofs.Common.{◌≡◌, ◌∙◌, ◌++◌, ℕ, zero, suc, List, [], Bool, true, false, Some, if◌then◌else◌, drop, length, take, refl, sym, ap, subst, arith}
+use Rattle.std.proofs.Common.{◌≡◌, ◌∙◌, ◌++◌, ◌∷◌, ℕ, zero, suc, List, [], Bool, true, false, None, Some, if◌then◌else◌, drop, length, take, refl, sym, ap, subst, arith}
 use Rattle.std.proofs.Math.Seq.{take-append_seam}
 use Rattle.std.proofs.lemmas.List.{length-append, length-drop, length-take-le}
 use Rattle.std.specs.Prelude.{IfSome, Option}
 use Rattle.cp_ends.proofs.Vocabulary.{Tables, Machine, Shown, System, Discipline, Turn, States, goal_at, settled_turn, turn_after}
-use Rattle.cp_run.specs.Fold.{Fold, fold_chosen, fold_stretch, fold_turn, walked_chosen}
+use Rattle.cp_run.specs.Fold.{Fold, fold_chosen, fold_stretch, fold_turn, walked, walked_chosen}
 use Rattle.cp_run.specs.Silent.{silent_slots, without_output}
 use Rattle.cp_run.specs.Slots.{slots}
 use Rattle.cp_run.specs.declared.outcome.Halt.{Halt}
 use Rattle.cp_run.specs.declared.outcome.Halt.TheVariants.{Choice, Ended}
 use Rattle.cp_run.specs.declared.outcome.OutcomeKind.{OutcomeKind}
 use Rattle.cp_run.specs.declared.outcome.Turn.TheVariants.{Over, Due, Goes as Onward}
-use Rattle.cp_parts.specs.Parts.{IsPartRow}
 use Rattle.cp_stretches.specs.Cached.{StandsFor}
 use Rattle.cp_stretches.specs.Stretching.{LeadsTo, shower, turn_of}
 use Rattle.cp_ends.specs.Arrivals.{halt_arrival, next_arrival, teller}
-use Rattle.cp_ends.specs.ByRows.{Goes, end_of}
+use Rattle.cp_endless_laws.specs.Moments.{Moment, moments}
+use Rattle.cp_ends.specs.ByRows.{Goes, Seeing, end_of}
 use Rattle.cp_ends.specs.Holds.{same_key}
 use Rattle.cp_ends.specs.Rows.{IsRowFor}
 use Rattle.cp_ends.specs.declared.end.End.{End}
-use Rattle.cp_ends.specs.Graph.{Goal, Place}
+use Rattle.cp_ends.specs.Legs.{ComesTo, Leg, choice_leg, turn_leg, with_round}
+use Rattle.cp_ends.specs.declared.told.Told.{Told}
 use Rattle.cp_ends.proofs.Halting.{choice_comes, comes_to, shows}
+use Rattle.cp_ends.proofs.Legs.{SetsOutBy, choice_sets_out, comes_to_choice, comes_to_end}
 
 -- a machine by its row is one that stands for a row
 pub stands_for : (r : Tables) (kept : States) (row : List ℕ) (m : Machine) → IsRowFor r kept row m → StandsFor r kept.discipline kept.cache.store kept.cache.table m row
@@ -38,13 +40,6 @@ row_for r kept row m is =
       it = record { own = record { fits = is.kept.fits; lines = is.kept.lines; reach = is.kept.reach; shown = omega (arith, ap length is.quiet) }; quiet = is.quiet; ruled = is.ruled };
       is = is.stands;
     }
-
-abbrev place_or : Machine → Goal Machine End → Machine
-place_or d (Place k) = k
-place_or d _ = d
-
-one_place : (m n : Machine) → (◌≡◌ {A = Goal Machine End}) (Place m) (Place n) → m ≡ n
-one_place m n e = ap (place_or m) e
 
 -- what an option has that is one
 pub some_of : {A : Type 0} (o : Option A) (a : A) (P : A → Type 0) → o ≡ Some a → IfSome o P → P a
@@ -88,28 +83,37 @@ module _ (r : Tables) (discipline : Discipline) where
       by true = told_turn n t (settled_turn quiet t true p) x (told_stretch n t)
       by false = told_stretch n m p x
 
-  -- where a stretch halts by its row, the choice leads
-  pub goes_so : (steps : ℕ) (m : Machine) (p : ℕ) (halt : Halt OutcomeKind) (kept : States) (row : List ℕ) (shown : List Shown) → kept.discipline ≡ discipline →
-      LeadsTo r discipline kept.cache.store kept.cache.table steps m p [] halt row shown → Goes r discipline steps m p (end_of halt) (IsRowFor r kept row) shown
-  goes_so steps m p halt kept row shown ruled leads =
+  -- where a stretch halts by its row, the choice leads, and what is seen of it is so
+  pub goes_so : {W : Type 0} (sees : Seeing W) (steps : ℕ) (m : Machine) (p : ℕ) (halt : Halt OutcomeKind) (kept : States) (row : List ℕ) (told : Told W) → kept.discipline ≡ discipline →
+      LeadsTo r discipline kept.cache.store kept.cache.table steps m p [] halt row told.values.items → told.again ≡ None → sees told.seen r discipline (m ∷ []) (moments quiet steps m p) → Goes sees r discipline steps m p (end_of halt) (IsRowFor r kept row) told
+  goes_so {W} sees steps m p halt kept row told ruled leads again seen =
       record {
         after = leads.after;
         is = λ due. row_for r kept row leads.after (subst (λ (d : Discipline). StandsFor r d kept.cache.store kept.cache.table leads.after row) (sym ruled) leads.stands);
-        goal = comes_to (slots r discipline) quiet same_key steps (next_arrival (slots r discipline) without_output same_key steps m p) (fold_chosen quiet tell steps m p) (walked_chosen quiet steps m p) leads.after (turn_of halt) leads.walked (choice_comes (slots r discipline) without_output same_key steps m p) ([], false) shown shown (goal_at (end_of halt) leads.after) told (cut halt);
-        told = shows (slots r discipline) quiet same_key steps (next_arrival (slots r discipline) without_output same_key steps m p) (fold_chosen quiet tell steps m p) (walked_chosen quiet steps m p) leads.after (turn_of halt) leads.walked (choice_comes (slots r discipline) without_output same_key steps m p) ([], false) shown shown (goal_at (end_of halt) leads.after) told (cut halt);
+        goal = comes_to (slots r discipline) quiet same_key steps (next_arrival (slots r discipline) without_output same_key steps m p) (fold_chosen quiet tell steps m p) (walked_chosen quiet steps m p) leads.after (turn_of halt) leads.walked (choice_comes (slots r discipline) without_output same_key steps m p) ([], false) shown shown (goal_at (end_of halt) leads.after) all (cut halt);
+        shown = shows (slots r discipline) quiet same_key steps (next_arrival (slots r discipline) without_output same_key steps m p) (fold_chosen quiet tell steps m p) (walked_chosen quiet steps m p) leads.after (turn_of halt) leads.walked (choice_comes (slots r discipline) without_output same_key steps m p) ([], false) shown shown (goal_at (end_of halt) leads.after) all (cut halt);
+        seen = subst (λ (a : Option W). ComesTo quiet now steps (choice_leg quiet steps m p) (m ∷ []) told.seen (with_round a (end_of halt)) leads.after) (sym again)
+            (subst (λ (leg : Leg Machine). ComesTo quiet now steps leg (m ∷ []) told.seen (with_round None (end_of halt)) leads.after) (sym out.2)
+            (comes halt (sym out.3 ∙ leads.walked) (subst (λ (leg : Leg Machine). now told.seen (m ∷ []) (leg.moments steps)) out.2 seen)));
       }
     where
-      told : shown ≡ (fold_chosen quiet tell steps m p ([], false)).0
-      told = sym leads.told ∙ sym (told_chosen steps m p ([], false))
+      shown : List Shown
+      shown = told.values.items
+
+      now : W → List Machine → List (Moment Machine) → Type 0
+      now w = sees w r discipline
+
+      out : SetsOutBy quiet (choice_leg quiet steps m p) (walked_chosen quiet steps m p) steps
+      out = choice_sets_out quiet steps m p
+
+      comes : (h : Halt OutcomeKind) → walked quiet steps out.0 out.1 ≡ (leads.after, turn_of h) → now told.seen (m ∷ []) ((turn_leg quiet steps out.0 out.1).moments steps) →
+          ComesTo quiet now steps (turn_leg quiet steps out.0 out.1) (m ∷ []) told.seen (with_round None (end_of h)) leads.after
+      comes Choice there seen = comes_to_choice quiet now steps (m ∷ []) told.seen out.0 leads.after out.1 there seen
+      comes (Ended kind) there seen = comes_to_end quiet now steps (m ∷ []) told.seen out.0 leads.after out.1 kind there seen
+
+      all : shown ≡ (fold_chosen quiet tell steps m p ([], false)).0
+      all = sym leads.told ∙ sym (told_chosen steps m p ([], false))
 
       cut : (h : Halt OutcomeKind) → halt_arrival (slots r discipline) quiet same_key steps shown leads.after (turn_of h) ≡ record { goal = goal_at (end_of h) leads.after; shown = shown }
       cut Choice = refl
       cut (Ended kind) = refl
-
-  -- a state to which the choice leads has the row
-  pub row_there : (steps : ℕ) (m n : Machine) (p : ℕ) (halt : Halt End) (kept : States) (row : List ℕ) (shown : List Shown) → Goes r discipline steps m p halt (IsRowFor r kept row) shown → Place n ≡ (next_arrival (slots r discipline) without_output same_key steps m p).goal → IsPartRow kept.cache.store kept.cache.table n row
-  row_there steps m n p halt kept row shown goes to = by halt refl goes.is (goes.goal ∙ sym to)
-    where
-      by : (h : Halt End) → halt ≡ h → (halt ≡ Choice → IsRowFor r kept row goes.after) → goal_at halt goes.after ≡ Place n → IsPartRow kept.cache.store kept.cache.table n row
-      by Choice e is same = let there : (◌≡◌ {A = Goal Machine End}) (Place goes.after) (Place n) = sym (ap (λ h. goal_at h goes.after) e) ∙ same in subst (λ (k : Machine). IsPartRow kept.cache.store kept.cache.table k row) (one_place goes.after n there) (is e).is
-      by (Ended end) e is same = let no = sym (ap (λ h. goal_at h goes.after) e) ∙ same in absurd (cc)

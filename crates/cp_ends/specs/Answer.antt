@@ -73,7 +73,7 @@ Comes r most found f word goal (Ended e) = HoldsFew r most found (with_goal ends
 abbrev pub Arrives : Tables → ℕ → Found → SlotFindings → List ℕ → SlotArrival → Arrived → Type 0
 Arrives r most found f word a arrived = Comes r most found (with_shown f word a) word a.goal arrived
 
--- A state with its word is gone on from with each edge below a number, which leads to a state too many.
+-- A state with its word is expanded with each edge below a number, which leads to a state too many.
 pub record Stops (r : Tables) (g : Graph Machine End Shown) (most : ℕ) (found : Found) (f : SlotFindings) (x : Machine × List ℕ) : Type 0 where
   pub number : ℕ
   pub below : number < g.below
@@ -84,14 +84,14 @@ pub record Stops (r : Tables) (g : Graph Machine End Shown) (most : ℕ) (found 
   pub full : length (gone_on g ends_tests x number f).states ≡ most
   pub holds : Holds r found (with_shown (gone_on g ends_tests x number f) (x.1 ++ number ∷ []) (g.on x.0 number))
 
--- Each state was gone on from.
+-- Each state was expanded.
 pub record IsDone (r : Tables) (g : Graph Machine End Shown) (most : ℕ) (found : Found) : Type 0 where
   pub count : ℕ
   pub holds : Holds r found (searched g ends_tests count)
   pub states : length (searched g ends_tests count).states ≡ count
   pub few : count ≤ most
 
--- The states before the one of this number were gone on from, and from this one there is a state too many.
+-- The states before the one of this number were expanded, and from this one there is a state too many.
 pub record IsStopped (r : Tables) (g : Graph Machine End Shown) (most : ℕ) (found : Found) (at : ℕ) : Type 0 where
   pub from : Machine × List ℕ
   pub is : slice_get (searched g ends_tests at).states at ≡ Some from

@@ -1,7 +1,7 @@
 -- From one due choice to the next.
 use Rattle.std.specs.Prelude.{◌≡◌, ◌+◌, ◌++◌, ◌∷◌, ℕ, suc, List, [], ◌<◌, false, Option, None, Some}
 use Rattle.cp_slots.specs.Tables.{Tables}
-use Rattle.cp_machine.specs.System.{Machine}
+use Rattle.cp_machine.specs.System.{Machine, is_ready}
 use Rattle.cp_machine.specs.declared.discipline.Discipline.{Discipline}
 use Rattle.cp_run.specs.System.{System}
 use Rattle.cp_run.specs.Fold.{Fold}
@@ -12,7 +12,7 @@ use Rattle.cp_run.specs.declared.outcome.Turn.{Turn}
 use Rattle.cp_endless_laws.specs.Moments.{Moment, moments_by, stretch_moments, moments}
 use Rattle.cp_endless_laws.specs.Repeats.{Repeats, repeated_part}
 use Rattle.cp_endless_laws.specs.Rounds.{spot_after, spot_by, opening_spot, chosen_spot}
-use Rattle.cp_endless_laws.specs.Silent.{silent_slots}
+use Rattle.cp_endless_laws.specs.Silent.{in_call_on_slots, silent_slots, waits_on_slots}
 use Rattle.cp_ends.specs.declared.end.End.{End}
 
 -- where it leads, where its stretch begins, if there is one, and its moments, of at most so many steps
@@ -24,6 +24,10 @@ pub record Leg (S : Type 0) : Type 0 where
 -- from a state, where this comes next
 abbrev pub turn_leg : {S : Type 0} → System S → ℕ → S → Turn → Leg S
 turn_leg sys steps s turn = record { node = node_at s (stretch sys steps s) turn; spot = spot_by s (λ q. Some (s, q)) turn; moments = λ n. moments_by (stretch_moments sys n s) turn }
+
+-- the moment before the next step, if one is made
+abbrev pub moment_at : {S : Type 0} → S → Turn → List (Moment S)
+moment_at s turn = moments_by (λ q. record { state = s; mover = q } ∷ []) turn
 
 -- from the start
 abbrev pub first_leg : {S : Type 0} → System S → ℕ → Leg S
@@ -41,6 +45,12 @@ IsHalted (Choosing s) = ⊥
 pub record Ends {S : Type 0} (sys : System S) (steps : ℕ) (leg : Leg S) : Type 0 where
   pub halted : IsHalted leg.node
   pub never : (s : S) (p : ℕ) → leg.spot ≡ Some (s, p) → Repeats sys steps s p → ⊥
+
+-- what is seen of processes is the same in both
+pub record IsAlike (m n : Machine) : Type 0 where
+  pub waits : (q : ℕ) → waits_on_slots n q ≡ waits_on_slots m q
+  pub ready : (q : ℕ) → is_ready n q ≡ is_ready m q
+  pub inside : (q : ℕ) → in_call_on_slots n q ≡ in_call_on_slots m q
 
 -- ---- what is seen of them; `sees w due ms` says that w is what is seen of these due choices and of the moments after them
 

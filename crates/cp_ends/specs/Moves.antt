@@ -1,7 +1,10 @@
 -- Moves: what processes do within a half of a row.
-use Rattle.std.specs.Prelude.{◌≡◌, ◌<◌, ◌≤◌, ℕ, All, Bool, List, Some, length, not, option_to_list, slice_get, true}
+use Rattle.std.specs.Prelude.{◌≡◌, ◌<◌, ◌≤◌, ℕ, All, Bool, List, Some, false, length, not, option_to_list, slice_get, true}
 use Rattle.cp_slots.specs.Tables.{Tables}
 use Rattle.cp_machine.specs.declared.discipline.Discipline.{Discipline}
+use Rattle.cp_machine.specs.declared.shown.Shown.{Shown}
+use Rattle.cp_machine.specs.System.{Machine, is_pending}
+use Rattle.cp_run.specs.declared.outcome.Turn.TheVariants.{Due}
 use Rattle.cp_states.specs.Numbers.{number_at}
 use Rattle.cp_states.specs.Pieces.{IsPiece, piece_at}
 use Rattle.cp_effects.specs.declared.changes.Write.{Write}
@@ -9,6 +12,9 @@ use Rattle.cp_effects.specs.declared.table.KnownLeg.{KnownLeg}
 use Rattle.cp_effects.specs.Changes.{numbers_at, written}
 use Rattle.cp_effects.specs.Known.{writes_of}
 use Rattle.cp_effects.specs.Remembered.{IsRemembered}
+use Rattle.cp_parts.specs.declared.placing.PlaceTable.{PlaceTable}
+use Rattle.cp_parts.specs.declared.store.PartStore.{PartStore}
+use Rattle.cp_stretches.specs.Stretching.{MakesLeg}
 use Rattle.cp_stretches.specs.declared.cache.LegCache.{LegCache}
 use Rattle.cp_ends.specs.Halves.{half_in, half_position, is_in_first, statuses_in, width_of}
 use Rattle.cp_ends.specs.declared.moves.Move.{Move}
@@ -60,3 +66,9 @@ pub record IsLegAt (r : Tables) (discipline : Discipline) (c : LegCache) (row : 
   pub rising : e.from ≤ e.to
   pub within : e.to ≤ length c.legs.effects.writes.items
   pub is : IsRemembered c.store c.table r discipline process (places_at c scope) (numbers_at c.table (places_at c scope) row) e.leg (option_to_list e.shown) (writes_of c.legs.effects.writes.items e)
+
+-- a choice of a machine in which nothing is pending is one leg of at most so many steps, after which a choice is due, in a machine with this row
+pub record IsOneLeg (r : Tables) (discipline : Discipline) (s : PartStore) (t : PlaceTable) (steps : ℕ) (m : Machine) (pid : ℕ) (before : List Shown) (row : List ℕ) (shown : List Shown) : Type 0 where
+  pub free : is_pending m ≡ false
+  pub rest : ℕ
+  pub made : MakesLeg r discipline s t m pid steps before Due rest row shown

@@ -95,7 +95,7 @@ pub record AreValuesOnNames (t : Tree) (g : Discipline) (steps : ℕ) (looked : 
   pub once : AllPairs (λ x y. x.0 ≢ y.0) values
   pub sorted : AllPairs (λ x y. is_up_to x.1 y.1 ≡ true) values
 
--- ---- where every state was gone on from
+-- ---- where every state was expanded
 
 -- no end is at the limit of steps, but such as are seen to go on for ever
 abbrev pub HasNoCut : List (End × List ℕ) → Type 0

@@ -1,4 +1,4 @@
--- A search through a graph: each place is gone on from once, in the order in which places are found.
+-- A search through a graph: each place is expanded once, in the order in which places are found.
 use Rattle.std.specs.Prelude.{◌≡◌, nat_lt, ℕ, zero, suc, List, [], ◌∷◌, ◌++◌, Bool, true, false, if◌then◌else◌, Option, None, Some, length, slice_get}
 use Rattle.cp_ends.specs.Graph.{Goal, Place, End, Arrival, Graph}
 
@@ -39,7 +39,7 @@ with_goal t f word (End e) = record f { ends = with_first t.end f.ends e word }
 abbrev pub arrived : {S E V : Type 0} → Tests S E V → Findings S E V → List ℕ → Arrival S E V → Findings S E V
 arrived t f word a = with_goal t (record f { values = with_values t.value t.most f.values a.shown word }) word a.goal
 
--- a place with its word is gone on from with each edge of a number below n
+-- a place with its word is expanded with each edge of a number below n
 abbrev pub gone_on : {S E V : Type 0} → Graph S E V → Tests S E V → S × List ℕ → ℕ → Findings S E V → Findings S E V
 gone_on g t x zero f = f
 gone_on g t x (suc n) f = if g.may x.0 n then arrived t (gone_on g t x n f) (x.1 ++ n ∷ []) (g.on x.0 n) else gone_on g t x n f
@@ -48,7 +48,7 @@ abbrev pub gone_on_from : {S E V : Type 0} → Graph S E V → Tests S E V → O
 gone_on_from g t None f = f
 gone_on_from g t (Some x) f = gone_on g t x g.below f
 
--- what is found when the first n places were gone on from
+-- what is found when the first n places were expanded
 unfoldable pub searched : {S E V : Type 0} → Graph S E V → Tests S E V → ℕ → Findings S E V
 searched g t zero = arrived t nothing [] g.start
 searched g t (suc n) = gone_on_from g t (slice_get (searched g t n).states n) (searched g t n)

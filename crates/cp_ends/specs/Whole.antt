@@ -53,7 +53,7 @@ pub record IsCutShort {S : Type 0} (sys : System S) (forget : S → S) (steps mo
   pub ends : AreFirsts (Within d (EndsSo (forgetting_system sys forget) steps)) (those_within d f.ends)
   pub values : AreFirstOnes (suc MOST_VALUES) (Within d (ShowsSo sys forget steps)) (those_within d f.values)
 
--- a search that stopped has gone on from each state before the one of this number
+-- a search that stopped has expanded each state before the one of this number
 abbrev pub IsAnswerBy : Tables → Discipline → (steps most : ℕ) → Findings Machine End Shown → Option ℕ → Type 0
 IsAnswerBy r discipline steps most f None = IsWhole (slots r discipline) without_output steps most f
 IsAnswerBy r discipline steps most f (Some at) = (x : Machine × List ℕ) × (slice_get f.states at ≡ Some x) × IsCutShort (slots r discipline) without_output steps most (length x.1) f

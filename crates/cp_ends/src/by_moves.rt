@@ -8,16 +8,14 @@ ghost use Rattle.cp_machine.specs.Step.{is_local};
 ghost use Rattle.cp_run.specs.Run as run;
 ghost use Rattle.cp_run.specs.Run.{may};
 ghost use Rattle.cp_run.specs.Slots.{slots};
-ghost use Rattle.cp_run.specs.declared.outcome.Halt.TheVariants.{Choice};
 ghost use Rattle.cp_states.specs.Pieces.{IsPiece, KeepPieces};
 ghost use Rattle.cp_parts.specs.declared.store.PartStore.{PartStore};
 ghost use Rattle.cp_effects.specs.Changes.{written};
 ghost use Rattle.cp_effects.specs.Known.{writes_of};
 ghost use Rattle.cp_stretches.specs.Numbers.{CanRead};
-ghost use Rattle.cp_stretches.specs.Stretching.{LeadsTo};
 ghost use Rattle.cp_ends.specs.Halves.{statuses_in};
 ghost use Rattle.cp_ends.specs.Holds.{AreStates};
-ghost use Rattle.cp_ends.specs.Moves.{Suits};
+ghost use Rattle.cp_ends.specs.Moves.{IsOneLeg, Suits};
 ghost use Rattle.cp_ends.specs.Rows.{IsHalved, IsRowFor};
 
 use crate::halving::is_in_first;
@@ -130,7 +128,7 @@ impl States {
         ensures ruled { self.new.discipline ≡ self.old.discipline }
         ensures lists { (numbers list : List ℕ) → IsHalved self.old numbers list → IsHalved self.new numbers list }
         ensures halved { IfOk result (λ made. IfSome made (λ next. IsHalved self.new next.numbers row.new)) }
-        ensures leads { IfOk result (λ made. IfSome made (λ next. (m : Machine) → IsRowFor job.now.program.now self.old row.old m → may (slots job.now.program.now job.now.limits.discipline) m known.now.process ≡ true → LeadsTo job.now.program.now job.now.limits.discipline self.new.cache.store self.new.cache.table job.now.limits.steps m known.now.process shown.old.items Choice row.new shown.new.items)) }
+        ensures makes { IfOk result (λ made. IfSome made (λ _. (m : Machine) → IsRowFor job.now.program.now self.old row.old m → may (slots job.now.program.now job.now.limits.discipline) m known.now.process ≡ true → IsOneLeg job.now.program.now job.now.limits.discipline self.new.cache.store self.new.cache.table job.now.limits.steps m known.now.process shown.old.items row.new shown.new.items)) }
     {
         let _ = job;
         let Turn::Due = self.pass(row, known) else {

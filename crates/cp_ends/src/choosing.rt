@@ -1,7 +1,6 @@
 //! From one due choice to the next, with nothing displayed.
 
 ghost use Rattle.std.specs.Prelude.{◌≡◌, ◌++◌, ◌∷◌, [], List, IfOk, true, false};
-ghost use Rattle.cp_machine.specs.Bodies.{KeepBodies, has_moved};
 ghost use Rattle.cp_machine.specs.System.{Machine, machine_of, opening, output_of, is_ready, is_pending, IsStateOf};
 ghost use Rattle.cp_run.specs.Code.{IfGoes};
 ghost use Rattle.cp_run.specs.Fold.{walked};
@@ -17,7 +16,7 @@ use crate::end::End;
 use crate::round::end_of_cut;
 use crate::sight::Sight;
 use crate::told::Told;
-use cp_machine::{Moved, State, Uncounted};
+use cp_machine::{State, Uncounted};
 use cp_run::{Halt, Job, Turn, observe_choice, observe_opening};
 use std::alloc::{AllocError, Global};
 
@@ -37,7 +36,7 @@ fn arrive<P: Sight>(
     ensures quiet { IfOk result (λ _. output_of (machine_of state.new) ≡ []) }
     ensures comes { IfOk result (λ h. halt_arrival (slots job.now.program.now job.now.limits.discipline) (silent_slots job.now.program.now job.now.limits.discipline) same_key job.now.limits.steps told.old.values.items (machine_of state.old) turn ≡ record { goal = goal_at h (machine_of state.new); shown = told.new.values.items }) }
     ensures leg { IfOk result (λ h. (s : Machine) (first : Turn) (due : List Machine) → walked (silent_slots job.now.program.now job.now.limits.discipline) job.now.limits.steps s first ≡ (machine_of state.old, turn) → P.sees told.old.seen job.now.program.now job.now.limits.discipline due ((turn_leg (silent_slots job.now.program.now job.now.limits.discipline) job.now.limits.steps s first).moments job.now.limits.steps) → ComesTo (silent_slots job.now.program.now job.now.limits.discipline) (λ w. P.sees w job.now.program.now job.now.limits.discipline) job.now.limits.steps (turn_leg (silent_slots job.now.program.now job.now.limits.discipline) job.now.limits.steps s first) due told.new.seen (with_round told.new.again h) (machine_of state.new)) }
-    ensures still { IfOk result (λ h. h ≡ halt.Choice → (told.new.moved ≡ told.old.moved) × (machine_of state.new ≡ machine_of state.old)) }
+    ensures still { IfOk result (λ h. h ≡ halt.Choice → machine_of state.new ≡ machine_of state.old) }
 {
     told.again = None;
     match turn {
@@ -67,12 +66,9 @@ pub fn choose<P: Sight>(
     ensures goal { IfOk result (λ h. goal_at h (machine_of state.new) ≡ (next_arrival (slots job.now.program.now job.now.limits.discipline) without_output same_key job.now.limits.steps (machine_of state.old) process).goal) }
     ensures shown { IfOk result (λ _. told.new.values.items ≡ told.old.values.items ++ (next_arrival (slots job.now.program.now job.now.limits.discipline) without_output same_key job.now.limits.steps (machine_of state.old) process).shown) }
     ensures leg { IfOk result (λ h. ComesTo (silent_slots job.now.program.now job.now.limits.discipline) (λ w. P.sees w job.now.program.now job.now.limits.discipline) job.now.limits.steps (choice_leg (silent_slots job.now.program.now job.now.limits.discipline) job.now.limits.steps (machine_of state.old) process) (machine_of state.old ∷ []) told.new.seen (with_round told.new.again h) (machine_of state.new)) }
-    ensures kept { IfOk result (λ h. h ≡ halt.Choice → KeepBodies (has_moved told.new.moved) (machine_of state.old) (machine_of state.new)) }
     ensures ruled { IfOk result (λ h. h ≡ halt.Choice → (machine_of state.new).discipline ≡ (machine_of state.old).discipline) }
 {
-    told.moved = Moved::nobody();
-    told.seen = P::begin(job.program);
-    told.seen.see_due(state);
+    told.seen = P::look(state).due();
     let turn = observe_choice(job, state, process, &mut Uncounted, told)?;
     arrive(alloc, job, state, turn, told)
 }

@@ -26,7 +26,7 @@ use crate::end::End;
 use crate::origin::Origin;
 use crate::row::HalvedRow;
 use crate::states::States;
-use cp_machine::{Shown, State};
+use cp_machine::Shown;
 use cp_run::{Halt, Job};
 use cp_search::SearchJob;
 use std::alloc::{AllocError, Global};
@@ -100,13 +100,24 @@ pub struct FoundValue {
 }
 
 /// States, ends and values, each once and in the order in which they were found.
-#[derive(Drop)]
 pub struct Found {
     pub states: States,
     pub ends: Vec<FoundEnd>,
     pub values: Vec<FoundValue>,
-    /// The state that was gone on from when there was one state too many, if there was.
+    /// The state that was expanded when there was one state too many, if there was.
     pub stopped: Option<u32>,
+}
+
+// One call where it is dropped, not one for each list: proofs of functions that may end early are much shorter.
+impl Drop for Found {
+    fn drop(self) {
+        let Found {
+            states: _,
+            ends: _,
+            values: _,
+            stopped: _,
+        } = self;
+    }
 }
 
 impl Found {
@@ -125,73 +136,6 @@ impl Found {
             values,
             stopped: None,
         })
-    }
-
-    /// A word leads to where the opening stretch came to, in this state. It displayed these values.
-    pub fn arrive_first(
-        &mut self,
-        job: &SearchJob<'_>,
-        state: &State,
-        halt: Halt<End>,
-        values: &[Shown],
-    ) -> Result<Arrived, AllocError>
-        requires own { IsStateOf job.now.run.program.now state.now }
-        requires quiet { output_of (machine_of state.now) ≡ [] }
-        requires placed { IsPlaced job.now.run.program.now self.old.states.cache.table }
-        requires ruled { halt ≡ Choice → (machine_of state.now).discipline ≡ self.old.states.discipline }
-        ensures arrives { IfOk result (λ arrived. (f : SlotFindings) (word : List ℕ) (a : SlotArrival) → HoldsFew job.now.run.program.now job.now.most self.old f → IsWordOf f.states Start word → goal_at halt (machine_of state.now) ≡ a.goal → values.now ≡ a.shown → Arrives job.now.run.program.now job.now.most self.new f word a arrived) }
-        ensures halt { IfOk result (λ arrived. halt_of arrived ≡ halt) }
-    {
-        let row = self.row_of(job, state, halt)?;
-        self.arrive(job, row.as_slice(), halt, values, Origin::Start)
-    }
-
-    // The row of a state where a choice is due.
-    fn row_of(
-        &mut self,
-        job: &SearchJob<'_>,
-        state: &State,
-        halt: Halt<End>,
-    ) -> Result<Vec<u32>, AllocError>
-        requires own { IsStateOf job.now.run.program.now state.now }
-        requires placed { IsPlaced job.now.run.program.now self.old.states.cache.table }
-        ensures row { IfOk result (λ row. halt ≡ Choice → IsPartRow self.new.states.cache.store self.new.states.cache.table (machine_of state.now) row.items) }
-        ensures kept { (r : Tables) (f : SlotFindings) → Holds r self.old f → Holds r self.new f }
-        ensures ruled { self.new.states.discipline ≡ self.old.states.discipline }
-    {
-        match halt {
-            Halt::Ended(_) => Ok(Vec::new(job.alloc)),
-            Halt::Choice => self.states.row_of(job.alloc, state),
-        }
-    }
-
-    /// The row of the state to which a choice in the state of a number leads. Mostly it is found by the legs that are known.
-    pub fn row_after(
-        &mut self,
-        job: &SearchJob<'_>,
-        at: u32,
-        process: u8,
-        state: &State,
-    ) -> Result<Vec<u32>, AllocError>
-        requires own { IsStateOf job.now.run.program.now state.now }
-        requires ruled { self.old.states.discipline ≡ job.now.run.limits.discipline }
-        requires here { (f : SlotFindings) × (x : Machine × List ℕ) × Holds job.now.run.program.now self.old f × (slice_get f.states at ≡ Some x) × (may (slots job.now.run.program.now job.now.run.limits.discipline) x.0 process ≡ true) × (graph.Place (machine_of state.now) ≡ (next_arrival (slots job.now.run.program.now job.now.run.limits.discipline) without_output same_key job.now.run.limits.steps x.0 process).goal) }
-        ensures row { IfOk result (λ row. IsPartRow self.new.states.cache.store self.new.states.cache.table (machine_of state.now) row.items) }
-        ensures kept { IfOk result (λ _. (f : SlotFindings) → Holds job.now.run.program.now self.old f → Holds job.now.run.program.now self.new f) }
-        ensures ruled { self.new.states.discipline ≡ self.old.states.discipline }
-    {
-        let Some(row) = self.states.row_at(at) else {
-            return self.states.row_of(job.alloc, state);
-        };
-        let mut row = Vec::from_slice(job.alloc, row.as_slice())?;
-        let mut shown = Vec::new(job.alloc);
-        let halt = self
-            .states
-            .leads(job.alloc, &job.run, &mut row, process, &mut shown)?;
-        match halt {
-            Some(_) => Ok(row),
-            None => self.states.row_of(job.alloc, state),
-        }
     }
 
     /// A word leads to where a stretch came to, in the state of this row, if it is one. It displayed these values.
@@ -229,6 +173,7 @@ impl Found {
         origin: Origin,
     ) -> Result<Arrived, AllocError>
         ensures arrives { IfOk result (λ arrived. (f : SlotFindings) (word : List ℕ) (a : SlotArrival) (m : Machine) → HoldsFew job.now.run.program.now job.now.most self.old f → IsWordOf f.states origin word → IsBefore (length f.states) origin → (halt ≡ Choice → IsStated job.now.run.program.now self.old.states halved.numbers m) → goal_at halt m ≡ a.goal → values.now ≡ a.shown → Arrives job.now.run.program.now job.now.most self.new f word a arrived) }
+        ensures halt { IfOk result (λ arrived. halt_of arrived ≡ halt) }
         ensures cache { IfOk result (λ _. self.new.states.cache ≡ self.old.states.cache) }
         ensures lists { IfOk result (λ _. self.new.states.lists ≡ self.old.states.lists) }
         ensures ruled { IfOk result (λ _. self.new.states.discipline ≡ self.old.states.discipline) }

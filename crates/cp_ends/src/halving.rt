@@ -113,6 +113,7 @@ pub fn deal<'a>(table: &PlaceTable, row: &'a [u32]) -> DealtRow<'a>
 }
 
 /// The row with these lists.
+#[inline(always)]
 pub fn join(
     table: &PlaceTable,
     statuses: &[u32],

@@ -1,4 +1,4 @@
-//! Which ends are possible, in schedules of any length: a search that goes on from each state once, and has no word too long.
+//! Which ends are possible, in schedules of any length: a search that expands each state once, and has no word too long.
 #![tactic(auto)]
 
 pub mod by_moves;
@@ -8,6 +8,7 @@ pub mod found;
 pub mod halving;
 pub mod laws;
 pub mod learning;
+pub mod look;
 pub mod move_index;
 pub mod moves;
 pub mod origin;
@@ -16,9 +17,11 @@ pub mod round;
 pub mod row;
 pub mod rows;
 pub mod search;
+pub mod seeing;
 pub mod sight;
 pub mod states;
 pub mod told;
+pub mod visit;
 
 pub use end::End;
 pub use found::Found;

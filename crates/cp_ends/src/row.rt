@@ -10,6 +10,7 @@ ghost use Rattle.cp_states.specs.Hashing.{mixed};
 ghost use Rattle.cp_states.specs.Numbers.{number_at};
 ghost use Rattle.cp_ends.specs.Halves.{half_position};
 
+use arrayvec::ArrayVec;
 use cp_states::hashing::mix;
 use std::hash::{Hash, Hasher};
 
@@ -17,6 +18,15 @@ use std::hash::{Hash, Hasher};
 #[derive(Clone, Copy, Drop)]
 pub struct HalvedRow {
     pub numbers: [u32; 3],
+}
+
+/// A state by its row, and by the numbers of the row.
+#[derive(Drop)]
+pub struct StateRow<P> {
+    pub row: ArrayVec<u32, 97>,
+    pub numbers: HalvedRow,
+    /// What a look at it sees.
+    pub seen: P,
 }
 
 impl PartialEq for HalvedRow {

@@ -8,37 +8,50 @@ ghost use Rattle.cp_stretches.specs.declared.cache.Standing.{Standing};
 ghost use Rattle.cp_run.specs.Run.{may, those_below};
 ghost use Rattle.cp_run.specs.declared.outcome.Halt.TheVariants.{Choice};
 ghost use Rattle.cp_run.specs.Slots.{processes_of, slots};
-ghost use Rattle.cp_search.specs.Searched.{IsSearched, IsTaken};
-ghost use Rattle.cp_ends.specs.Answer.{HoldsFew, IsSearch, IsStopped, ends_tests, slot_graph};
-ghost use Rattle.cp_ends.specs.ByRows.{Goes, HasRoom, IsWithinRow, KeepFound, end_of, with_standing};
+ghost use Rattle.cp_endless_laws.specs.Silent.{silent_slots};
+ghost use Rattle.cp_ends.specs.Answer.{HoldsFew, IsSearch, IsStopped, ends_tests, halt_of, has_room, slot_graph};
+ghost use Rattle.cp_ends.specs.ByRows.{Goes, HasRoom, IsTold, IsWithinRow, KeepFound, end_of, with_standing};
 ghost use Rattle.cp_ends.specs.Holds.{Holds, SlotFindings};
+ghost use Rattle.cp_ends.specs.Legs.{ComesTo, first_leg, with_round};
 ghost use Rattle.cp_ends.specs.Rows.{IsHalved, IsRowFor, IsStated};
 ghost use Rattle.cp_ends.specs.Searched.{nothing, searched};
-ghost use Rattle.cp_ends.specs.Visited.{IsWhole};
 
 use crate::choosing::{choose, open};
 use crate::end::End;
-use crate::found::Found;
+use crate::found::{Arrived, Found};
 use crate::origin::Origin;
-use crate::row::HalvedRow;
-use crate::sight::Unseen;
+use crate::row::{HalvedRow, StateRow};
+use crate::sight::{Sight, Unseen};
 use crate::told::Told;
-use cp_progress::{ObserveProgress, Progress, STATES_BETWEEN};
+use crate::visit::{RowVisit, visit_rows};
+use arrayvec::ArrayVec;
+use cp_progress::{ObserveProgress, Progress};
 use cp_run::{Halt, OutcomeKind};
 use cp_search::SearchJob;
 use std::alloc::AllocError;
 
 /// What is found so far, with room for what is told of a stretch and for a row.
-#[derive(Drop)]
-pub struct RowSearch {
+pub struct RowSearch<P> {
     pub found: Found,
-    pub told: Told<Unseen>,
+    pub told: Told<P>,
     /// The row that a choice leads to, and its numbers.
     pub row: Vec<u32>,
     pub next: HalvedRow,
 }
 
-/// Goes on from the opening state, and from each state that is found.
+// One call where it is dropped, not one for each list: proofs of functions that may end early are much shorter.
+impl<P: Drop> Drop for RowSearch<P> {
+    fn drop(self) {
+        let RowSearch {
+            found: _,
+            told: _,
+            row: _,
+            next: _,
+        } = self;
+    }
+}
+
+/// Expands the opening state, and each state that is found.
 pub fn search_rows<O: ObserveProgress>(
     job: &SearchJob<'_>,
     observer: &mut O,
@@ -46,11 +59,11 @@ pub fn search_rows<O: ObserveProgress>(
     requires most { 1 ≤ job.now.most }
     ensures { IfOk result (λ found. IsSearch job.now.run.program.now (slot_graph job.now.run.program.now job.now.run.limits.discipline job.now.run.limits.steps) job.now.most found found.stopped) }
 {
-    let mut search = RowSearch::start(job)?;
+    let mut search: RowSearch<Unseen> = RowSearch::start(job)?;
     search.open(job)?;
-    let stopped = search.visit_all(job, observer)?;
+    let stopped = visit_rows(job, &mut search, observer)?;
     search.found.stopped = stopped;
-    Ok(search.found)
+    Ok(search.into_found())
 }
 
 // The end of a stretch that is over.
@@ -63,9 +76,9 @@ fn ended(halt: Halt<OutcomeKind>) -> Halt<End>
     }
 }
 
-impl RowSearch {
+impl<P: Sight> RowSearch<P> {
     /// Nothing is found, and the opening state stands in the room for one.
-    pub fn start(job: &SearchJob<'_>) -> Result<RowSearch, AllocError>
+    pub fn start(job: &SearchJob<'_>) -> Result<RowSearch<P>, AllocError>
         ensures nothing { IfOk result (λ search. Holds job.now.run.program.now search.found nothing) }
         ensures room { IfOk result (λ search. HasRoom job.now.run.limits.discipline search) }
         ensures start { IfOk result (λ search. machine_of search.found.states.standing.state ≡ opening job.now.run.program.now job.now.run.limits.discipline) }
@@ -74,10 +87,23 @@ impl RowSearch {
         let row = Vec::from_slice(job.alloc, &found.states.standing.row)?;
         Ok(RowSearch {
             found,
-            told: Told::new(job.alloc, Unseen),
+            told: Told::new(job.alloc, P::begin(job.run.program)),
             row,
             next: HalvedRow::of_none(),
         })
+    }
+
+    /// What is found, without the room.
+    pub fn into_found(self) -> Found
+        ensures { result ≡ self.found }
+    {
+        let RowSearch {
+            found,
+            told: _,
+            row: _,
+            next: _,
+        } = self;
+        found
     }
 
     // What stands in the room for a state has its row again.
@@ -87,7 +113,7 @@ impl RowSearch {
         requires room { HasRoom job.now.run.limits.discipline self.old }
         ensures room { IfOk result (λ _. HasRoom job.now.run.limits.discipline self.new) }
         ensures kept { IfOk result (λ _. (standing : Standing) → KeepFound job.now.run.program.now (with_standing self.old.found standing) self.new.found) }
-        ensures told { self.new.told.values.items ≡ self.old.told.values.items }
+        ensures told { self.new.told ≡ self.old.told }
         ensures row { IfOk result (λ _. IsPartRow self.new.found.states.cache.store self.new.found.states.cache.table (machine_of self.old.found.states.standing.state) self.new.row.items) }
     {
         let states = &mut self.found.states;
@@ -99,13 +125,14 @@ impl RowSearch {
     }
 
     /// Follows the opening stretch, and notes where it arrives.
-    pub fn open(&mut self, job: &SearchJob<'_>) -> Result<(), AllocError>
+    pub fn open(&mut self, job: &SearchJob<'_>) -> Result<Arrived, AllocError>
         requires most { 1 ≤ job.now.most }
         requires nothing { Holds job.now.run.program.now self.old.found nothing }
         requires room { HasRoom job.now.run.limits.discipline self.old }
         requires start { machine_of self.old.found.states.standing.state ≡ opening job.now.run.program.now job.now.run.limits.discipline }
         ensures room { IfOk result (λ _. HasRoom job.now.run.limits.discipline self.new) }
         ensures begun { IfOk result (λ _. HoldsFew job.now.run.program.now job.now.most self.new.found (searched (slot_graph job.now.run.program.now job.now.run.limits.discipline job.now.run.limits.steps) ends_tests 0)) }
+        ensures seen { IfOk result (λ arrived. (last : Machine) × ComesTo (silent_slots job.now.run.program.now job.now.run.limits.discipline) (λ w. P.sees w job.now.run.program.now job.now.run.limits.discipline) job.now.run.limits.steps (first_leg (silent_slots job.now.run.program.now job.now.run.limits.discipline) job.now.run.limits.steps) [] self.new.told.seen (with_round self.new.told.again (halt_of arrived)) last) }
     {
         self.told.values.clear();
         let state = &mut self.found.states.standing.state;
@@ -113,8 +140,8 @@ impl RowSearch {
         self.find_row(job)?;
         let row = self.row.as_slice();
         let values = self.told.values.as_slice();
-        self.found.arrive(job, row, halt, values, Origin::Start)?;
-        Ok(())
+        let arrived = self.found.arrive(job, row, halt, values, Origin::Start)?;
+        Ok(arrived)
     }
 
     // Where a choice leads to in the state of a row, which is not known from legs: it is taken step by step.
@@ -122,18 +149,20 @@ impl RowSearch {
     fn go_slowly(
         &mut self,
         job: &SearchJob<'_>,
-        from: &[u32],
+        from: &StateRow<P>,
         process: u8,
     ) -> Result<Halt<End>, AllocError>
         requires room { HasRoom job.now.run.limits.discipline self.old }
-        requires here { (f : SlotFindings) × (m : Machine) × Holds job.now.run.program.now self.old.found f × IsRowFor job.now.run.program.now self.old.found.states from.now m × (may (slots job.now.run.program.now job.now.run.limits.discipline) m process ≡ true) }
+        requires here { (f : SlotFindings) × (m : Machine) × Holds job.now.run.program.now self.old.found f × IsRowFor job.now.run.program.now self.old.found.states from.now.row.items m × (may (slots job.now.run.program.now job.now.run.limits.discipline) m process ≡ true) }
         ensures room { IfOk result (λ _. HasRoom job.now.run.limits.discipline self.new) }
         ensures kept { IfOk result (λ _. KeepFound job.now.run.program.now self.old.found self.new.found) }
-        ensures goes { IfOk result (λ halt. (m : Machine) → IsRowFor job.now.run.program.now self.old.found.states from.now m → may (slots job.now.run.program.now job.now.run.limits.discipline) m process ≡ true → Goes job.now.run.program.now job.now.run.limits.discipline job.now.run.limits.steps m process halt (IsRowFor job.now.run.program.now self.new.found.states self.new.row.items) self.new.told.values.items) }
+        ensures goes { IfOk result (λ halt. (m : Machine) → IsRowFor job.now.run.program.now self.old.found.states from.now.row.items m → may (slots job.now.run.program.now job.now.run.limits.discipline) m process ≡ true → Goes P.sees job.now.run.program.now job.now.run.limits.discipline job.now.run.limits.steps m process halt (IsRowFor job.now.run.program.now self.new.found.states self.new.row.items) self.new.told) }
     {
         self.told.values.clear();
         let states = &mut self.found.states;
-        states.cache.stand(&job.run, from, &mut states.standing);
+        states
+            .cache
+            .stand(&job.run, from.row.as_slice(), &mut states.standing);
         let state = &mut states.standing.state;
         let halt = choose(job.alloc, &job.run, state, process, &mut self.told)?;
         self.find_row(job)?;
@@ -144,21 +173,21 @@ impl RowSearch {
     fn go_by_legs(
         &mut self,
         job: &SearchJob<'_>,
-        from: &[u32],
+        from: &StateRow<P>,
         process: u8,
     ) -> Result<Halt<End>, AllocError>
         requires room { HasRoom job.now.run.limits.discipline self.old }
-        requires here { (f : SlotFindings) × (m : Machine) × Holds job.now.run.program.now self.old.found f × IsRowFor job.now.run.program.now self.old.found.states from.now m × (may (slots job.now.run.program.now job.now.run.limits.discipline) m process ≡ true) }
+        requires here { (f : SlotFindings) × (m : Machine) × Holds job.now.run.program.now self.old.found f × IsRowFor job.now.run.program.now self.old.found.states from.now.row.items m × (may (slots job.now.run.program.now job.now.run.limits.discipline) m process ≡ true) }
         ensures room { IfOk result (λ _. HasRoom job.now.run.limits.discipline self.new) }
         ensures kept { IfOk result (λ _. KeepFound job.now.run.program.now self.old.found self.new.found) }
-        ensures goes { IfOk result (λ halt. (m : Machine) → IsRowFor job.now.run.program.now self.old.found.states from.now m → may (slots job.now.run.program.now job.now.run.limits.discipline) m process ≡ true → Goes job.now.run.program.now job.now.run.limits.discipline job.now.run.limits.steps m process halt (IsRowFor job.now.run.program.now self.new.found.states self.new.row.items) self.new.told.values.items) }
+        ensures goes { IfOk result (λ halt. (m : Machine) → IsRowFor job.now.run.program.now self.old.found.states from.now.row.items m → may (slots job.now.run.program.now job.now.run.limits.discipline) m process ≡ true → P.looks from.now.seen job.now.run.program.now m → Goes P.sees job.now.run.program.now job.now.run.limits.discipline job.now.run.limits.steps m process halt (IsRowFor job.now.run.program.now self.new.found.states self.new.row.items) self.new.told) }
     {
         self.told.values.clear();
-        self.row.copy_from_slice(from);
-        let values = &mut self.told.values;
+        self.row.copy_from_slice(from.row.as_slice());
+        let told = &mut self.told;
         let row = self.row.as_mut_slice();
         let states = &mut self.found.states;
-        match states.leads(job.alloc, &job.run, row, process, values)? {
+        match states.see_choice(job.alloc, &job.run, row, from.seen, process, told)? {
             Some(halt) => Ok(ended(halt)),
             None => self.go_slowly(job, from, process),
         }
@@ -169,26 +198,27 @@ impl RowSearch {
     fn follow_move(
         &mut self,
         job: &SearchJob<'_>,
-        from: &[u32],
-        numbers: HalvedRow,
+        from: &StateRow<P>,
         process: u8,
     ) -> Result<bool, AllocError>
         requires room { HasRoom job.now.run.limits.discipline self.old }
-        requires here { (f : SlotFindings) × (m : Machine) × Holds job.now.run.program.now self.old.found f × IsRowFor job.now.run.program.now self.old.found.states from.now m × (may (slots job.now.run.program.now job.now.run.limits.discipline) m process ≡ true) }
-        requires halved { IsHalved self.old.found.states numbers.numbers from.now }
+        requires here { (f : SlotFindings) × (m : Machine) × Holds job.now.run.program.now self.old.found f × IsRowFor job.now.run.program.now self.old.found.states from.now.row.items m × (may (slots job.now.run.program.now job.now.run.limits.discipline) m process ≡ true) }
+        requires halved { IsHalved self.old.found.states from.now.numbers.numbers from.now.row.items }
         ensures room { IfOk result (λ _. HasRoom job.now.run.limits.discipline self.new) }
         ensures kept { IfOk result (λ _. KeepFound job.now.run.program.now self.old.found self.new.found) }
-        ensures goes { IfOk result (λ is_made. is_made ≡ true → (m : Machine) → IsRowFor job.now.run.program.now self.old.found.states from.now m → may (slots job.now.run.program.now job.now.run.limits.discipline) m process ≡ true → Goes job.now.run.program.now job.now.run.limits.discipline job.now.run.limits.steps m process Choice (IsStated job.now.run.program.now self.new.found.states self.new.next.numbers) self.new.told.values.items) }
+        ensures goes { IfOk result (λ is_made. is_made ≡ true → (m : Machine) → IsRowFor job.now.run.program.now self.old.found.states from.now.row.items m → may (slots job.now.run.program.now job.now.run.limits.discipline) m process ≡ true → P.looks from.now.seen job.now.run.program.now m → Goes P.sees job.now.run.program.now job.now.run.limits.discipline job.now.run.limits.steps m process Choice (IsStated job.now.run.program.now self.new.found.states self.new.next.numbers) self.new.told) }
     {
         let states = &mut self.found.states;
-        let Some(known) = states.find_move(&job.run, from, numbers, process) else {
+        let Some(known) = states.find_move(&job.run, from.row.as_slice(), from.numbers, process)
+        else {
             return Ok(false);
         };
         self.told.values.clear();
-        self.row.copy_from_slice(from);
+        self.told.see_step(from.seen, process);
+        self.row.copy_from_slice(from.row.as_slice());
         let values = &mut self.told.values;
         let row = self.row.as_mut_slice();
-        match states.make_move(job.alloc, &job.run, row, numbers, &known, values)? {
+        match states.make_move(job.alloc, &job.run, row, from.numbers, &known, values)? {
             Some(next) => {
                 self.next = next;
                 Ok(true)
@@ -202,24 +232,23 @@ impl RowSearch {
     fn go(
         &mut self,
         job: &SearchJob<'_>,
-        from: &[u32],
-        numbers: HalvedRow,
+        from: &StateRow<P>,
         process: u8,
     ) -> Result<Halt<End>, AllocError>
         requires below { process < processes_of job.now.run.program.now }
         requires room { HasRoom job.now.run.limits.discipline self.old }
-        requires here { (f : SlotFindings) × (m : Machine) × Holds job.now.run.program.now self.old.found f × IsRowFor job.now.run.program.now self.old.found.states from.now m × (may (slots job.now.run.program.now job.now.run.limits.discipline) m process ≡ true) }
-        requires halved { IsHalved self.old.found.states numbers.numbers from.now }
+        requires here { (f : SlotFindings) × (m : Machine) × Holds job.now.run.program.now self.old.found f × IsRowFor job.now.run.program.now self.old.found.states from.now.row.items m × (may (slots job.now.run.program.now job.now.run.limits.discipline) m process ≡ true) }
+        requires halved { IsHalved self.old.found.states from.now.numbers.numbers from.now.row.items }
         ensures room { IfOk result (λ _. HasRoom job.now.run.limits.discipline self.new) }
         ensures kept { IfOk result (λ _. KeepFound job.now.run.program.now self.old.found self.new.found) }
-        ensures goes { IfOk result (λ halt. (m : Machine) → IsRowFor job.now.run.program.now self.old.found.states from.now m → may (slots job.now.run.program.now job.now.run.limits.discipline) m process ≡ true → Goes job.now.run.program.now job.now.run.limits.discipline job.now.run.limits.steps m process halt (IsStated job.now.run.program.now self.new.found.states self.new.next.numbers) self.new.told.values.items) }
+        ensures goes { IfOk result (λ halt. (m : Machine) → IsRowFor job.now.run.program.now self.old.found.states from.now.row.items m → may (slots job.now.run.program.now job.now.run.limits.discipline) m process ≡ true → P.looks from.now.seen job.now.run.program.now m → Goes P.sees job.now.run.program.now job.now.run.limits.discipline job.now.run.limits.steps m process halt (IsStated job.now.run.program.now self.new.found.states self.new.next.numbers) self.new.told) }
     {
-        if self.follow_move(job, from, numbers, process)? {
+        if self.follow_move(job, from, process)? {
             return Ok(Halt::Choice);
         }
         let halt = self.go_by_legs(job, from, process)?;
         let states = &mut self.found.states;
-        states.learn(job.alloc, from, numbers, process)?;
+        states.learn(job.alloc, from.row.as_slice(), from.numbers, process)?;
         match halt {
             Halt::Choice => {
                 self.next = states.halve(job.alloc, &self.row)?;
@@ -229,83 +258,48 @@ impl RowSearch {
         }
     }
 
-    // Takes a choice in the state of this number and row, and notes where it arrives. `false` where there is no room for it.
-    fn take(
+    /// Takes a choice in the state of this number and row, and notes where it arrives.
+    #[inline(always)]
+    pub fn take_choice(
         &mut self,
         job: &SearchJob<'_>,
         at: u32,
-        from: &[u32],
-        numbers: HalvedRow,
+        from: &StateRow<P>,
         process: u8,
-    ) -> Result<bool, AllocError>
-        requires room { HasRoom job.now.run.limits.discipline self.old }
+    ) -> Result<Arrived, AllocError>
         requires below { process < processes_of job.now.run.program.now }
-        requires within { (m : Machine) × IsWithinRow job.now.run.program.now job.now.run.limits.discipline job.now.run.limits.steps job.now.most self.old numbers.numbers from.now at m (those_below process (may (slots job.now.run.program.now job.now.run.limits.discipline) m)) × (may (slots job.now.run.program.now job.now.run.limits.discipline) m process ≡ true) }
-        ensures room { IfOk result (λ _. HasRoom job.now.run.limits.discipline self.new) }
-        ensures within { IfOk result (λ is_room. is_room ≡ true → (m : Machine) → IsWithinRow job.now.run.program.now job.now.run.limits.discipline job.now.run.limits.steps job.now.most self.old numbers.numbers from.now at m (those_below process (may (slots job.now.run.program.now job.now.run.limits.discipline) m)) → may (slots job.now.run.program.now job.now.run.limits.discipline) m process ≡ true → IsWithinRow job.now.run.program.now job.now.run.limits.discipline job.now.run.limits.steps job.now.most self.new numbers.numbers from.now at m (those_below process (may (slots job.now.run.program.now job.now.run.limits.discipline) m) ++ process ∷ [])) }
-        ensures stops { IfOk result (λ is_room. is_room ≡ false → IsStopped job.now.run.program.now (slot_graph job.now.run.program.now job.now.run.limits.discipline job.now.run.limits.steps) job.now.most self.new.found at) }
+        requires within { (m : Machine) × IsWithinRow P.looks job.now.run.program.now job.now.run.limits.discipline job.now.run.limits.steps job.now.most self.old from.now at m (those_below process (may (slots job.now.run.program.now job.now.run.limits.discipline) m)) × (may (slots job.now.run.program.now job.now.run.limits.discipline) m process ≡ true) }
+        ensures within { IfOk result (λ arrived. has_room arrived ≡ true → (m : Machine) → IsWithinRow P.looks job.now.run.program.now job.now.run.limits.discipline job.now.run.limits.steps job.now.most self.old from.now at m (those_below process (may (slots job.now.run.program.now job.now.run.limits.discipline) m)) → may (slots job.now.run.program.now job.now.run.limits.discipline) m process ≡ true → IsWithinRow P.looks job.now.run.program.now job.now.run.limits.discipline job.now.run.limits.steps job.now.most self.new from.now at m (those_below process (may (slots job.now.run.program.now job.now.run.limits.discipline) m) ++ process ∷ [])) }
+        ensures stops { IfOk result (λ arrived. has_room arrived ≡ false → IsStopped job.now.run.program.now (slot_graph job.now.run.program.now job.now.run.limits.discipline job.now.run.limits.steps) job.now.most self.new.found at) }
+        ensures told { IfOk result (λ arrived. (m : Machine) → IsWithinRow P.looks job.now.run.program.now job.now.run.limits.discipline job.now.run.limits.steps job.now.most self.old from.now at m (those_below process (may (slots job.now.run.program.now job.now.run.limits.discipline) m)) → may (slots job.now.run.program.now job.now.run.limits.discipline) m process ≡ true → IsTold P.sees job.now.run.program.now job.now.run.limits.discipline job.now.run.limits.steps at m process arrived self.new.told) }
     {
-        let halt = self.go(job, from, numbers, process)?;
+        let halt = self.go(job, from, process)?;
         let origin = Origin::Choice {
             state: at,
             number: process,
         };
         let values = self.told.values.as_slice();
         let arrived = self.found.arrive_at(job, self.next, halt, values, origin)?;
-        Ok(arrived.has_room())
+        Ok(arrived)
     }
+}
 
-    // Goes on from the state of this number and row with each number that may be chosen there. `false` where there is no room to.
-    fn take_choices(
-        &mut self,
-        job: &SearchJob<'_>,
-        at: u32,
-        from: &[u32],
-        numbers: HalvedRow,
-    ) -> Result<bool, AllocError>
-        requires room { HasRoom job.now.run.limits.discipline self.old }
-        requires within { (m : Machine) × IsWithinRow job.now.run.program.now job.now.run.limits.discipline job.now.run.limits.steps job.now.most self.old numbers.numbers from.now at m [] }
-        ensures room { IfOk result (λ _. HasRoom job.now.run.limits.discipline self.new) }
-        ensures taken { IfOk result (λ is_room. IsTaken (λ n. HoldsFew job.now.run.program.now job.now.most self.new.found (searched (slot_graph job.now.run.program.now job.now.run.limits.discipline job.now.run.limits.steps) ends_tests n)) (IsStopped job.now.run.program.now (slot_graph job.now.run.program.now job.now.run.limits.discipline job.now.run.limits.steps) job.now.most self.new.found) at is_room) }
-    {
-        let candidates = self.found.states.cache.candidates(from);
-        for process in candidates.as_slice() {
-            if !self.take(job, at, from, numbers, *process)? {
-                return Ok(false);
-            }
-        }
-        Ok(true)
-    }
+impl<P: Sight> RowVisit<P> for RowSearch<P> {
+    ghost use Rattle.cp_ends.specs.Answer.{HoldsFew, IsStopped, ends_tests, slot_graph};
+    ghost use Rattle.cp_ends.specs.ByRows.{HasRoom, IsWithinRow};
+    ghost use Rattle.cp_ends.specs.Searched.{searched};
+    ghost use Rattle.cp_ends.specs.Visited.{IsWhole};
 
-    // Goes on from each state that is found, and from those that are found then. Answers the one from which there was no room to.
-    fn visit_all<O: ObserveProgress>(
-        &mut self,
-        job: &SearchJob<'_>,
-        observer: &mut O,
-    ) -> Result<Option<u32>, AllocError>
-        requires room { HasRoom job.now.run.limits.discipline self.old }
-        requires begun { HoldsFew job.now.run.program.now job.now.most self.old.found (searched (slot_graph job.now.run.program.now job.now.run.limits.discipline job.now.run.limits.steps) ends_tests 0) }
-        ensures { IfOk result (λ stopped. IsSearched (IsWhole job.now.run.program.now (slot_graph job.now.run.program.now job.now.run.limits.discipline job.now.run.limits.steps) job.now.most self.new.found) (IsStopped job.now.run.program.now (slot_graph job.now.run.program.now job.now.run.limits.discipline job.now.run.limits.steps) job.now.most self.new.found) stopped) }
-    {
-        let mut choices: u32 = 0;
-        let mut layer_end = self.found.states.len();
-        for number in 0..job.most {
-            if number as usize == layer_end {
-                choices = choices.saturating_add(1);
-                layer_end = self.found.states.len();
-            }
-            if number % STATES_BETWEEN == 0 {
-                observer.observe_progress(self.progress(choices));
-            }
-            let Some(numbers) = self.found.states.numbers_at(number) else {
-                return Ok(None);
-            };
-            let row = self.found.states.row_with(numbers);
-            if !self.take_choices(job, number, row.as_slice(), numbers)? {
-                return Ok(Some(number));
-            }
-        }
-        Ok(None)
+    ghost before = { λ v job n. HasRoom job.run.limits.discipline v × HoldsFew job.run.program.now job.most v.found (searched (slot_graph job.run.program.now job.run.limits.discipline job.run.limits.steps) ends_tests n) };
+
+    ghost within = { λ v job from at m done. IsWithinRow P.looks job.run.program.now job.run.limits.discipline job.run.limits.steps job.most v from at m done };
+
+    ghost over = { λ v job. IsWhole job.run.program.now (slot_graph job.run.program.now job.run.limits.discipline job.run.limits.steps) job.most v.found };
+
+    ghost stops = { λ v job at. IsStopped job.run.program.now (slot_graph job.run.program.now job.run.limits.discipline job.run.limits.steps) job.most v.found at };
+
+    fn len(&self) -> usize {
+        self.found.states.len()
     }
 
     fn progress(&self, choices: u32) -> Progress {
@@ -315,4 +309,32 @@ impl RowSearch {
             outcomes: Some(self.found.ends.len()),
         }
     }
+
+    #[inline(always)]
+    fn state_at(&self, _job: &SearchJob<'_>, number: u32) -> Option<StateRow<P>> {
+        self.found.states.state_at(number)
+    }
+
+    #[inline(always)]
+    fn candidates(&self, _job: &SearchJob<'_>, _at: u32, from: &StateRow<P>) -> ArrayVec<u8, 16> {
+        self.found.states.cache.candidates(from.row.as_slice())
+    }
+
+    #[inline(always)]
+    fn take(
+        &mut self,
+        job: &SearchJob<'_>,
+        at: u32,
+        from: &StateRow<P>,
+        process: u8,
+    ) -> Result<bool, AllocError> {
+        let arrived = self.take_choice(job, at, from, process)?;
+        Ok(arrived.has_room())
+    }
+
+    fn end_state(&mut self, _job: &SearchJob<'_>, _at: u32) -> Result<(), AllocError> {
+        Ok(())
+    }
+
+    ghost fills = { λ v job h. record { count = job.most; holds = h.1; all = h.1.few } };
 }

@@ -2,22 +2,25 @@
 
 ghost use Rattle.std.specs.Prelude.{◌≡◌, ◌<◌, ◌≤◌, ◌^◌, ◌∷◌, ◌++◌, ℕ, List, [], length, false, true, slice_get, None, Some, IfNone, IfOk, IfSome};
 ghost use Rattle.cp_slots.specs.Tables.{Tables};
-ghost use Rattle.cp_machine.specs.Fits.{MachineFits};
 ghost use Rattle.cp_machine.specs.System.{Machine, machine_of, opening, IsStateOf};
 ghost use Rattle.cp_run.specs.Run.{may};
 ghost use Rattle.cp_run.specs.Slots.{slots};
 ghost use Rattle.cp_stretches.specs.Stretching.{LeadsTo};
-ghost use Rattle.cp_parts.specs.Parts.{IsPartRow};
-ghost use Rattle.cp_parts.specs.Placed.{IsPlaced};
+ghost use Rattle.cp_endless_laws.specs.Moments.{moments};
+ghost use Rattle.cp_endless_laws.specs.Silent.{silent_slots};
 ghost use Rattle.cp_ends.specs.Holds.{same_key, AreStates, IsAt, IsBefore, IsNumberOf, IsWordOf, origin_at};
 ghost use Rattle.cp_ends.specs.Halves.{width_of};
 ghost use Rattle.cp_ends.specs.Rows.{IsHalved, IsRowFor, IsStated};
 ghost use Rattle.cp_ends.specs.Searched.{has};
 
 use crate::halving::{deal, join};
+use crate::look::RowLook;
 use crate::moves::MoveTable;
 use crate::origin::Origin;
-use crate::row::HalvedRow;
+use crate::row::{HalvedRow, StateRow};
+use crate::seeing::choose_by_legs;
+use crate::sight::Sight;
+use crate::told::Told;
 use arrayvec::ArrayVec;
 use cp_machine::{Discipline, Shown, State};
 use cp_run::{Halt, Job, OutcomeKind};
@@ -27,7 +30,6 @@ use indexmap::IndexMap;
 use std::alloc::{AllocError, Global};
 
 /// The states that were found, each once, in the order in which they were found, with the words that led there first.
-#[derive(Drop)]
 pub struct States {
     /// The row of each state, by the numbers of its lists.
     pub known: IndexMap<HalvedRow, Origin>,
@@ -39,6 +41,20 @@ pub struct States {
     /// Room for a state with its row, in which legs are made.
     pub standing: Standing,
     pub discipline: Discipline,
+}
+
+// One call where it is dropped, not one for each list: proofs of functions that may end early are much shorter.
+impl Drop for States {
+    fn drop(self) {
+        let States {
+            known: _,
+            lists: _,
+            moves: _,
+            cache: _,
+            standing: _,
+            discipline: _,
+        } = self;
+    }
 }
 
 impl States {
@@ -70,16 +86,39 @@ impl States {
         self.known.len()
     }
 
-    /// The row of a state, whether it was found or not.
-    pub fn row_of(&mut self, alloc: Global, state: &State) -> Result<Vec<u32>, AllocError>
-        requires { (r : Tables) × IsPlaced r self.old.cache.table × MachineFits r (machine_of state.now) }
-        ensures row { IfOk result (λ row. IsPartRow self.new.cache.store self.new.cache.table (machine_of state.now) row.items) }
-        ensures kept { (r : Tables) (states : List (Machine × List ℕ)) → AreStates r self.old states → AreStates r self.new states }
+    /// Where a choice leads in the state of a row, by the legs that are known or are made now, and what it displays; the row becomes the one
+    /// there. The state is seen by a look at it, and each leg. `None` where they don't tell.
+    pub fn see_choice<P: Sight>(
+        &mut self,
+        alloc: Global,
+        job: &Job<'_>,
+        row: &mut [u32],
+        look: P,
+        process: u8,
+        told: &mut Told<P>,
+    ) -> Result<Option<Halt<OutcomeKind>>, AllocError>
+        requires ruled { self.old.discipline ≡ job.now.limits.discipline }
+        requires here { (states : List (Machine × List ℕ)) × (m : Machine) × AreStates job.now.program.now self.old states × IsRowFor job.now.program.now self.old row.old m × (may (slots job.now.program.now job.now.limits.discipline) m process ≡ true) }
+        ensures kept { IfOk result (λ _. (states : List (Machine × List ℕ)) → AreStates job.now.program.now self.old states → AreStates job.now.program.now self.new states) }
+        ensures rows { (list : List ℕ) (m : Machine) → IsRowFor job.now.program.now self.old list m → IsRowFor job.now.program.now self.new list m }
+        ensures lists { (numbers list : List ℕ) → IsHalved self.old numbers list → IsHalved self.new numbers list }
         ensures table { self.new.cache.table ≡ self.old.cache.table }
         ensures ruled { self.new.discipline ≡ self.old.discipline }
-        ensures known { self.new.known ≡ self.old.known }
+        ensures again { IfOk result (λ _. told.new.again ≡ None) }
+        ensures leads { IfOk result (λ halts. IfSome halts (λ halt. (m : Machine) → IsRowFor job.now.program.now self.old row.old m → may (slots job.now.program.now job.now.limits.discipline) m process ≡ true → LeadsTo job.now.program.now job.now.limits.discipline self.new.cache.store self.new.cache.table job.now.limits.steps m process told.old.values.items halt row.new told.new.values.items)) }
+        ensures sees { IfOk result (λ halts. IfSome halts (λ _. (m : Machine) → IsRowFor job.now.program.now self.old row.old m → may (slots job.now.program.now job.now.limits.discipline) m process ≡ true → P.looks look job.now.program.now m → P.sees told.new.seen job.now.program.now job.now.limits.discipline (m ∷ []) (moments (silent_slots job.now.program.now job.now.limits.discipline) job.now.limits.steps m process))) }
     {
-        self.cache.store.row_of(alloc, &self.cache.table, state)
+        let standing = &mut self.standing;
+        choose_by_legs(
+            alloc,
+            job,
+            &mut self.cache,
+            row,
+            look,
+            process,
+            standing,
+            told,
+        )
     }
 
     /// Where a choice leads in the state of a row, by the legs that are known or are made now, and what it displays; the row becomes the one
@@ -143,6 +182,7 @@ impl States {
     }
 
     /// The row with these lists.
+    #[inline(always)]
     pub fn row_with(&self, halved: HalvedRow) -> ArrayVec<u32, 97>
         requires { (row : List ℕ) × IsHalved self.now halved.numbers row × (length row ≡ width_of self.now.cache.table) × (length row ≤ 97) }
         ensures { (row : List ℕ) → IsHalved self.now halved.numbers row → length row ≡ width_of self.now.cache.table → result.items ≡ row }
@@ -156,27 +196,27 @@ impl States {
         )
     }
 
-    /// The numbers of the lists of the state of this number, if there is one.
-    pub fn numbers_at(&self, number: u32) -> Option<HalvedRow>
-        ensures found { IfSome result (λ halved. (r : Tables) (states : List (Machine × List ℕ)) → AreStates r self.now states → (x : Machine × List ℕ) × (slice_get states number ≡ Some x) × IsStated r self.now halved.numbers x.0) }
-        ensures none { IfNone result ((r : Tables) (states : List (Machine × List ℕ)) → AreStates r self.now states → slice_get states number ≡ None) }
-    {
-        let Some((halved, _)) = self.known.get_index(number as usize) else {
-            return None;
-        };
-        Some(*halved)
-    }
-
-    /// The row of the state of this number, if there is one.
-    pub fn row_at(&self, number: u32) -> Option<ArrayVec<u32, 97>>
+    /// The state of this number by its row, with a look at it, if there is one.
+    #[inline(always)]
+    pub fn state_at<P: Sight>(&self, number: u32) -> Option<StateRow<P>>
         requires { (r : Tables) × (states : List (Machine × List ℕ)) × AreStates r self.now states }
-        ensures found { IfSome result (λ row. (r : Tables) (states : List (Machine × List ℕ)) → AreStates r self.now states → (x : Machine × List ℕ) × (slice_get states number ≡ Some x) × IsRowFor r self.now row.items x.0) }
+        ensures found { IfSome result (λ from. (r : Tables) (states : List (Machine × List ℕ)) → AreStates r self.now states → (x : Machine × List ℕ) × (slice_get states number ≡ Some x) × IsRowFor r self.now from.row.items x.0 × IsHalved self.now from.numbers.numbers from.row.items × P.looks from.seen r x.0) }
         ensures none { IfNone result ((r : Tables) (states : List (Machine × List ℕ)) → AreStates r self.now states → slice_get states number ≡ None) }
     {
         let Some((halved, _)) = self.known.get_index(number as usize) else {
             return None;
         };
-        Some(self.row_with(*halved))
+        let row = self.row_with(*halved);
+        let look = RowLook {
+            cache: &self.cache,
+            row: row.as_slice(),
+        };
+        let seen = P::look(&look);
+        Some(StateRow {
+            row,
+            numbers: *halved,
+            seen,
+        })
     }
 
     /// A state becomes the one that was found with this number; `false` where there is none.

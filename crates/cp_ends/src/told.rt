@@ -3,7 +3,7 @@
 ghost use Rattle.std.specs.Prelude.{◌≡◌, []};
 
 use crate::sight::Sight;
-use cp_machine::{Event, Moved, Shown, State, Watch};
+use cp_machine::{Event, Shown, State, Watch};
 use cp_run::{Job, Observe};
 use std::alloc::{AllocError, Global};
 
@@ -16,8 +16,6 @@ pub struct Told<P> {
     pub seen: P,
     /// Of the part that repeats, if it does.
     pub again: Option<P>,
-    /// The processes that moved since the choice that was due.
-    pub moved: Moved,
 }
 
 impl<P: Sight> Told<P> {
@@ -30,24 +28,20 @@ impl<P: Sight> Told<P> {
             is_called: false,
             seen,
             again: None,
-            moved: Moved::nobody(),
         }
     }
 }
 
 impl<P: Sight> Observe for Told<P> {
-    ghost use Rattle.std.specs.Prelude.{◌≡◌, ◌++◌, ◌∷◌, [], All, List, Bool, true, false};
+    ghost use Rattle.std.specs.Prelude.{◌≡◌, ◌++◌, ◌∷◌, [], List, Bool, true, false};
     ghost use Rattle.std.proofs.Common.{◌∙◌, ap, refl, sym};
     ghost use Rattle.std.proofs.lemmas.List.{append-nil};
-    ghost use Rattle.std.proofs.lemmas.List.Elements.{All-weaker};
-    ghost use Rattle.cp_machine.specs.Bodies.{KeepBodies, has_moved};
     ghost use Rattle.cp_machine.specs.Statements.{Stepped};
     ghost use Rattle.cp_machine.specs.System.{Machine, output_of};
     ghost use Rattle.cp_machine.specs.declared.shown.Shown.{Shown};
     ghost use Rattle.cp_run.specs.Fold.{beside};
     ghost use Rattle.cp_run.specs.Slots.{slots};
     ghost use Rattle.cp_run.proofs.LocalOutput.{local_output};
-    ghost use Rattle.cp_run.proofs.Moving.{moved_by};
     ghost use Rattle.cp_run.specs.Silent.{without_output};
     ghost use Rattle.cp_endless_laws.specs.Moments.{Moment};
     ghost use Rattle.cp_ends.specs.Arrivals.{teller};
@@ -55,7 +49,7 @@ impl<P: Sight> Observe for Told<P> {
 
     type Error = AllocError;
 
-    // What is displayed and whether the kernel was called; due choices, since which those moved that are noted, and the moments after them.
+    // What is displayed and whether the kernel was called; due choices, and the moments after them.
     ghost Seen = { (List Shown × Bool) × (List Machine × List (Moment Machine)) };
 
     ghost IS_SILENT = { true };
@@ -72,11 +66,11 @@ impl<P: Sight> Observe for Told<P> {
         false
     }
 
-    ghost holds = { λ told r discipline now x. (told.values.items ≡ x.0.0) × (told.is_called ≡ x.0.1) × (output_of now ≡ []) × P.sees told.seen r discipline x.1.0 x.1.1 × All (λ due. KeepBodies (has_moved told.moved) due now) x.1.0 };
+    ghost holds = { λ told r discipline now x. (told.values.items ≡ x.0.0) × (told.is_called ≡ x.0.1) × (output_of now ≡ []) × P.sees told.seen r discipline x.1.0 x.1.1 };
 
     ghost fold = { λ r discipline. beside (teller (slots r discipline)) seer };
 
-    ghost expects = { λ told r discipline before process x. (told.values.items ≡ x.0.0) × (told.is_called ≡ x.0.1) × (output_of before ≡ []) × P.sees told.seen r discipline x.1.0 (x.1.1 ++ record { state = before; mover = process } ∷ []) × All (λ due. KeepBodies (has_moved told.moved) due before) x.1.0 × (has_moved told.moved process ≡ true) };
+    ghost expects = { λ told r discipline before process x. (told.values.items ≡ x.0.0) × (told.is_called ≡ x.0.1) × (output_of before ≡ []) × P.sees told.seen r discipline x.1.0 (x.1.1 ++ record { state = before; mover = process } ∷ []) };
 
     #[inline(always)]
     fn expect_step(
@@ -85,8 +79,7 @@ impl<P: Sight> Observe for Told<P> {
         state: &State,
         process: u8,
     ) -> Result<(), AllocError> {
-        self.moved.add(process);
-        self.seen.add(state, process);
+        self.seen.then(&P::look(state).moved(process));
         Ok(())
     }
 
@@ -115,5 +108,5 @@ impl<P: Sight> Observe for Told<P> {
 
     fn see_choice(&mut self, _job: &Job<'_>, _state: &State, _number: u8) {}
 
-    ghost passes = { λ unseen told r discipline before after process x step h. (h.0 ∙ sym (append-nil x.0.0) ∙ ap (λ l. x.0.0 ++ l) (sym (ap (λ (y : Stepped). y.machine.output) step ∙ local_output r before after process [] h.2 step)), h.1, refl, h.3, All-weaker (λ due. KeepBodies (has_moved told.moved) due before) (λ due. KeepBodies (has_moved told.moved) due (without_output after)) (λ due kept. (let k = moved_by (has_moved told.moved) r due before after process _ step refl kept h.5 in record { count = k.count; bodies = k.bodies })) x.1.0 h.4) };
+    ghost passes = { λ unseen told r discipline before after process x step h. (h.0 ∙ sym (append-nil x.0.0) ∙ ap (λ l. x.0.0 ++ l) (sym (ap (λ (y : Stepped). y.machine.output) step ∙ local_output r before after process [] h.2 step)), h.1, refl, h.3) };
 }

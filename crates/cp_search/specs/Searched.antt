@@ -6,7 +6,7 @@ abbrev pub IsSearched : Type 0 → (ℕ → Type 0) → Option ℕ → Type 0
 IsSearched over stops None = over
 IsSearched over stops (Some at) = stops at
 
--- the state of this number was gone on from; `false` where there was no room to
+-- the state of this number was expanded; `false` where there was no room to
 abbrev pub IsTaken : (ℕ → Type 0) → (ℕ → Type 0) → ℕ → Bool → Type 0
 IsTaken before stops at true = before (suc at)
 IsTaken before stops at false = stops at

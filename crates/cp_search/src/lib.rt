@@ -1,4 +1,4 @@
-//! The search through states: each is gone on from once, in the order in which they are found.
+//! The search through states: each is expanded once, in the order in which they are found.
 #![tactic(auto)]
 
 pub mod visit;

@@ -25,16 +25,16 @@ pub trait Visit {
     ghost use Rattle.cp_run.specs.Slots.{processes_of, slots};
     ghost use Rattle.cp_search.specs.declared.visit.SearchJob.{SearchJob};
 
-    /// The states before the one of this number were gone on from.
+    /// The states before the one of this number were expanded.
     ghost before: { Self → SearchJob → ℕ → Type 0 };
 
     /// So was this one, in which the machine stands, with these numbers.
     ghost within: { Self → SearchJob → ℕ → Machine → List ℕ → Type 0 };
 
-    /// Each state was gone on from.
+    /// Each state was expanded.
     ghost over: { Self → SearchJob → Type 0 };
 
-    /// The states before the one of this number were gone on from, and from this one there was no room to.
+    /// The states before the one of this number were expanded, and for this one there was no room.
     ghost stops: { Self → SearchJob → ℕ → Type 0 };
 
     /// How many states are found.
@@ -72,7 +72,7 @@ pub trait Visit {
         ensures within { IfOk result (λ is_room. is_room ≡ true → within self.new job.now at (machine_of state.now) (those_below process (may (slots job.now.run.program.now job.now.run.limits.discipline) (machine_of state.now)) ++ process ∷ [])) }
         ensures stops { IfOk result (λ is_room. is_room ≡ false → stops self.new job.now at) };
 
-    /// The state of this number was gone on from with each number that may be chosen there.
+    /// The state of this number was expanded with each number that may be chosen there.
     fn end_state(&mut self, job: &SearchJob<'_>, at: u32) -> Result<(), AllocError>
         requires { (m : Machine) × within self.old job.now at m (those_below (processes_of job.now.run.program.now) (may (slots job.now.run.program.now job.now.run.limits.discipline) m)) }
         ensures { IfOk result (λ _. before self.new job.now (at + 1)) };
@@ -81,7 +81,7 @@ pub trait Visit {
     ghost fills: { (v : Self) (job : SearchJob) → before v job job.most → over v job };
 }
 
-/// Goes on from each state that is found, and from those that are found then. Answers the one from which there was no room to. An observer is
+/// Expands each state that is found, and those that are found then. Answers the one for which there was no room. An observer is
 /// told how far this has come. `state` and `next` are room for two states.
 pub fn visit_all<V: Visit, O: ObserveProgress>(
     job: &SearchJob<'_>,
@@ -117,7 +117,7 @@ pub fn visit_all<V: Visit, O: ObserveProgress>(
     Ok(None)
 }
 
-/// Goes on from the state of this number with each number that may be chosen there. `false` where there is no room to.
+/// Expands the state of this number with each number that may be chosen there. `false` where there is no room for that.
 pub fn take_choices<V: Visit>(
     job: &SearchJob<'_>,
     visit: &mut V,

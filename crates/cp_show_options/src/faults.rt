@@ -4,12 +4,12 @@ use crate::choosing::{is_endless, number_of};
 use clap::ArgMatches;
 use cp_lanes::SheetExtent;
 
-/// How many states a page goes on from where the words do not say so, and at most.
+/// How many states a page expands where the words do not say so, and at most.
 pub const USUAL_STATES: u32 = 10_000;
 
 const MOST_STATES: u32 = 100_000;
 
-/// How many states a page goes on from; none where the words say what is no such number.
+/// How many states a page expands; none where the words say what is no such number.
 pub fn page_states(matches: &ArgMatches<'_>) -> Option<u32> {
     let Some(states) = matches.get_str("page-states") else {
         return Some(USUAL_STATES);

@@ -31,7 +31,7 @@ pub enum ShowPart {
     },
     /// These rows of the schedule as a picture, or a plain one.
     Lanes(PictureView),
-    /// A page on which the scheduler is played, which goes on from so many states.
+    /// A page on which the scheduler is played, which expands so many states.
     Page {
         states: u32,
     },

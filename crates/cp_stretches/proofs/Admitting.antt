@@ -1,5 +1,5 @@
 -- How a due choice begins.
-use Rattle.std.proofs.Common.{◌≡◌, ◌∙◌, ◌<◌, ℕ, true, false, List, Option, None, Some, ap, arith, length, refl, subst, sym}
+use Rattle.std.proofs.Common.{◌≡◌, ◌∙◌, ◌<◌, ℕ, true, false, List, Option, None, Some, ap, arith, if◌then◌else◌, length, refl, subst, sym}
 use Rattle.std.specs.Prelude.{IfSome, slice_set}
 use Rattle.std.proofs.lemmas.List.{length-set}
 use Rattle.cp_slots.specs.Tables.{Tables}
@@ -16,9 +16,8 @@ use Rattle.cp_run.specs.Code.{IfGoes}
 use Rattle.cp_run.specs.Run.{may, settled_turn}
 use Rattle.cp_run.specs.Silent.{silent_slots}
 use Rattle.cp_run.specs.Slots.{slots}
+use Rattle.cp_run.specs.System.{System}
 use Rattle.cp_run.proofs.Choosing.{may_be_ready, may_in_line}
-use Rattle.cp_run.proofs.Folding.{fold_chosen_free, fold_chosen_gate}
-use Rattle.cp_run.proofs.Walking.{walked_chosen_free, walked_chosen_gate}
 use Rattle.cp_states.specs.Numbers.{number_at}
 use Rattle.cp_parts.specs.declared.placing.PlaceTable.{PlaceTable}
 use Rattle.cp_parts.specs.declared.store.PartStore.{PartStore}
@@ -27,10 +26,13 @@ use Rattle.cp_effects.specs.Admitting.{IsAdmission, admitted_row, guard_position
 use Rattle.cp_effects.proofs.Admitting.{admission_row_law}
 use Rattle.cp_stretches.specs.declared.cache.LegCache.{LegCache}
 use Rattle.cp_stretches.specs.Cached.{IsCache, StandsFor}
-use Rattle.cp_stretches.specs.Stretching.{Begins, MayEnter, shower}
+use Rattle.cp_stretches.specs.Stretching.{Begins, MayEnter}
 use Rattle.cp_stretches.proofs.Turns.{always, ready_settled, silent_settled}
 
 module _ (r : Tables) (discipline : Discipline) (s : PartStore) (t : PlaceTable) (m : Machine) (row : List ℕ) (pid : ℕ) where
+  abbrev quiet : System Machine
+  quiet = silent_slots r discipline
+
   -- ---- nothing is pending
 
   pub begins_free : StandsFor r discipline s t m row → is_pending m ≡ false → may (slots r discipline) m pid ≡ true → Begins r discipline s t m pid (Goes pid) row
@@ -38,8 +40,7 @@ module _ (r : Tables) (discipline : Discipline) (s : PartStore) (t : PlaceTable)
       record {
         after = m;
         stands = record { machine = stands; ready = may_be_ready (slots r discipline) m pid free is; free = free };
-        walked = λ steps. walked_chosen_free (silent_slots r discipline) steps m pid free;
-        told = λ steps shown. fold_chosen_free (silent_slots r discipline) (shower r) steps m pid shown free;
+        begun = ap (λ b. if b then (quiet.admit m pid, settled_turn quiet (quiet.admit m pid) true pid) else (m, Goes pid)) free;
       }
 
   -- ---- a monitor is pending
@@ -83,8 +84,7 @@ module _ (r : Tables) (discipline : Discipline) (s : PartStore) (t : PlaceTable)
             ready = subst (λ u. IfGoes u (λ q. is_ready let_in q ≡ true)) (sym is) (ready_settled r discipline let_in pid);
             free = always r discipline let_in pid turn (is_pending let_in ≡ false) (admitted_free m let_in pid may_be.waits refl);
           };
-          walked = λ steps. walked_chosen_gate (silent_slots r discipline) steps m let_in pid turn wanted refl silent;
-          told = λ steps shown. fold_chosen_gate (silent_slots r discipline) (shower r) steps m let_in pid turn shown shown wanted refl silent refl;
+          begun = ap (λ b. if b then (let_in, settled_turn quiet let_in true pid) else (m, Goes pid)) wanted ∙ ap (λ u. (let_in, u)) (sym silent);
         }
 
 -- ---- a process that waits, its monitor, and the row afterwards

@@ -1,5 +1,5 @@
 -- Stretches, leg by leg.
-use Rattle.std.proofs.Common.{◌≡◌, ◌∙◌, ◌+◌, ◌++◌, ℕ, true, false, List, [], ap, refl, subst, sym}
+use Rattle.std.proofs.Common.{◌≡◌, ◌∙◌, ◌+◌, ◌++◌, ℕ, Bool, true, false, List, [], ap, if◌then◌else◌, refl, subst, sym}
 use Rattle.std.specs.Prelude.{option_to_list}
 use Rattle.cp_slots.specs.Fits.{IsSound}
 use Rattle.cp_slots.specs.Tables.{Tables}
@@ -14,8 +14,8 @@ use Rattle.cp_run.specs.declared.outcome.OutcomeKind.{OutcomeKind}
 use Rattle.cp_run.specs.declared.outcome.Turn.{Turn}
 use Rattle.cp_run.specs.declared.outcome.Turn.TheVariants.{Due, Goes, Over}
 use Rattle.cp_run.specs.Code.{IfGoes}
-use Rattle.cp_run.specs.Fold.{fold_stretch, fold_turn, walked}
-use Rattle.cp_run.specs.Run.{turn_after}
+use Rattle.cp_run.specs.Fold.{fold_chosen, fold_stretch, fold_turn, walked, walked_chosen}
+use Rattle.cp_run.specs.Run.{settled_turn, turn_after}
 use Rattle.cp_run.specs.Silent.{silent_slots, without_output}
 use Rattle.cp_run.specs.Slots.{slots}
 use Rattle.cp_run.specs.System.{System}
@@ -30,7 +30,7 @@ use Rattle.cp_effects.specs.Changes.{written}
 use Rattle.cp_effects.specs.Known.{writes_of}
 use Rattle.cp_effects.specs.Remembered.{GoesAs}
 use Rattle.cp_stretches.specs.Cached.{StandsFor}
-use Rattle.cp_stretches.specs.Stretching.{Begins, GoesOn, LeadsTo, MayGo, StandsAt, shower, turn_of}
+use Rattle.cp_stretches.specs.Stretching.{Begins, GoesOn, LeadsTo, MakesLeg, MayGo, StandsAt, first_of, shower, turn_of}
 use Rattle.cp_stretches.specs.Telling.{IsTold}
 use Rattle.cp_stretches.proofs.Ending.{leg_kept, leg_ruled, leg_shown, leg_tells, other_row, quiet_kept}
 use Rattle.cp_stretches.proofs.Turns.{free_after, ready_after, silent_after}
@@ -67,28 +67,39 @@ module _ (r : Tables) (discipline : Discipline) (s : PartStore) (t : PlaceTable)
         ruled = leg_ruled r m pid e.leg.steps gone.0 gone.1.steps ∙ may.machine.ruled;
       }
 
-  pub gone_on : (left rest : ℕ) (before : List Shown) (turn : Turn) → e.leg.steps + rest ≡ left → turn ≡ turn_after (slots r discipline) after pid e.leg.event → GoesOn r discipline s t m (Goes pid) left before turn rest new (before ++ option_to_list e.shown)
-  gone_on left rest before turn is comes =
-      let silent : turn ≡ turn_after sys after pid e.leg.event = comes ∙ silent_after r discipline after pid e.leg.event in
+  pub makes_leg : (left rest : ℕ) (before : List Shown) (turn : Turn) → e.leg.steps + rest ≡ left → turn ≡ turn_after (slots r discipline) after pid e.leg.event → MakesLeg r discipline s t m pid left before turn rest new (before ++ option_to_list e.shown)
+  makes_leg left rest before turn is comes =
       record {
-        after = after;
+        count = e.leg.steps;
+        last = gone.0;
+        leg = gone.1.steps;
+        long = is;
         stands = record {
           machine = stands_after;
           ready = subst (λ u. IfGoes u (λ q. is_ready after q ≡ true)) (sym comes) (ready_after r discipline after pid e.leg.event not_local);
           free = subst (λ u. IfGoes u (λ q. is_pending after ≡ false)) (sym comes) (free_after r discipline after pid e.leg.event not_local);
         };
-        walked =
-            ap (λ n. walked sys n m (Goes pid)) (sym is)
-            ∙ leg_walked r discipline m pid e.leg.steps rest gone.0 may_step gone.1.steps
-            ∙ ap (λ v. walked sys rest after (turn_after sys after pid v)) gone.1.event
-            ∙ ap (walked sys rest after) (sym silent);
-        told =
-            ap (λ n. fold_stretch sys (shower r) n m pid before) (sym is)
-            ∙ leg_shown r discipline m pid e.leg.steps rest gone.0 before may.machine.quiet may_step gone.1.steps
-            ∙ ap (λ v. fold_turn (fold_stretch sys (shower r) rest after) (turn_after sys after pid v) (before ++ gone.0.machine.output)) gone.1.event
-            ∙ ap (λ u. fold_turn (fold_stretch sys (shower r) rest after) u (before ++ gone.0.machine.output)) (sym silent)
-            ∙ ap (λ out. fold_turn (fold_stretch sys (shower r) rest after) turn (before ++ out)) gone.1.shows;
+        next = comes ∙ silent_after r discipline after pid e.leg.event ∙ ap (turn_after sys after pid) (sym gone.1.event);
+        shows = ap (λ out. before ++ out) (sym gone.1.shows);
       }
+
+-- a stretch goes on by a leg
+pub gone_on : (r : Tables) (discipline : Discipline) (s u : PartStore) (t v : PlaceTable) (m : Machine) (row new : List ℕ) (pid left rest : ℕ) (before shown : List Shown) (turn : Turn) → IsSound r → MayGo r discipline s t m row pid →
+    MakesLeg r discipline u v m pid left before turn rest new shown → GoesOn r discipline u v m (Goes pid) left before turn rest new shown
+gone_on r discipline s u t v m row new pid left rest before shown turn sound may made =
+    let sys : System Machine = silent_slots r discipline in
+    let after : Machine = without_output made.last.machine in
+    let steps : IsToStep r m pid = record { sound = sound; kept = may.machine.kept; ready = may.ready; free = may.free } in
+    record {
+      after = after;
+      stands = made.stands;
+      walked = ap (λ n. walked sys n m (Goes pid)) (sym made.long) ∙ leg_walked r discipline m pid made.count rest made.last steps made.leg ∙ ap (walked sys rest after) (sym made.next);
+      told =
+          ap (λ n. fold_stretch sys (shower r) n m pid before) (sym made.long)
+          ∙ leg_shown r discipline m pid made.count rest made.last before may.machine.quiet steps made.leg
+          ∙ ap (λ next. fold_turn (fold_stretch sys (shower r) rest after) next (before ++ made.last.machine.output)) (sym made.next)
+          ∙ ap (fold_turn (fold_stretch sys (shower r) rest after) turn) (sym made.shows);
+    }
 
 -- ---- leg after leg
 
@@ -122,6 +133,12 @@ module _ (r : Tables) (discipline : Discipline) (s u : PartStore) (t v : PlaceTa
   abbrev whole : System Machine
   whole = silent_slots r discipline
 
+  abbrev let_in : Machine
+  let_in = whole.admit m pid
+
+  abbrev begun_if : Bool → Machine × Turn
+  begun_if b = if b then (let_in, settled_turn whole let_in true pid) else (m, Goes pid)
+
   up : (halt : Halt OutcomeKind) (left : ℕ) (n : Machine) → walked whole left n (turn_of halt) ≡ (n, turn_of halt)
   up Choice left n = walked_up whole left n Due tt
   up (Ended kind) left n = walked_up whole left n (Over kind) tt
@@ -130,12 +147,28 @@ module _ (r : Tables) (discipline : Discipline) (s u : PartStore) (t v : PlaceTa
   no_more Choice on shown = refl
   no_more (Ended kind) on shown = refl
 
+  begun_walked : walked_chosen whole steps m pid ≡ walked whole steps (first_of whole m pid).0 (first_of whole m pid).1
+  unfolding walked_chosen
+  begun_walked = by (whole.is_pending m)
+    where
+      by : (b : Bool) → (if b then walked whole steps let_in (settled_turn whole let_in true pid) else walked whole steps m (Goes pid)) ≡ walked whole steps (begun_if b).0 (begun_if b).1
+      by true = refl
+      by false = refl
+
+  begun_told : (shown : List Shown) → fold_chosen whole (shower r) steps m pid shown ≡ fold_turn (fold_stretch whole (shower r) steps (first_of whole m pid).0) (first_of whole m pid).1 shown
+  unfolding fold_chosen
+  begun_told shown = by (whole.is_pending m)
+    where
+      by : (b : Bool) → (if b then fold_turn (fold_stretch whole (shower r) steps let_in) (settled_turn whole let_in true pid) shown else fold_stretch whole (shower r) steps m pid shown) ≡ fold_turn (fold_stretch whole (shower r) steps (begun_if b).0) (begun_if b).1 shown
+      by true = refl
+      by false = refl
+
   -- a choice leads to where the stretch halts that it begins
   pub leads : (first : Turn) (rest : ℕ) (row new : List ℕ) (before shown : List Shown) (halt : Halt OutcomeKind) → (b : Begins r discipline s t m pid first row) → GoesOn r discipline u v b.after first steps before (turn_of halt) rest new shown → LeadsTo r discipline u v steps m pid before halt new shown
   leads first rest row new before shown halt b g =
       record {
         after = g.after;
         stands = g.stands.machine;
-        walked = b.walked steps ∙ g.walked ∙ up halt rest g.after;
-        told = b.told steps before ∙ g.told ∙ no_more halt (fold_stretch whole (shower r) rest g.after) shown;
+        walked = begun_walked ∙ ap (λ (x : Machine × Turn). walked whole steps x.0 x.1) b.begun ∙ g.walked ∙ up halt rest g.after;
+        told = begun_told before ∙ ap (λ (x : Machine × Turn). fold_turn (fold_stretch whole (shower r) steps x.0) x.1 before) b.begun ∙ g.told ∙ no_more halt (fold_stretch whole (shower r) rest g.after) shown;
       }

@@ -23,20 +23,38 @@ use cp_slots::Resolved;
 use std::alloc::{AllocError, Global};
 
 /// A state with its row.
-#[derive(Drop)]
 pub struct Standing {
     pub state: State,
     pub row: Vec<u32>,
 }
 
+// One call where it is dropped, not one for each list: proofs of functions that may end early are much shorter.
+impl Drop for Standing {
+    fn drop(self) {
+        let Standing { state: _, row: _ } = self;
+    }
+}
+
 /// What is known of the parts of states, of legs, and of admissions.
-#[derive(Drop)]
 pub struct LegCache {
     pub table: PlaceTable,
     pub store: PartStore,
     pub numbers: StatusNumbers,
     pub legs: LegTable,
     pub admissions: AdmissionTable,
+}
+
+// One call where it is dropped, not one for each list: proofs of functions that may end early are much shorter.
+impl Drop for LegCache {
+    fn drop(self) {
+        let LegCache {
+            table: _,
+            store: _,
+            numbers: _,
+            legs: _,
+            admissions: _,
+        } = self;
+    }
 }
 
 impl LegCache {

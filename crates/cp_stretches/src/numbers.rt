@@ -129,8 +129,9 @@ impl StatusNumbers {
         readiness
     }
 
-    // Whether it is the number of a status in which a process neither is at a gate nor delayed.
-    fn rests(&self, number: u32) -> bool
+    /// Whether it is the number of a status in which a process neither is at a gate nor delayed.
+    #[inline(always)]
+    pub fn rests(&self, number: u32) -> bool
         ensures { result ≡ rests_at self.now number }
     {
         number == self.ready || number == self.unstarted || number == self.ended

@@ -15,7 +15,7 @@ ghost use Rattle.cp_effects.specs.Changes.{written};
 ghost use Rattle.cp_effects.specs.Known.{writes_of};
 ghost use Rattle.cp_stretches.specs.Cached.{IsCache, IsStanding, StandsFor};
 ghost use Rattle.cp_stretches.specs.Numbers.{CanRead};
-ghost use Rattle.cp_stretches.specs.Stretching.{GoesOn, LeadsTo, MayGo, StandsAt, turn_of};
+ghost use Rattle.cp_stretches.specs.Stretching.{GoesOn, LeadsTo, MakesLeg, MayGo, StandsAt, turn_of};
 ghost use Rattle.cp_stretches.specs.Telling.{IsSought, IsTold};
 
 use crate::cache::{LegCache, Standing};
@@ -25,8 +25,8 @@ use cp_machine::Shown;
 use cp_run::{Halt, Job, OutcomeKind, Turn};
 use std::alloc::{AllocError, Global};
 
-// Where a stretch halts before which this comes next; `None` where a process goes on.
-fn halt_of(turn: Turn) -> Option<Halt<OutcomeKind>>
+/// Where a stretch halts before which this comes next; `None` where a process goes on.
+pub fn halt_of(turn: Turn) -> Option<Halt<OutcomeKind>>
     ensures { IfSome result (λ halt. turn ≡ turn_of halt) }
 {
     match turn {
@@ -144,9 +144,9 @@ impl LegCache {
         )
     }
 
-    // A leg of a process more, of at most as many steps as are left. Answers what comes next; `None` where that isn't known.
+    /// A leg of a process more, of at most as many steps as are left. Answers what comes next; `None` where that isn't known.
     #[inline(always)]
-    fn advance(
+    pub fn advance(
         &mut self,
         alloc: Global,
         job: &Job<'_>,
@@ -163,7 +163,7 @@ impl LegCache {
         ensures standing { IfOk result (λ _. IsStanding job.now.program.now self.new.store self.new.table standing.new) }
         ensures kept { KeepStore self.old.store self.new.store }
         ensures table { self.new.table ≡ self.old.table }
-        ensures goes { IfOk result (λ next. IfSome next (λ turn. (m : Machine) → MayGo job.now.program.now job.now.limits.discipline self.old.store self.old.table m row.old pid → GoesOn job.now.program.now job.now.limits.discipline self.new.store self.new.table m (Turn.Goes pid) left.old shown.old.items turn left.new row.new shown.new.items)) }
+        ensures makes { IfOk result (λ next. IfSome next (λ turn. (m : Machine) → MayGo job.now.program.now job.now.limits.discipline self.old.store self.old.table m row.old pid → MakesLeg job.now.program.now job.now.limits.discipline self.new.store self.new.table m pid left.old shown.old.items turn left.new row.new shown.new.items)) }
     {
         let Some(known) = self.leg(alloc, job, row, pid, standing)? else {
             return Ok(None);

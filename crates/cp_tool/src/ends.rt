@@ -38,7 +38,7 @@ pub fn find_ends<O: ObserveProgress>(
     }
 }
 
-// By a search that goes on from each state.
+// By a search that expands each state.
 fn ends_answer<O: ObserveProgress>(
     alloc: Global,
     options: &Options,

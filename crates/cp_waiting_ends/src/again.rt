@@ -1,4 +1,4 @@
-//! Who waits at the ends of schedules of any length: the states that a search of ends kept, gone on from once more.
+//! Who waits at the ends of schedules of any length: the states that a search of ends kept, expanded once more.
 
 ghost use Rattle.std.specs.Prelude.{◌≡◌, ◌+◌, ◌∷◌, ◌++◌, ℕ, List, [], Option, true, IfOk};
 ghost use Rattle.cp_slots.specs.Tables.{Tables};
@@ -32,7 +32,7 @@ struct Searched<'a> {
     looked: Option<usize>,
 }
 
-/// Goes on once more from each state that a search of ends found, with each number that may be chosen there, and notes who waits at each end
+/// Expands once more each state that a search of ends found, with each number that may be chosen there, and notes who waits at each end
 /// at which all wait, with the first word that leads there. Words that are longer than those that the search looked at are left out. An
 /// observer is told how far this has come.
 pub fn find_again<O: ObserveProgress>(
@@ -143,7 +143,7 @@ fn begin(
     Ok(())
 }
 
-// Goes on from the state of this number, with each number that may be chosen there.
+// Expands the state of this number, with each number that may be chosen there.
 fn go_on(
     job: &SearchJob<'_>,
     searched: &Searched<'_>,

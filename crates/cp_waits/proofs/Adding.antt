@@ -167,7 +167,7 @@ module _ {S : Type 0} (sys : System S) (inside waiting : S → ℕ → Bool) (st
           let m_here : may sys x.0 p ≡ true = subst (λ (z : S × List ℕ). may sys z.0 p ≡ true) same m in
           subst (λ k. HasStill c (Choice k p) q) (sym e) (still_stays b c (Choice n p) q (λ s h. subst (λ l. Contains l s) (sym stills) h) (new.all p q (may_be_those (may sys x.0) sys.processes p (may_below sys x.0 p m_here) m_here) below w_here))
 
-  -- all states were gone on from
+  -- all states were expanded
   pub graph_done : (n : ℕ) (g : Graph) → IsGraphTo sys inside waiting steps states n g → length states ≤ n → IsGraphOf sys inside waiting steps states g
   graph_done n g x le =
       let within = x.within in

@@ -1,8 +1,7 @@
 -- The numbers of states, and of processes.
-use Rattle.std.proofs.Common.{◌≡◌, ◌≤◌, ◌∙◌, ℕ, Bool, true, List, Option, None, Some, length, refl, sym, subst, arith}
-use Rattle.cp_waits.proofs.Words.{length-map, Tables, thread_of, Machine, IsStateOf, threads_count, Node, Halted, Choosing, may, System, slots, silent_slots}
+use Rattle.std.proofs.Common.{◌≡◌, ℕ, Bool, true, List, Option, None, Some, refl, sym, subst}
+use Rattle.cp_waits.proofs.Words.{Tables, Machine, Node, Halted, Choosing, may, System, slots, silent_slots}
 use Rattle.cp_waits.proofs.Words.{ComesTo, IsNumber, Leg, PassingSets}
-use Rattle.cp_machine.specs.declared.state.State.{State}
 use Rattle.cp_machine.specs.declared.discipline.Discipline.{Discipline}
 use Rattle.cp_ends.specs.Answer.{HasNumber, halt_of, has_room, number_of}
 use Rattle.cp_ends.specs.Legs.{IsHalted, with_round}
@@ -32,7 +31,3 @@ may_there r discipline m p = refl
 
 pub quiet_may : (r : Tables) (discipline : Discipline) (m : Machine) → may (slots r discipline) m ≡ may (silent_slots r discipline) m
 quiet_may r discipline m = λ i p. may_there r discipline m p i
-
--- there are at most sixteen processes
-pub few_processes : (r : Tables) (s : State) → IsStateOf r s → length s.processes.items ≤ 16 → length r.processes ≤ 16
-few_processes r s own few = let same : length r.processes ≡ length s.processes.items = sym (threads_count r s own) ∙ length-map s.processes.items thread_of in omega (arith, same, few)

@@ -31,9 +31,6 @@ either_test : (X Y Z : Type 0) (a b c : Bool) → a ≡ (b || c) → (b ≡ true
 either_test X Y Z a true c e x y to from = (λ t. to (inl (x.0 refl)), λ z. e)
 either_test X Y Z a false c e x y to from = (λ t. to (inr (y.0 (sym e ∙ t))), λ z. ⊎_elim (λ (h : X). absurd (differ (x.1 h))) (λ (h : Y). e ∙ y.1 h) (from z))
 
-alike : (a : Bool) → (a ≡ true) ↔ (a ≡ true)
-alike a = (λ h. h, λ h. h)
-
 -- all of them, with more
 all_more : {A : Type 0} (P : A → Type 0) (D : Type 0) (xs ys : List A) (a b c : Bool) → a ≡ (b && c) → (b ≡ true) ↔ (D × Each P xs) → (c ≡ true) ↔ Each P ys → (a ≡ true) ↔ (D × Each P (xs ++ ys))
 all_more P D xs ys a b c e x y =
@@ -61,9 +58,6 @@ some_more P D xs ys a b c e x y =
     back (inr h) = ⊎_elim (λ (l : AnyOf P xs). inl (inr l)) (λ (r : AnyOf P ys). inr r) (any_apart P xs ys h)
 
 -- one that is seen alone
-one_all : (T : Type 0) (a : Bool) → (a ≡ true) ↔ T → (a ≡ true) ↔ (T × ⊤)
-one_all T a x = (λ t. (x.0 t, tt), λ h. x.1 h.0)
-
 one_any : (T : Type 0) (a : Bool) → (a ≡ true) ↔ T → (a ≡ true) ↔ (T ⊎ ⊥)
 one_any T a x = (λ t. inl (x.0 t), λ h. ⊎_elim (λ (k : T). x.1 k) (λ (k : ⊥). absurd k) h)
 
@@ -92,39 +86,39 @@ module _ {S : Type 0} (sys : System S) (inside waiting : S → ℕ → Bool) whe
         served = served;
       }
 
-  -- a due choice is seen
-  pub seen_due : (s : S) (p new : PassingSets) → Seen sys inside waiting [] [] p → ((q : ℕ) → q < sys.processes → has new.wait q ≡ (has p.wait q && waiting s q)) → ((q : ℕ) → q < sys.processes → has new.wait_once q ≡ (has p.wait_once q || waiting s q)) → ((q : ℕ) → q < sys.processes → has new.stay q ≡ (has p.stay q && inside s q)) → new.step ≡ p.step → new.served ≡ p.served →
-      Seen sys inside waiting (s ∷ []) [] new
-  seen_due s p new h wait wait_once stay step served =
+  -- a due choice is seen, by what is seen of its state
+  pub seen_due : (s : S) (p : PassingSets) → ((q : ℕ) → q < sys.processes → has p.wait q ≡ waiting s q) → ((q : ℕ) → q < sys.processes → has p.wait_once q ≡ waiting s q) → ((q : ℕ) → q < sys.processes → has p.stay q ≡ inside s q) → ((q : ℕ) → q < sys.processes → has p.step q ≡ false) → ((q : ℕ) → q < sys.processes → has p.served q ≡ false) →
+      Seen sys inside waiting (s ∷ []) [] p
+  seen_due s p wait wait_once stay step served =
       record {
-        wait = λ q lt. both_tests (⊤ × ⊤) (waiting s q ≡ true) (((waiting s q ≡ true) × ⊤) × ⊤) (has new.wait q) (has p.wait q) (waiting s q) (wait q lt) (h.wait q lt) (alike (waiting s q)) (λ x y. ((y, tt), tt)) (λ z. ((tt, tt), z.0.0));
-        wait_once = λ q lt. either_test (⊥ ⊎ ⊥) (waiting s q ≡ true) (((waiting s q ≡ true) ⊎ ⊥) ⊎ ⊥) (has new.wait_once q) (has p.wait_once q) (waiting s q) (wait_once q lt) (h.wait_once q lt) (alike (waiting s q)) (there q) (back q);
-        stay = λ q lt. both_tests (⊤ × ⊤) (inside s q ≡ true) (((inside s q ≡ true) × ⊤) × ⊤) (has new.stay q) (has p.stay q) (inside s q) (stay q lt) (h.stay q lt) (alike (inside s q)) (λ x y. ((y, tt), tt)) (λ z. ((tt, tt), z.0.0));
-        step = subst (λ k. AreThose sys.processes k (λ q. ⊥)) (sym step) h.step;
-        served = subst (λ k. AreThose sys.processes k (λ q. ⊥)) (sym served) h.served;
+        wait = λ q lt. (λ t. ((sym (wait q lt) ∙ t, tt), tt), λ z. wait q lt ∙ z.0.0);
+        wait_once = λ q lt. (λ t. inl (inl (sym (wait_once q lt) ∙ t)), λ z. wait_once q lt ∙ back q z);
+        stay = λ q lt. (λ t. ((sym (stay q lt) ∙ t, tt), tt), λ z. stay q lt ∙ z.0.0);
+        step = λ q lt. (λ t. differ (sym (step q lt) ∙ t), λ z. absurd z);
+        served = λ q lt. (λ t. differ (sym (served q lt) ∙ t), λ z. absurd z);
       }
     where
-      there : (q : ℕ) → (⊥ ⊎ ⊥) ⊎ (waiting s q ≡ true) → ((waiting s q ≡ true) ⊎ ⊥) ⊎ ⊥
-      there q (inl (inl k)) = absurd k
-      there q (inl (inr k)) = absurd k
-      there q (inr k) = inl (inl k)
-
-      back : (q : ℕ) → ((waiting s q ≡ true) ⊎ ⊥) ⊎ ⊥ → (⊥ ⊎ ⊥) ⊎ (waiting s q ≡ true)
-      back q (inl (inl k)) = inr k
+      back : (q : ℕ) → ((waiting s q ≡ true) ⊎ ⊥) ⊎ ⊥ → waiting s q ≡ true
+      back q (inl (inl k)) = k
       back q (inl (inr k)) = absurd k
       back q (inr k) = absurd k
 
-  -- one moment more
-  pub seen_next : (due : List S) (ms : List (Moment S)) (m : Moment S) (p new : PassingSets) → Seen sys inside waiting due ms p → ((q : ℕ) → q < sys.processes → has new.wait q ≡ (has p.wait q && waiting m.state q)) → ((q : ℕ) → q < sys.processes → has new.wait_once q ≡ (has p.wait_once q || waiting m.state q)) → ((q : ℕ) → q < sys.processes → has new.stay q ≡ (has p.stay q && inside m.state q)) → ((q : ℕ) → q < sys.processes → has new.step q ≡ (has p.step q || nat_eq q m.mover)) → ((q : ℕ) → q < sys.processes → has new.served q ≡ (has p.served q || (not (sys.is_ready m.state q) || nat_eq q m.mover))) →
-      Seen sys inside waiting due (ms ++ m ∷ []) new
-  seen_next due ms m p new h wait wait_once stay step served =
+  -- one moment is seen
+  pub seen_moment : (m : Moment S) (p : PassingSets) → ((q : ℕ) → q < sys.processes → has p.wait q ≡ waiting m.state q) → ((q : ℕ) → q < sys.processes → has p.wait_once q ≡ waiting m.state q) → ((q : ℕ) → q < sys.processes → has p.stay q ≡ inside m.state q) → ((q : ℕ) → q < sys.processes → has p.step q ≡ nat_eq q m.mover) → ((q : ℕ) → q < sys.processes → has p.served q ≡ (not (sys.is_ready m.state q) || nat_eq q m.mover)) →
+      Seen sys inside waiting [] (m ∷ []) p
+  seen_moment m p wait wait_once stay step served =
       record {
-        wait = λ q lt. all_more (λ (x : Moment S). waiting x.state q ≡ true) (Each (λ t. waiting t q ≡ true) due) ms (m ∷ []) (has new.wait q) (has p.wait q) (waiting m.state q) (wait q lt) (h.wait q lt) (one_all (waiting m.state q ≡ true) (waiting m.state q) (alike (waiting m.state q)));
-        wait_once = λ q lt. some_more (λ (x : Moment S). waiting x.state q ≡ true) (AnyOf (λ t. waiting t q ≡ true) due) ms (m ∷ []) (has new.wait_once q) (has p.wait_once q) (waiting m.state q) (wait_once q lt) (h.wait_once q lt) (one_any (waiting m.state q ≡ true) (waiting m.state q) (alike (waiting m.state q)));
-        stay = λ q lt. all_more (λ (x : Moment S). inside x.state q ≡ true) (Each (λ t. inside t q ≡ true) due) ms (m ∷ []) (has new.stay q) (has p.stay q) (inside m.state q) (stay q lt) (h.stay q lt) (one_all (inside m.state q ≡ true) (inside m.state q) (alike (inside m.state q)));
-        step = λ q lt. any_more (λ (x : Moment S). x.mover ≡ q) ms (m ∷ []) (has new.step q) (has p.step q) (nat_eq q m.mover) (step q lt) (h.step q lt) (one_any (m.mover ≡ q) (nat_eq q m.mover) (same_number q m.mover));
-        served = λ q lt. any_more (λ (x : Moment S). (x.mover ≡ q) ⊎ (sys.is_ready x.state q ≡ false)) ms (m ∷ []) (has new.served q) (has p.served q) (not (sys.is_ready m.state q) || nat_eq q m.mover) (served q lt) (h.served q lt) (one_any ((m.mover ≡ q) ⊎ (sys.is_ready m.state q ≡ false)) (not (sys.is_ready m.state q) || nat_eq q m.mover) (is_served (sys.is_ready m.state q) q m.mover));
+        wait = λ q lt. (λ t. (tt, (sym (wait q lt) ∙ t, tt)), λ z. wait q lt ∙ z.1.0);
+        wait_once = λ q lt. (λ t. inr (inl (sym (wait_once q lt) ∙ t)), λ z. wait_once q lt ∙ back q z);
+        stay = λ q lt. (λ t. (tt, (sym (stay q lt) ∙ t, tt)), λ z. stay q lt ∙ z.1.0);
+        step = λ q lt. subst (λ b. (b ≡ true) ↔ ((m.mover ≡ q) ⊎ ⊥)) (sym (step q lt)) (one_any (m.mover ≡ q) (nat_eq q m.mover) (same_number q m.mover));
+        served = λ q lt. subst (λ b. (b ≡ true) ↔ (((m.mover ≡ q) ⊎ (sys.is_ready m.state q ≡ false)) ⊎ ⊥)) (sym (served q lt)) (one_any ((m.mover ≡ q) ⊎ (sys.is_ready m.state q ≡ false)) (not (sys.is_ready m.state q) || nat_eq q m.mover) (is_served (sys.is_ready m.state q) q m.mover));
       }
+    where
+      back : (q : ℕ) → ⊥ ⊎ ((waiting m.state q ≡ true) ⊎ ⊥) → waiting m.state q ≡ true
+      back q (inl k) = absurd k
+      back q (inr (inl k)) = k
+      back q (inr (inr k)) = absurd k
 
   -- those of another passing come after these
   pub seen_then : (due : List S) (ms ns : List (Moment S)) (p more new : PassingSets) → Seen sys inside waiting due ms p → Seen sys inside waiting [] ns more → ((q : ℕ) → has new.wait q ≡ (has p.wait q && has more.wait q)) → ((q : ℕ) → has new.wait_once q ≡ (has p.wait_once q || has more.wait_once q)) → ((q : ℕ) → has new.stay q ≡ (has p.stay q && has more.stay q)) → ((q : ℕ) → has new.step q ≡ (has p.step q || has more.step q)) → ((q : ℕ) → has new.served q ≡ (has p.served q || has more.served q)) →

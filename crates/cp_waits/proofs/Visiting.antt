@@ -1,5 +1,5 @@
--- A search that has gone on from each state has their graph.
-use Rattle.std.proofs.Common.{◌≡◌, ◌∙◌, sym, ℕ, List, Option, None, Some, arith}
+-- A search that has expanded each state has their graph.
+use Rattle.std.proofs.Common.{◌≡◌, ◌∙◌, sym, ℕ, List, Option, None, Some, arith, length}
 use Rattle.cp_search.specs.Searched.{IsSearched}
 use Rattle.cp_machine.specs.declared.discipline.Discipline.{Discipline}
 use Rattle.cp_machine.specs.declared.shown.Shown.{Shown}
@@ -11,12 +11,17 @@ use Rattle.cp_ends.specs.declared.found.Found.{Found}
 use Rattle.cp_ends.proofs.GoingOn.{stop_noted}
 use Rattle.cp_ends.proofs.Saying.{done_whole}
 use Rattle.cp_ends.proofs.Searching.Lists.{grows_same}
-use Rattle.cp_waits.proofs.Words.{Machine, Tables, Graph, some_same, silent_slots, in_call_on_slots, waits_on_slots}
+use Rattle.cp_waits.specs.Passings.{IsLook}
+use Rattle.cp_waits.proofs.Words.{Machine, Tables, Graph, PassingSets, some_same, silent_slots, in_call_on_slots, waits_on_slots}
 use Rattle.cp_waits.proofs.Adding.{graph_done}
 use Rattle.cp_waits.specs.Building.{IsBuilt, IsSearchedGraph, IsSlotGraphTo, findings_at}
 use Rattle.cp_waits.specs.Graphs.{HasGraph}
 
--- the state that is gone on from is one, however far
+-- what a look sees
+abbrev pub looks_so : PassingSets → Tables → Machine → Type 0
+looks_so p r m = IsLook (length r.processes) m p
+
+-- the state that is expanded is one, however far
 pub from_same : (r : Tables) (g : ends.Graph Machine End Shown) (most : ℕ) (old new : Found) (at : ℕ) (m n : Machine) (ps qs : List ℕ) (x : IsWithin r g most new at n qs) (y : IsWithin r g most old at m ps) → x.from ≡ y.from
 from_same r g most old new at m n ps qs x y = some_same x.from y.from (sym x.is ∙ y.is)
 

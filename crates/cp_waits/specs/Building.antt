@@ -77,7 +77,7 @@ module _ (r : Tables) (discipline : Discipline) (steps most : ℕ) where
   abbrev pub findings_at : ℕ → SlotFindings
   findings_at n = searched (slot_graph r discipline steps) ends_tests n
 
-  -- the states before this number were gone on from, and it is their graph, whatever is found after them
+  -- the states before this number were expanded, and it is their graph, whatever is found after them
   pub record IsBuiltTo (found : Found) (n : ℕ) (g : Graph) : Type 0 where
     pub ends : HoldsFew r most found (findings_at n)
     pub graph : (states : List (Machine × List ℕ)) → Grows (findings_at n).states states → IsSlotGraphTo r discipline steps states n g
@@ -89,12 +89,12 @@ module _ (r : Tables) (discipline : Discipline) (steps most : ℕ) where
     pub before : (states : List (Machine × List ℕ)) → Grows (findings_at at).states states → IsSlotGraphTo r discipline steps states at old
     pub adds : (states : List (Machine × List ℕ)) → Grows (gone_with (slot_graph r discipline steps) ends.from numbers (findings_at at)).states states → AddsChoicesOnSlots r discipline steps states at m numbers old g
 
-  -- each state was gone on from, and it is their graph
+  -- each state was expanded, and it is their graph
   pub record IsBuilt (found : Found) (g : Graph) : Type 0 where
     pub whole : visited.IsWhole r (slot_graph r discipline steps) most found
     pub graph : (states : List (Machine × List ℕ)) → Grows (findings_at whole.count).states states → IsSlotGraphTo r discipline steps states whole.count g
 
-  -- the answer of a search: each state was gone on from, and it is their graph, or it stopped at this state
+  -- the answer of a search: each state was expanded, and it is their graph, or it stopped at this state
   abbrev pub IsSearchedGraph : Found → Graph → Option ℕ → Type 0
   IsSearchedGraph found g None = (done : IsDone r (slot_graph r discipline steps) most found) × IsSlotGraphOf r discipline steps (findings_at done.count).states g
   IsSearchedGraph found g (Some at) = IsStopped r (slot_graph r discipline steps) most found at

@@ -1,8 +1,8 @@
 -- What a passing says of what was seen of a stretch.
-use Rattle.std.specs.Prelude.{◌≡◌, ◌⊎◌, ◌<◌, ◌↔◌, ℕ, List, Bool, true}
+use Rattle.std.specs.Prelude.{◌≡◌, ◌⊎◌, ◌<◌, ◌≤◌, ◌↔◌, ◌&&◌, ℕ, List, Bool, false, nat_lt, not, true}
 use Rattle.std.specs.List.{AllByRecursion as Each}
 use Rattle.cp_slots.specs.Tables.{Tables}
-use Rattle.cp_machine.specs.System.{Machine}
+use Rattle.cp_machine.specs.System.{Machine, is_ready}
 use Rattle.cp_machine.specs.declared.discipline.Discipline.{Discipline}
 use Rattle.cp_run.specs.System.{System}
 use Rattle.cp_endless_laws.specs.Fair.{IsServed}
@@ -27,3 +27,12 @@ pub record Seen {S : Type 0} (sys : System S) (inside waiting : S → ℕ → Bo
 -- of the slot machine that shows nothing
 abbrev pub HasSeen : Tables → Discipline → List Machine → List (Moment Machine) → PassingSets → Type 0
 HasSeen r discipline due ms p = Seen (silent_slots r discipline) in_call_on_slots waits_on_slots due ms p
+
+-- a look at the first n processes of a machine: who waits, who is in its call, and who is not ready
+pub record IsLook (n : ℕ) (m : Machine) (p : PassingSets) : Type 0 where
+  pub few : n ≤ 16
+  pub wait : (q : ℕ) → q < 16 → has p.wait q ≡ (nat_lt q n && waits_on_slots m q)
+  pub wait_once : (q : ℕ) → q < 16 → has p.wait_once q ≡ (nat_lt q n && waits_on_slots m q)
+  pub stay : (q : ℕ) → q < 16 → has p.stay q ≡ (nat_lt q n && in_call_on_slots m q)
+  pub step : (q : ℕ) → q < 16 → has p.step q ≡ false
+  pub served : (q : ℕ) → q < 16 → has p.served q ≡ (nat_lt q n && not (is_ready m q))

@@ -14,14 +14,15 @@ ghost use Rattle.cp_waits.specs.Legs.{Comes};
 
 use crate::graph::{Edge, Graph, Standstill};
 use crate::passing::PassingSets;
+use arrayvec::ArrayVec;
 use cp_ends::Found;
 use cp_ends::origin::Origin;
-use cp_ends::search::EndsVisit;
-use cp_ends::sight::Sight;
-use cp_machine::State;
+use cp_ends::row::StateRow;
+use cp_ends::rows::RowSearch;
+use cp_ends::visit::{RowVisit, visit_rows};
 use cp_progress::{ObserveProgress, Progress};
 use cp_run::{Halt, Job};
-use cp_search::{SearchJob, Visit, visit_all};
+use cp_search::SearchJob;
 use std::alloc::{AllocError, Global};
 
 /// What a search finds, and the choices of each state with what happens on the way to the next one.
@@ -31,11 +32,20 @@ pub struct FoundGraph {
     pub graph: Graph,
 }
 
-// What is found so far, and the choices of the states that were gone on from.
-#[derive(Drop)]
+// What is found so far, and the choices of the states that were expanded.
 struct GraphVisit {
-    ends: EndsVisit<PassingSets>,
+    search: RowSearch<PassingSets>,
     graph: Graph,
+}
+
+// One call where it is dropped, not one for each list: proofs of functions that may end early are much shorter.
+impl Drop for GraphVisit {
+    fn drop(self) {
+        let GraphVisit {
+            search: _,
+            graph: _,
+        } = self;
+    }
 }
 
 /// Searches as for ends, and notes each choice. An observer is told how far this has come.
@@ -65,78 +75,100 @@ fn build_graph<O: ObserveProgress>(
     requires most { 1 ≤ job.now.most }
     ensures { IfOk result (λ x. IsSearchedGraph job.now.run.program.now job.now.run.limits.discipline job.now.run.limits.steps job.now.most x.found x.graph x.found.stopped) }
 {
-    let ends = EndsVisit::new(job, PassingSets::begin(job.run.program))?;
+    let search = RowSearch::start(job)?;
     let graph = Graph::new(job.alloc, job.run.program.processes());
-    let mut visit: GraphVisit = GraphVisit { ends, graph };
-    let mut state = State::start(job.alloc, job.run.program, job.run.limits.discipline)?;
-    let arrived = visit.ends.open(job, &mut state)?;
-    let halt = arrived.halt(visit.ends.told.again);
+    let mut visit: GraphVisit = GraphVisit { search, graph };
+    let arrived = visit.search.open(job)?;
+    let halt = arrived.halt(visit.search.told.again);
     visit.graph.note_standstill(halt, Origin::Start)?;
-    let mut next = state.copy(job.alloc)?;
-    let stopped = visit_all(job, &mut visit, &mut state, &mut next, observer)?;
-    let GraphVisit { ends, graph } = visit;
-    let mut found = ends.found;
-    found.stopped = stopped;
-    Ok(FoundGraph { found, graph })
+    let stopped = visit_rows(job, &mut visit, observer)?;
+    visit.search.found.stopped = stopped;
+    Ok(visit.into_found())
 }
 
-impl Visit for GraphVisit {
+impl GraphVisit {
+    // What is found, without the room.
+    fn into_found(self) -> FoundGraph
+        ensures { result ≡ record { found = self.search.found; graph = self.graph } }
+    {
+        let GraphVisit { search, graph } = self;
+        FoundGraph {
+            found: search.into_found(),
+            graph,
+        }
+    }
+}
+
+impl RowVisit<PassingSets> for GraphVisit {
+    ghost use Rattle.std.specs.Prelude.{length};
     ghost use Rattle.cp_ends.specs.Answer.{IsStopped, slot_graph};
+    ghost use Rattle.cp_ends.specs.ByRows.{HasRoom, IsWithinRow};
     ghost use Rattle.cp_waits.specs.Building.{IsBuilt, IsBuiltTo, IsWithin};
+    ghost use Rattle.cp_waits.specs.Passings.{IsLook};
 
-    ghost before = { λ v job n. IsBuiltTo job.run.program.now job.run.limits.discipline job.run.limits.steps job.most v.ends.found n v.graph };
+    ghost before = { λ v job n. HasRoom job.run.limits.discipline v.search × IsBuiltTo job.run.program.now job.run.limits.discipline job.run.limits.steps job.most v.search.found n v.graph };
 
-    ghost within = { λ v job at m done. IsWithin job.run.program.now job.run.limits.discipline job.run.limits.steps job.most v.ends.found at m done v.graph };
+    ghost within = { λ v job from at m done. IsWithinRow (λ p r n. IsLook (length r.processes) n p) job.run.program.now job.run.limits.discipline job.run.limits.steps job.most v.search from at m done × IsWithin job.run.program.now job.run.limits.discipline job.run.limits.steps job.most v.search.found at m done v.graph };
 
-    ghost over = { λ v job. IsBuilt job.run.program.now job.run.limits.discipline job.run.limits.steps job.most v.ends.found v.graph };
+    ghost over = { λ v job. IsBuilt job.run.program.now job.run.limits.discipline job.run.limits.steps job.most v.search.found v.graph };
 
-    ghost stops = { λ v job at. IsStopped job.run.program.now (slot_graph job.run.program.now job.run.limits.discipline job.run.limits.steps) job.most v.ends.found at };
+    ghost stops = { λ v job at. IsStopped job.run.program.now (slot_graph job.run.program.now job.run.limits.discipline job.run.limits.steps) job.most v.search.found at };
 
     fn len(&self) -> usize {
-        self.ends.len()
+        self.search.len()
     }
 
     fn progress(&self, choices: u32) -> Progress {
-        self.ends.progress(choices)
+        self.search.progress(choices)
     }
 
-    fn thaw_at(&mut self, _job: &SearchJob<'_>, number: u32, state: &mut State) -> bool {
-        self.ends.found.states.thaw_at(number, state)
+    #[inline(always)]
+    fn state_at(&self, _job: &SearchJob<'_>, number: u32) -> Option<StateRow<PassingSets>> {
+        self.search.found.states.state_at(number)
     }
 
+    #[inline(always)]
+    fn candidates(
+        &self,
+        job: &SearchJob<'_>,
+        at: u32,
+        from: &StateRow<PassingSets>,
+    ) -> ArrayVec<u8, 16> {
+        self.search.candidates(job, at, from)
+    }
+
+    #[inline(always)]
     fn take(
         &mut self,
         job: &SearchJob<'_>,
         at: u32,
-        state: &State,
-        next: &mut State,
+        from: &StateRow<PassingSets>,
         process: u8,
     ) -> Result<bool, AllocError> {
-        let arrived = self.ends.take_choice(job, at, state, next, process)?;
+        let arrived = self.search.take_choice(job, at, from, process)?;
         if !arrived.has_room() {
             return Ok(false);
         }
-        self.ends.restore(state, next, arrived);
         let origin = Origin::Choice {
             state: at,
             number: process,
         };
-        let halt = arrived.halt(self.ends.told.again);
+        let halt = arrived.halt(self.search.told.again);
         self.graph.note_standstill(halt, origin)?;
         self.graph.edges.push(Edge {
             number: process,
             to: arrived.number(),
-            passing: self.ends.told.seen,
+            passing: self.search.told.seen,
         })?;
         Ok(true)
     }
 
     fn end_state(&mut self, job: &SearchJob<'_>, at: u32) -> Result<(), AllocError> {
-        self.ends.end_state(job, at)?;
+        self.search.end_state(job, at)?;
         self.graph.end_state()
     }
 
-    ghost fills = { λ v job built. record { whole = record { count = job.most; holds = built.ends; all = built.ends.few }; graph = built.graph } };
+    ghost fills = { λ v job h. record { whole = record { count = job.most; holds = h.1.ends; all = h.1.ends.few }; graph = h.1.graph } };
 }
 
 impl Graph {

@@ -27,13 +27,24 @@ pub struct Standstill {
 }
 
 /// The choices of each state, by the number of the state.
-#[derive(Drop)]
 pub struct Graph {
     pub processes: u8,
     pub edges: Vec<Edge>,
     pub standstills: Vec<Standstill>,
     // Where the edges of each state end.
     ends: Vec<usize>,
+}
+
+// One call where it is dropped, not one for each list: proofs of functions that may end early are much shorter.
+impl Drop for Graph {
+    fn drop(self) {
+        let Graph {
+            processes: _,
+            edges: _,
+            standstills: _,
+            ends: _,
+        } = self;
+    }
 }
 
 impl Graph {

@@ -1,19 +1,15 @@
 //! What processes do from one due choice to the next.
 
-ghost use Rattle.std.specs.Prelude.{◌≡◌, ◌<◌, ◌&&◌, ◌||◌, ◌∷◌, ◌++◌, ℕ, List, [], length, not, true, nat_eq};
-ghost use Rattle.std.specs.List.{list_any};
+ghost use Rattle.std.specs.Prelude.{◌≡◌, ◌<◌, ◌+◌, ℕ, false, length};
 ghost use Rattle.cp_slots.specs.Tables.{Tables};
-ghost use Rattle.cp_machine.specs.System.{Machine, machine_of, is_ready, IsStateOf};
-ghost use Rattle.cp_machine.specs.declared.discipline.Discipline as slot_discipline;
-ghost use Rattle.cp_endless_laws.specs.Moments.{Moment};
-ghost use Rattle.cp_endless_laws.specs.Silent.{has_monitor_return, in_call_on_slots, waits_on_slots};
-ghost use Rattle.cp_waits.specs.Passings.{HasSeen};
-ghost use Rattle.cp_waits.specs.Sets.{has};
+ghost use Rattle.cp_machine.specs.System.{Machine};
+ghost use Rattle.cp_waits.specs.Passings.{IsLook};
 ghost use Rattle.cp_waits.specs.Keeps.{keeps, lacks};
+ghost use Rattle.cp_waits.specs.Sets.{has};
 
 use crate::set::Set;
+use cp_ends::look::Look;
 use cp_ends::sight::Sight;
-use cp_machine::{Entry, State};
 use cp_slots::Resolved;
 
 /// What processes do at the moments of a stretch: at the choice before it, and before each of its steps.
@@ -32,28 +28,53 @@ pub struct PassingSets {
 }
 
 impl Sight for PassingSets {
+    ghost use Rattle.std.specs.Prelude.{◌≡◌, ◌⊎◌, false, length, true};
+    ghost use Rattle.std.proofs.Common.{◌∙◌, sym};
+    ghost use Rattle.cp_machine.specs.System.{is_ready};
+    ghost use Rattle.cp_endless_laws.specs.Silent.{in_call_on_slots, waits_on_slots};
+    ghost use Rattle.cp_waits.specs.Passings.{HasSeen, IsLook};
+    ghost use Rattle.cp_ends.proofs.Again.{any_again, beside_all, beside_any, each_again, through};
+    ghost use Rattle.cp_ends.proofs.Again.{served_again};
+
+    ghost looks = { λ p r m. IsLook (length r.processes) m p };
+
     ghost sees = { λ p r discipline due ms. HasSeen r discipline due ms p };
+
+    fn look<L: Look>(look: &L) -> PassingSets {
+        let mut seen = PassingSets::of_nobody();
+        for pid in 0..look.processes() {
+            seen = seen.with_process(look, pid);
+        }
+        seen
+    }
+
+    #[inline(always)]
+    fn due(self) -> PassingSets {
+        PassingSets {
+            served: Set::nobody(),
+            ..self
+        }
+    }
+
+    #[inline(always)]
+    fn moved(self, mover: u8) -> PassingSets {
+        PassingSets {
+            step: self.step.with(mover),
+            served: self.served.with(mover),
+            ..self
+        }
+    }
 
     fn begin(program: &Resolved) -> PassingSets {
         let everybody = Set::below(program.processes());
         PassingSets {
             wait: everybody,
-            wait_once: Set::nobody(),
             stay: everybody,
-            step: Set::nobody(),
-            served: Set::nobody(),
+            ..PassingSets::of_nobody()
         }
     }
 
-    fn see_due(&mut self, state: &State) {
-        self.see(state);
-    }
-
-    fn add(&mut self, state: &State, mover: u8) {
-        self.see(state);
-        self.serve(state, mover);
-    }
-
+    #[inline(always)]
     fn then(&mut self, other: &PassingSets) {
         self.wait = self.wait.and(other.wait);
         self.wait_once = self.wait_once.or(other.wait_once);
@@ -61,89 +82,45 @@ impl Sight for PassingSets {
         self.step = self.step.or(other.step);
         self.served = self.served.or(other.served);
     }
+
+    ghost alike = { λ p r discipline due ms m n pid like h. record { wait = λ q lt. through (h.wait q lt) (beside_all (each_again (λ x. waits_on_slots x.state q ≡ true) ms (record { state = m; mover = pid }) (record { state = n; mover = pid }) (λ e. like.waits q ∙ e))); wait_once = λ q lt. through (h.wait_once q lt) (beside_any (any_again (λ x. waits_on_slots x.state q ≡ true) ms (record { state = m; mover = pid }) (record { state = n; mover = pid }) (λ e. sym (like.waits q) ∙ e))); stay = λ q lt. through (h.stay q lt) (beside_all (each_again (λ x. in_call_on_slots x.state q ≡ true) ms (record { state = m; mover = pid }) (record { state = n; mover = pid }) (λ e. like.inside q ∙ e))); step = λ q lt. through (h.step q lt) (any_again (λ x. x.mover ≡ q) ms (record { state = m; mover = pid }) (record { state = n; mover = pid }) (λ e. e)); served = λ q lt. through (h.served q lt) (any_again (λ x. (x.mover ≡ q) ⊎ (is_ready x.state q ≡ false)) ms (record { state = m; mover = pid }) (record { state = n; mover = pid }) (served_again pid q (is_ready m q) (is_ready n q) (like.ready q))) } };
 }
 
 impl PassingSets {
-    fn see(&mut self, state: &State)
-        ensures wait { (q : ℕ) → q < length state.now.processes.items → has self.new.wait q ≡ (has self.old.wait q && waits_on_slots (machine_of state.now) q) }
-        ensures wait_once { (q : ℕ) → q < length state.now.processes.items → has self.new.wait_once q ≡ (has self.old.wait_once q || waits_on_slots (machine_of state.now) q) }
-        ensures stay { (q : ℕ) → q < length state.now.processes.items → has self.new.stay q ≡ (has self.old.stay q && in_call_on_slots (machine_of state.now) q) }
-        ensures step { self.new.step ≡ self.old.step }
-        ensures served { self.new.served ≡ self.old.served }
+    // Nobody does anything.
+    fn of_nobody() -> PassingSets
+        ensures wait { (q : ℕ) → has result.wait q ≡ false }
+        ensures wait_once { (q : ℕ) → has result.wait_once q ≡ false }
+        ensures stay { (q : ℕ) → has result.stay q ≡ false }
+        ensures step { (q : ℕ) → has result.step q ≡ false }
+        ensures served { (q : ℕ) → has result.served q ≡ false }
     {
-        let waiting = those_waiting(state);
-        self.wait = self.wait.and(waiting);
-        self.wait_once = self.wait_once.or(waiting);
-        self.stay = those_inside(state, self.stay);
+        let nobody = Set::nobody();
+        PassingSets {
+            wait: nobody,
+            wait_once: nobody,
+            stay: nobody,
+            step: nobody,
+            served: nobody,
+        }
     }
 
-    fn serve(&mut self, state: &State, mover: u8)
-        ensures wait { self.new.wait ≡ self.old.wait }
-        ensures wait_once { self.new.wait_once ≡ self.old.wait_once }
-        ensures stay { self.new.stay ≡ self.old.stay }
-        ensures step { (q : ℕ) → q < 16 → has self.new.step q ≡ (has self.old.step q || nat_eq q mover) }
-        ensures served { (q : ℕ) → q < length state.now.processes.items → has self.new.served q ≡ (has self.old.served q || (not (is_ready (machine_of state.now) q) || nat_eq q mover)) }
+    // One process more is looked at.
+    #[inline(always)]
+    fn with_process<L: Look>(self, look: &L, pid: u8) -> PassingSets
+        requires few { pid < 16 }
+        requires at { (r : Tables) × (m : Machine) × L.looks look.now r m × (pid < length r.processes) }
+        ensures { (r : Tables) (m : Machine) → L.looks look.now r m → pid < length r.processes → IsLook pid m self → IsLook (pid + 1) m result }
     {
-        self.step = self.step.with(mover);
-        self.served = self.served.or(those_not_ready(state).with(mover));
-    }
-}
-
-// The processes at a gate or delayed.
-fn those_waiting(state: &State) -> Set
-    ensures { (q : ℕ) → q < length state.now.processes.items → has result q ≡ waits_on_slots (machine_of state.now) q }
-{
-    let mut waiting = Set::nobody();
-    let mut pid = 0u8;
-    for process in &state.processes {
-        if process.status.waits() {
-            waiting = waiting.with(pid);
-        }
-        pid = pid.saturating_add(1);
-    }
-    waiting
-}
-
-// The processes that are not ready.
-fn those_not_ready(state: &State) -> Set
-    ensures { (q : ℕ) → q < length state.now.processes.items → has result q ≡ not (is_ready (machine_of state.now) q) }
-{
-    let mut others = Set::nobody();
-    let mut pid = 0u8;
-    for process in &state.processes {
-        if !process.status.is_ready() {
-            others = others.with(pid);
-        }
-        pid = pid.saturating_add(1);
-    }
-    others
-}
-
-// Those of some processes that have an open call of an entry of a monitor.
-fn those_inside(state: &State, among: Set) -> Set
-    ensures { (q : ℕ) → q < length state.now.processes.items → has result q ≡ (has among q && in_call_on_slots (machine_of state.now) q) }
-{
-    let mut inside = Set::nobody();
-    let mut pid = 0u8;
-    for process in &state.processes {
-        if among.has(pid) && is_inside(&process.stack) {
-            inside = inside.with(pid);
-        }
-        pid = pid.saturating_add(1);
-    }
-    inside
-}
-
-// Whether a call on a control stack leaves a monitor.
-fn is_inside(stack: &[Entry]) -> bool
-    ensures { result ≡ list_any (λ e. has_monitor_return (e ∷ [])) stack.now }
-{
-    for entry in stack {
-        if let Entry::Return(_, _, Some(_)) = entry {
-            return true;
+        let waits = look.waits(pid);
+        PassingSets {
+            wait: self.wait.with_if(pid, waits),
+            wait_once: self.wait_once.with_if(pid, waits),
+            stay: self.stay.with_if(pid, look.is_inside(pid)),
+            step: self.step,
+            served: self.served.with_if(pid, !look.is_ready(pid)),
         }
     }
-    false
 }
 
 /// What a process keeps doing.

@@ -42,6 +42,14 @@ impl Set {
         }
     }
 
+    /// With a process, if it is to be in it.
+    #[inline(always)]
+    pub fn with_if(self, pid: u8, is_in: bool) -> Set
+        ensures { (q : ℕ) → q < 16 → has result q ≡ (has self q || (nat_eq q pid && is_in)) }
+    {
+        if is_in { self.with(pid) } else { self }
+    }
+
     pub fn without(self, pid: u8) -> Set
         ensures { (q : ℕ) → has result q ≡ (has self q && not (nat_lt q 16 && nat_eq q pid)) }
     {

@@ -66,7 +66,7 @@ impl<'a> Inquiry<'a> {
         }
     }
 
-    /// What a page is made of that goes on from so many states, and on which a schedule is laid out.
+    /// What a page is made of that expands so many states, and on which a schedule is laid out.
     pub fn page_subject(self, states: u32, schedule: &'a ChosenSchedule) -> PageSubject<'a> {
         let options = &self.asked.options;
         PageSubject {

@@ -13,7 +13,7 @@ use cp_progress::ObserveProgress;
 use cp_show_mark::{ShowAnswer, ShowVerdict};
 use std::alloc::AllocError;
 
-/// A page on which the scheduler is played, which goes on from so many states.
+/// A page on which the scheduler is played, which expands so many states.
 pub fn page_answer<O: ObserveProgress>(
     inquiry: Inquiry<'_>,
     observer: &mut O,

@@ -1,4 +1,4 @@
--- Where the states of a search are gone on from layer by layer, words of at most so many choices lead to what is known.
+-- Where the states of a search are expanded layer by layer, words of at most so many choices lead to what is known.
 use Rattle.std.proofs.Common.{◌≡◌, ◌+◌, ◌≤◌, ℕ, suc, Bool, true, false, if◌then◌else◌, List, [], ◌∷◌, length, None, Some, refl, subst, arith}
 use Rattle.cp_endless_laws.proofs.Words.{Contains, OutcomeKind, System, Node, Halted, Choosing, may, chosen, opened, LeadsTo, node_after, IsIn, some_same}
 use Rattle.cp_endless_laws.specs.Layers.{EndsToLaw, IsClosedTo, IsPossibleTo}

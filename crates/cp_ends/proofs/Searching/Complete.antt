@@ -1,4 +1,4 @@
--- When each place that was found was gone on from, all that words lead to was found, each with its first word.
+-- When each place that was found was expanded, all that words lead to was found, each with its first word.
 use Rattle.cp_ends.proofs.Vocabulary.{◌<◌, ◌≤◌, ℕ, length, arith, slice_get_within, Graph, LeadsToPlace, LeadsToEnd, ShowsLast, AreFirsts, AreFirstOnes, Tests}
 use Rattle.cp_ends.proofs.Vocabulary.{searched}
 use Rattle.cp_ends.proofs.Searching.Lists.{place_of}

@@ -1,4 +1,4 @@
--- Words lead to what is found, and what is met where a word arrives is recorded, as words arrive and a place is gone on from.
+-- Words lead to what is found, and what is met where a word arrives is recorded, as words arrive and a place is expanded.
 use Rattle.std.proofs.Common.{◌≡◌, inr, ⊎_elim, ◌<◌, ◌≤◌, ℕ, zero, suc, Bool, true, false, List, [], ◌∷◌, ◌++◌, length, refl, ap, sym, ◌∙◌, subst, arith}
 use Rattle.std.specs.Prelude.{Contains, Decides, if◌then◌else◌}
 use Rattle.std.proofs.lemmas.Bool.{cases_lt}

@@ -1,4 +1,4 @@
--- What was found stays found, and keeps its number, as words arrive and places are gone on from.
+-- What was found stays found, and keeps its number, as words arrive and places are expanded.
 use Rattle.std.proofs.Common.{◌≡◌, ◌⊎◌, inl, inr, ◌<◌, ◌≤◌, ℕ, zero, suc, Bool, true, false, List, [], ◌∷◌, ◌++◌, length, ap, sym, ◌∙◌, subst, arith}
 use Rattle.std.specs.Prelude.{Option, Some, None, slice_get, if◌then◌else◌}
 use Rattle.std.proofs.lemmas.Bool.{cases_lt}
@@ -54,7 +54,7 @@ module _ {S E V : Type 0} (g : Graph S E V) (t : Tests S E V) where
 
   -- ---- one place more
 
-  -- the place at n was gone on from
+  -- the place at n was expanded
   pub searched_on : (n : ℕ) (x : S × List ℕ) → slice_get (searched g t n).states n ≡ Some x → searched g t (suc n) ≡ gone_on g t x g.below (searched g t n)
   unfolding searched
   searched_on n x at = ap (λ o. gone_on_from g t o (searched g t n)) at
@@ -89,7 +89,7 @@ module _ {S E V : Type 0} (g : Graph S E V) (t : Tests S E V) where
   pub searched_length : (n m : ℕ) → n ≤ m → length (searched g t n).states ≤ length (searched g t m).states
   searched_length n m le = grown_length (searched g t n).states (searched g t m).states (searched_extends n m le).states
 
-  -- when each place was gone on from, nothing more is found
+  -- when each place was expanded, nothing more is found
   pub searched_done : (n m : ℕ) → length (searched g t n).states ≤ n → n ≤ m → searched g t m ≡ searched g t n
   searched_done n zero done le = let e : n ≡ 0 = omega (arith, le) in ap (λ k. searched g t k) (sym e)
   searched_done n (suc m) done le = by (searched_done n m done) (cases_lt m n)

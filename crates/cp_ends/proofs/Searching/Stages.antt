@@ -1,4 +1,4 @@
--- When the first n places were gone on from: words lead to what was found, and the edges of those places are recorded.
+-- When the first n places were expanded: words lead to what was found, and the edges of those places are recorded.
 use Rattle.std.proofs.Common.{◌≡◌, ◌⊎◌, inl, inr, ◌<◌, ◌≤◌, ℕ, zero, suc, true, List, [], ◌∷◌, ◌++◌, length, get_or, refl, ap, sym, ◌∙◌, subst, arith}
 use Rattle.std.specs.Prelude.{◌≢◌, Option, Some, None, slice_get}
 use Rattle.cp_ends.proofs.Vocabulary.{slice_get_cases, Graph, LeadsToPlace, LeadsToEnd, ShowsLast, is_up_to}
@@ -24,7 +24,7 @@ module _ {S E V : Type 0} (g : Graph S E V) (t : Tests S E V) (exact : AreExact 
   unfolding nothing
   nothing_sound = record { states = good_none (LeadsToPlace g) []; ends = good_none (LeadsToEnd g) []; values = good_none (ShowsLast g) []; few = omega arith }
 
-  -- the words of what was found come before the edges of a place that is still to be gone on from
+  -- the words of what was found come before the edges of a place that is still to be expanded
   stage_sound : (n : ℕ) (f : Findings S E V) (i : ℕ) (x : S × List ℕ) → IsStage g t n f → n ≤ i → slice_get f.states i ≡ Some x → IsSound g t f (x.1 ++ 0 ∷ [])
   stage_sound n f i x h le at = sound_later g t exact f h.last (x.1 ++ 0 ∷ []) (h.next i x le at) h.sound
 
@@ -73,7 +73,7 @@ module _ {S E V : Type 0} (g : Graph S E V) (t : Tests S E V) (exact : AreExact 
   pub searched_leads : (n i : ℕ) (x : S × List ℕ) → slice_get (searched g t n).states i ≡ Some x → LeadsToPlace g x.0 x.1
   searched_leads n i x at = let h = searched_stage n in sound_leads (searched g t n) h.last i x h.sound at
 
-  -- a place stood there when it was to be gone on from
+  -- a place stood there when it was to be expanded
   stood : (n i : ℕ) (x : S × List ℕ) → i ≤ n → slice_get (searched g t n).states i ≡ Some x → slice_get (searched g t i).states i ≡ Some x
   stood n i x le at = by (slice_get_cases (searched g t i).states i).1
     where

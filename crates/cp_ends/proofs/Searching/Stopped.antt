@@ -38,7 +38,7 @@ module _ {S E V : Type 0} (g : Graph S E V) (t : Tests S E V) (exact : AreExact 
   found_here : slice_get found.states n ≡ Some x
   found_here = going_at g t x c (searched g t n) n x at
 
-  -- a place with a word that is shorter than that of x was gone on from
+  -- a place with a word that is shorter than that of x was expanded
   early : (i : ℕ) (y : S × List ℕ) → slice_get found.states i ≡ Some y → length y.1 < length x.1 → i < n
   early i y to few = by (cases_lt i n) (cases_lt n i)
     where

@@ -1,4 +1,4 @@
--- Who waits at the ends that a search of ends found, gone on from once more.
+-- Who waits at the ends that a search of ends found, expanded once more.
 use Rattle.std.proofs.Common.{◌≡◌, ◌∙◌, ◌+◌, ◌++◌, ℕ, List, length, map, take, refl, sym, ap, subst, arith}
 use Rattle.std.specs.Prelude.{Contains, Option, None, Some, option_map, slice_get}
 use Rattle.std.specs.declared.alloc.Global.{Global}

@@ -5,7 +5,6 @@ use Rattle.cp_ends.specs.Legs.{ComesTo, Leg, with_round}
 use Rattle.cp_ends.proofs.GoingOn.{ok_to}
 use Rattle.cp_ends.proofs.Halting.{opening_comes, comes_to, shows}
 use Rattle.cp_ends.proofs.Legs.{first_sets_out, sees_opening}
-use Rattle.cp_ends.proofs.Moving.{none_due}
 use Rattle.cp_ends.proofs.Ruled.{opened_ruled, still_ruled}
 use Rattle.cp_ends.proofs.choosing.open.Goals as goal
 
@@ -21,7 +20,7 @@ arrive-requires-clause-quiet g c =
     let quiet = silent_slots r discipline in
     let steps = c.args.job.now.limits.steps in
     let before : Told = ((c.args.told.now.values.items, c.args.told.now.is_called), ([], [])) in
-    let now = c.in_ok-turn.ensures.seen before (refl, refl, ap output_of c.requires.start, c.begin-told.ensures discipline, none_due _ _) in
+    let now = c.in_ok-turn.ensures.seen before (refl, refl, ap output_of c.requires.start, c.begin-told.ensures discipline) in
     now.2
 
 pub returns-clause-goal : goal.returns-clause-goal
@@ -32,7 +31,7 @@ returns-clause-goal g c =
     let quiet = silent_slots r discipline in
     let steps = c.args.job.now.limits.steps in
     let before : Told = ((c.args.told.now.values.items, c.args.told.now.is_called), ([], [])) in
-    let now = c.in_ok-turn.ensures.seen before (refl, refl, ap output_of c.requires.start, c.begin-told.ensures discipline, none_due _ _) in
+    let now = c.in_ok-turn.ensures.seen before (refl, refl, ap output_of c.requires.start, c.begin-told.ensures discipline) in
     let told = now.0 ∙ ap (λ (y : Told). y.0.0) (sees_opening quiet (teller sys) steps before) in
     ok_to c.arrive.result _ _ c.arrive.ensures.comes (λ h cut.
     comes_to sys quiet same_key steps (first_arrival sys without_output same_key steps) (fold_opened quiet (teller sys) steps) (walked_opened quiet steps) (machine_of c.observe_opening.new.state) c.in_ok-turn.turn c.in_ok-turn.ensures.walked (opening_comes sys without_output same_key steps)
@@ -46,7 +45,7 @@ returns-clause-shown g c =
     let quiet = silent_slots r discipline in
     let steps = c.args.job.now.limits.steps in
     let before : Told = ((c.args.told.now.values.items, c.args.told.now.is_called), ([], [])) in
-    let now = c.in_ok-turn.ensures.seen before (refl, refl, ap output_of c.requires.start, c.begin-told.ensures discipline, none_due _ _) in
+    let now = c.in_ok-turn.ensures.seen before (refl, refl, ap output_of c.requires.start, c.begin-told.ensures discipline) in
     let told = now.0 ∙ ap (λ (y : Told). y.0.0) (sees_opening quiet (teller sys) steps before) in
     ok_to c.arrive.result _ _ c.arrive.ensures.comes (λ h cut.
     shows sys quiet same_key steps (first_arrival sys without_output same_key steps) (fold_opened quiet (teller sys) steps) (walked_opened quiet steps) (machine_of c.observe_opening.new.state) c.in_ok-turn.turn c.in_ok-turn.ensures.walked (opening_comes sys without_output same_key steps)
@@ -60,7 +59,7 @@ returns-clause-leg g c =
     let quiet = silent_slots r discipline in
     let steps = c.args.job.now.limits.steps in
     let before : Told = ((c.args.told.now.values.items, c.args.told.now.is_called), ([], [])) in
-    let now = c.in_ok-turn.ensures.seen before (refl, refl, ap output_of c.requires.start, c.begin-told.ensures discipline, none_due _ _) in
+    let now = c.in_ok-turn.ensures.seen before (refl, refl, ap output_of c.requires.start, c.begin-told.ensures discipline) in
     let observer = c.observe_opening.new.observer in
     let seen = subst (λ (y : Told). g.P.Sight.sees observer.seen r discipline y.1.0 y.1.1) (sees_opening quiet (teller sys) steps before) now.3 in
     let out = first_sets_out quiet steps in
@@ -73,4 +72,4 @@ returns-clause-ruled g c =
     let r = c.args.job.now.program.now in
     let discipline = c.args.job.now.limits.discipline in
     let steps = c.args.job.now.limits.steps in
-    ok_to c.arrive.result _ _ c.arrive.ensures.still (λ h still due. still_ruled discipline (machine_of c.arrive.new.state) (machine_of c.observe_opening.new.state) (walked_opened (silent_slots r discipline) steps) c.in_ok-turn.turn (still due).1 c.in_ok-turn.ensures.walked (opened_ruled r discipline steps))
+    ok_to c.arrive.result _ _ c.arrive.ensures.still (λ h still due. still_ruled discipline (machine_of c.arrive.new.state) (machine_of c.observe_opening.new.state) (walked_opened (silent_slots r discipline) steps) c.in_ok-turn.turn (still due) c.in_ok-turn.ensures.walked (opened_ruled r discipline steps))

@@ -1,6 +1,6 @@
 use Rattle.std.proofs.Common.{◌∷◌, [], length, length-append, refl, ap, arith, sym, subst}
 use Rattle.cp_at_once.proofs.Words.{◌≡◌, ◌+◌, ℕ, true, Machine, may, slots, slot_graph, goal_at, ok_to, HasLeg, OriginAtOnce}
-use Rattle.cp_ends.specs.ByRows.{Goes}
+use Rattle.cp_at_once.specs.ByRows.{Goes}
 use Rattle.cp_ends.specs.Rows.{IsRowFor}
 use Rattle.cp_ends.proofs.Rowwise.{some_of}
 use Rattle.std.specs.declared.alloc.Global.{Global}

@@ -2,13 +2,13 @@ use Rattle.std.proofs.Common.{◌∙◌, List, [], ap, length, refl, subst, sym}
 use Rattle.cp_machine.specs.declared.shown.Shown.{Shown}
 use Rattle.cp_run.specs.declared.outcome.Halt.{Halt}
 use Rattle.cp_stretches.specs.Stretching.{LeadsTo}
-use Rattle.cp_ends.specs.ByRows.{Goes}
 use Rattle.cp_ends.specs.Halves.{width_of}
 use Rattle.cp_ends.specs.Rows.{IsRowFor}
 use Rattle.cp_ends.specs.declared.end.End.{End}
 use Rattle.cp_ends.proofs.GoingOn.{ok_to}
-use Rattle.cp_ends.proofs.Rowwise.{goes_so, some_of, written_long, written_over}
-use Rattle.cp_at_once.specs.ByRows.{KeepStore}
+use Rattle.cp_ends.proofs.Rowwise.{some_of, written_long, written_over}
+use Rattle.cp_at_once.specs.ByRows.{Goes, KeepStore}
+use Rattle.cp_at_once.proofs.Going.{halts_so}
 use Rattle.cp_at_once.proofs.Staying.{stays_on}
 use Rattle.cp_at_once.proofs.search.SearchAtOnce.go.Goals as goal
 
@@ -52,7 +52,7 @@ returns-in-Some-clause-goes c = λ m is may.
     let here = subst (λ l. IsRowFor r old l m) (sym (c.as_mut_slice-row.ensures.value ∙ c.copy_from_slice.ensures.items ∙ c.deref.ensures.value)) is in
     let before = some_of _ halt _ c.in-Some.is c.in_ok-halt.ensures.leads m here may in
     let leads = subst (λ (l : List Shown). LeadsTo r discipline kept.cache.store kept.cache.table steps m p l halt new shown) c.clear.ensures.items before in
-    let goes = goes_so r discipline steps m p halt kept new shown (c.leads.ensures.ruled ∙ c.requires.room.ruled) leads in
+    let goes = halts_so (record c.args.self.now.told { values = c.leads.new.shown }) r discipline steps m p halt kept new (c.leads.ensures.ruled ∙ c.requires.room.ruled) leads in
     let long = leads.stands.stands.long ∙ ap width_of c.leads.ensures.table ∙ sym c.requires.room.from ∙ sym (ap length (c.copy_from_slice.ensures.items ∙ c.deref.ensures.value)) ∙ sym row.ok.0 in
     let ends = subst (λ (h : Halt End). Goes r discipline steps m p h (IsRowFor r kept new) shown) (sym c.ended.ensures) goes in
     subst (λ l. Goes r discipline steps m p c.ended.result (IsRowFor r kept l) shown) (sym (written_over row.items new row.len long)) ends)

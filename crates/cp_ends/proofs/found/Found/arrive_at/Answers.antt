@@ -23,3 +23,6 @@ returns-in-Choice-clause-arrives c =
     let values : Holds r mid k = subst (λ (vs : List Shown). Holds r mid (record f { values = with_values ends_tests.value ends_tests.most f.values vs word })) shown (c.in_ok-add_values.ensures.values r f word h.holds is) in
     let row = subst (λ (states : States). IsStated r states c.args.halved.numbers m) (sym c.add_values.ensures.states) (stands c.in-Choice.is) in
     came_to r c.args.job.now.most c.add_halved.new.self f word a (Place m) (ap (λ v. goal_at v m) (sym c.in-Choice.is) ∙ to) arrived (on k word m (record { holds = values; few = h.few }) is before row)))
+
+pub returns-in-Choice-clause-halt : goal.returns-in-Choice-clause-halt
+returns-in-Choice-clause-halt c = ok_to c.add_halved.result _ _ c.add_halved.ensures.halt (λ arrived is. is ∙ sym c.in-Choice.is)

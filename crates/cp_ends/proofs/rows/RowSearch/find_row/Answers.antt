@@ -12,13 +12,13 @@ use Rattle.cp_ends.proofs.RowsVisited.{kept_found}
 use Rattle.cp_ends.proofs.rows.RowSearch.find_row.Goals as goal
 
 pub copy_from_slice-requires : goal.copy_from_slice-requires
-copy_from_slice-requires c = c.args.self.now.row.ok.0 ∙ c.requires.room.row ∙ ap width_of (sym c.find_row.ensures.table) ∙ sym (ap length c.deref.ensures.value ∙ c.in_ok-find_row.ensures.standing.row.long)
+copy_from_slice-requires g c = c.args.self.now.row.ok.0 ∙ c.requires.room.row ∙ ap width_of (sym c.find_row.ensures.table) ∙ sym (ap length c.deref.ensures.value ∙ c.in_ok-find_row.ensures.standing.row.long)
 
 pub returns-clause-room : goal.returns-clause-room
-returns-clause-room c = record { ruled = c.requires.room.ruled; row = ap length (c.copy_from_slice.ensures.items ∙ c.deref.ensures.value) ∙ c.in_ok-find_row.ensures.standing.row.long }
+returns-clause-room g c = record { ruled = c.requires.room.ruled; row = ap length (c.copy_from_slice.ensures.items ∙ c.deref.ensures.value) ∙ c.in_ok-find_row.ensures.standing.row.long }
 
 pub returns-clause-kept : goal.returns-clause-kept
-returns-clause-kept c = λ standing.
+returns-clause-kept g c = λ standing.
     (let r = c.args.job.now.run.program.now in
     let found = c.args.self.now.found in
     let old = with_standing found standing in
@@ -30,7 +30,7 @@ returns-clause-kept c = λ standing.
     refl refl)
 
 pub returns-clause-row : goal.returns-clause-row
-returns-clause-row c =
+returns-clause-row g c =
     let cache = c.find_row.new.self in
     let standing = c.find_row.new.standing in
     let own = c.args.self.now.found.states.standing.state in

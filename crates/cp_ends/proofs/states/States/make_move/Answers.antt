@@ -1,15 +1,13 @@
 use Rattle.std.proofs.Common.{◌∙◌, ◌++◌, List, ap, arith, refl, subst, sym}
 use Rattle.std.specs.Prelude.{option_to_list}
 use Rattle.cp_machine.specs.declared.shown.Shown.{Shown}
-use Rattle.cp_run.specs.declared.outcome.Halt.TheVariants.{Choice}
 use Rattle.cp_states.specs.Pieces.{IsPiece}
 use Rattle.cp_stretches.specs.Numbers.{CanRead}
-use Rattle.cp_stretches.specs.Stretching.{LeadsTo}
 use Rattle.cp_ends.specs.Halves.{half_in, is_in_first, statuses_in}
-use Rattle.cp_ends.specs.Moves.{HasHalf}
+use Rattle.cp_ends.specs.Moves.{HasHalf, IsOneLeg}
 use Rattle.cp_ends.proofs.Halves.{halved_on, same_kept}
 use Rattle.cp_ends.proofs.Keeping.{lists_more}
-use Rattle.cp_ends.proofs.Made.{can_read_there, inside, its, move_leads, moved_halved, no_local, stays, there}
+use Rattle.cp_ends.proofs.Made.{can_read_there, inside, its, move_makes, moved_halved, no_local, stays, there}
 use Rattle.cp_ends.proofs.states.States.make_move.Goals as goal
 
 pub pass-requires-clause-long : goal.pass-requires-clause-long
@@ -57,8 +55,8 @@ returns-clause-halved c =
     (λ is. c.with.ensures.first (c.is_in_first-is_first.ensures ∙ is))
     (λ is. c.with.ensures.second (c.is_in_first-is_first.ensures ∙ is))
 
-pub returns-clause-leads : goal.returns-clause-leads
-returns-clause-leads c = λ m is may.
+pub returns-clause-makes : goal.returns-clause-makes
+returns-clause-makes c = λ m is may.
     (let r = c.args.job.now.program.now in
     let discipline = c.args.job.now.limits.discipline in
     let steps = c.args.job.now.limits.steps in
@@ -72,6 +70,6 @@ returns-clause-leads c = λ m is may.
     let can = can_read_there r discipline self steps numbers row e h.0 h.2 c.requires.ruled c.requires.halved c.requires.suits h.3.is.long m is may in
     let told = no_local r discipline self steps numbers row e h.0 h.2 c.requires.ruled c.requires.halved c.requires.suits h.3.is.long m is may in
     let due = sym c.in-Due.is ∙ c.pass.ensures.turn r self.cache.store after discipline (subst (CanRead r self.cache.store self.cache.table self.cache.numbers after) (sym c.pass.ensures.row) can) told in
-    let leads = move_leads r discipline self steps numbers row e h.0 h.2 c.requires.ruled c.requires.halved c.requires.suits h.3.is.long m is may c.args.shown.now.items due in
-    subst (λ (l : List Shown). LeadsTo r discipline self.cache.store self.cache.table steps m e.process c.args.shown.now.items Choice new l) (sym c.in_ok-add_shown.ensures)
-    (subst (λ l. LeadsTo r discipline self.cache.store self.cache.table steps m e.process c.args.shown.now.items Choice l (c.args.shown.now.items ++ option_to_list e.leg.shown)) (sym c.pass.ensures.row) leads))
+    let makes = move_makes r discipline self steps numbers row e h.0 h.2 c.requires.ruled c.requires.halved c.requires.suits h.3.is.long m is may c.args.shown.now.items due in
+    subst (λ (l : List Shown). IsOneLeg r discipline self.cache.store self.cache.table steps m e.process c.args.shown.now.items new l) (sym c.in_ok-add_shown.ensures)
+    (subst (λ l. IsOneLeg r discipline self.cache.store self.cache.table steps m e.process c.args.shown.now.items l (c.args.shown.now.items ++ option_to_list e.leg.shown)) (sym c.pass.ensures.row) makes))

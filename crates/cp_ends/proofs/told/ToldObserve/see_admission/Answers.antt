@@ -1,7 +1,7 @@
 use Rattle.std.proofs.Common.{ap, ◌∙◌}
 use Rattle.cp_machine.specs.System.{machine_of, output_of}
-use Rattle.cp_ends.proofs.Moving.{let_in, quiet_admitted}
+use Rattle.cp_ends.proofs.Moving.{quiet_admitted}
 use Rattle.cp_ends.proofs.told.ToldObserve.see_admission.Goals as goal
 
 pub returns : goal.returns
-returns g c = λ before x at h. (h.0, h.1, ap output_of at ∙ quiet_admitted before c.args._process ∙ h.2, h.3, let_in c.args.self.now.moved c.args._process before (machine_of c.args._state.now) x.1.0 at h.4)
+returns g c = λ before x at h. (h.0, h.1, ap output_of at ∙ quiet_admitted before c.args._process ∙ h.2, h.3)

@@ -3,7 +3,7 @@ use Rattle.std.specs.Prelude.{◌||◌}
 use Rattle.cp_machine.specs.Statements.{Stepped}
 use Rattle.cp_machine.specs.System.{machine_of}
 use Rattle.cp_ends.specs.Arrivals.{is_call}
-use Rattle.cp_ends.proofs.Moving.{moved_on, no_call}
+use Rattle.cp_ends.proofs.Moving.{no_call}
 use Rattle.cp_ends.proofs.told.ToldObserve.see_step.Goals as goal
 use Rattle.cp_ends.proofs.told.ToldObserve.see_step.Goals.{in-Kernel, in_default}
 
@@ -16,7 +16,6 @@ returns-then-matches g c = λ before x step h. (
   ],
   refl,
   h.3,
-  moved_on c.args._job.now.program.now c.args.self.now.moved c.args._process before (machine_of c.args.state.now) c.args.event x.1.0 step h.4 h.5,
 )
 
 pub returns-else-matches : goal.returns-else-matches
@@ -28,5 +27,4 @@ returns-else-matches g c = λ before x step h. (
   ],
   refl,
   h.3,
-  moved_on c.args._job.now.program.now c.args.self.now.moved c.args._process before (machine_of c.args.state.now) c.args.event x.1.0 step h.4 h.5,
 )

@@ -8,9 +8,9 @@ use Rattle.cp_effects.specs.declared.table.KnownLeg.{KnownLeg}
 use Rattle.cp_effects.specs.Changes.{written}
 use Rattle.cp_effects.specs.Known.{writes_of}
 use Rattle.cp_stretches.specs.Numbers.{CanRead}
-use Rattle.cp_stretches.specs.Stretching.{GoesOn, MayGo}
+use Rattle.cp_stretches.specs.Stretching.{MakesLeg, MayGo}
 use Rattle.cp_stretches.specs.Telling.{IsTold}
-use Rattle.cp_stretches.proofs.Going.{after, gone_on, not_local, stands_after}
+use Rattle.cp_stretches.proofs.Going.{after, makes_leg, not_local, stands_after}
 use Rattle.cp_stretches.proofs.Growing.{can_read, stands_at_on}
 use Rattle.cp_stretches.proofs.Knowing.{row_long}
 use Rattle.cp_stretches.proofs.cache.LegCache.advance.Goals as goal
@@ -32,8 +32,8 @@ pass-requires c =
       inside = All-weaker (λ (w : Write). w.position < self.table.processes + 1 + (self.table.processes + self.table.monitors)) (λ (w : Write). w.position < length row) (λ w lt. subst (λ n. w.position < n) (sym long) lt) (writes_of self.legs.effects.writes.items known) told.inside;
     }
 
-pub returns-clause-goes : goal.returns-clause-goes
-returns-clause-goes c = λ m may.
+pub returns-clause-makes : goal.returns-clause-makes
+returns-clause-makes c = λ m may.
     (let r = c.args.job.now.program.now in
     let discipline = c.args.job.now.limits.discipline in
     let old = c.args.self.now in
@@ -55,6 +55,6 @@ returns-clause-goes c = λ m may.
     let read : CanRead r s t self.numbers there c.pass.new.row = subst (CanRead r s t self.numbers there) (sym written_row) (can_read r discipline self there new cache stands) in
     let left = c.args.left.now in
     let some : known.leg.steps + (left - known.leg.steps) ≡ left = omega arith in
-    let on = gone_on r discipline s t m row pid self.legs.effects known cache.sound may_now told left (left - known.leg.steps) c.args.shown.now.items c.in_ok-turn.turn some (c.in_ok-turn.ensures.turn r s there discipline read told_by) in
-    subst (λ xs. GoesOn r discipline s t m (Goes pid) left c.args.shown.now.items c.in_ok-turn.turn (left - known.leg.steps) xs c.pass.new.shown.items) (sym written_row)
-    (subst (λ (ys : List Shown). GoesOn r discipline s t m (Goes pid) left c.args.shown.now.items c.in_ok-turn.turn (left - known.leg.steps) new ys) (sym shows) on))
+    let on = makes_leg r discipline s t m row pid self.legs.effects known cache.sound may_now told left (left - known.leg.steps) c.args.shown.now.items c.in_ok-turn.turn some (c.in_ok-turn.ensures.turn r s there discipline read told_by) in
+    subst (λ xs. MakesLeg r discipline s t m pid left c.args.shown.now.items c.in_ok-turn.turn (left - known.leg.steps) xs c.pass.new.shown.items) (sym written_row)
+    (subst (λ (ys : List Shown). MakesLeg r discipline s t m pid left c.args.shown.now.items c.in_ok-turn.turn (left - known.leg.steps) new ys) (sym shows) on))

@@ -5,9 +5,8 @@ use Rattle.cp_parts.proofs.Keeping.{store_on, store_same}
 use Rattle.cp_run.specs.declared.outcome.Halt.{Halt}
 use Rattle.cp_run.specs.declared.outcome.OutcomeKind.{OutcomeKind}
 use Rattle.cp_run.specs.declared.outcome.Turn.{Turn}
-use Rattle.cp_run.specs.declared.outcome.Turn.TheVariants.{Goes}
-use Rattle.cp_stretches.specs.Stretching.{GoesOn, MayGo, StandsAt, turn_of}
-use Rattle.cp_stretches.proofs.Going.{gone_further, gone_nowhere, may_go}
+use Rattle.cp_stretches.specs.Stretching.{GoesOn, MakesLeg, MayGo, StandsAt, turn_of}
+use Rattle.cp_stretches.proofs.Going.{gone_further, gone_nowhere, gone_on, may_go}
 use Rattle.cp_stretches.proofs.Knowing.{some_to}
 use Rattle.cp_stretches.proofs.cache.LegCache.go.Goals as goal
 
@@ -53,10 +52,10 @@ loop-preserved c =
       table = table ∙ c.loop.invariant.table;
       goes = λ m stands.
           (let g = c.loop.invariant.goes m stands in
-          let goes = subst (λ o. IfSome o (λ (turn : Turn). (n : Machine) → MayGo r discipline old.store old.table n c.loop.row q → GoesOn r discipline new.store new.table n (Goes q) c.loop.left c.loop.shown.items turn c.advance.new.left c.advance.new.row c.advance.new.shown.items)) c.in-Some.is c.in_ok-next.ensures.goes in
+          let makes = subst (λ o. IfSome o (λ (turn : Turn). (n : Machine) → MayGo r discipline old.store old.table n c.loop.row q → MakesLeg r discipline new.store new.table n q c.loop.left c.loop.shown.items turn c.advance.new.left c.advance.new.row c.advance.new.shown.items)) c.in-Some.is c.in_ok-next.ensures.makes in
           gone_further r discipline new.table m c.args.first c.args.job.now.limits.steps c.args.shown.now.items old.store new.store c.loop.turn next c.loop.left c.advance.new.left c.loop.row c.advance.new.row c.loop.shown.items c.advance.new.shown.items q
           (subst (λ t. GoesOn r discipline old.store t m c.args.first c.args.job.now.limits.steps c.args.shown.now.items c.loop.turn c.loop.left c.loop.row c.loop.shown.items) (sym table) g) c.in-Goes.is
-          (λ n there. goes n (subst (λ t. MayGo r discipline old.store t n c.loop.row q) table there)));
+          (λ n there. (let may = subst (λ t. MayGo r discipline old.store t n c.loop.row q) table there in gone_on r discipline old.store new.store old.table new.table n c.loop.row c.advance.new.row q c.loop.left c.advance.new.left c.loop.shown.items c.advance.new.shown.items next c.loop.invariant.cache.sound may (makes n may))));
     }
 
 pub returns-clause-goes : goal.returns-clause-goes
