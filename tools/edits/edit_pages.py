@@ -8,7 +8,7 @@ from dataclasses import dataclass
 from pathlib import Path
 
 ROOT = Path(__file__).resolve().parents[2]
-IMPL = re.compile(r"(?:unsafe )?impl(?:<.*?>)?\s+(?:([\w:]+)(?:<.*?>)?\s+for\s+)?(?:&(?:'\w+ )?)?([\w:]+)")
+IMPL = re.compile(r"(?:unsafe )?impl(?:<(.*?)>)?\s+(?:([\w:]+)(?:<(.*?)>)?\s+for\s+)?(?:&(?:'\w+ )?)?([\w:]+)")
 FUNCTION = re.compile(r"(?:pub(?:\([\w ]+\))? )?(?:const )?fn (\w+)")
 TYPE = re.compile(r"^(?:pub(?:\(\w+\))? )?(?:struct|enum) (\w+)", re.M)
 NAMED_ITEM = re.compile(r"(?:const|static|struct|enum|macro_rules!|type) (\w+)")
@@ -159,6 +159,14 @@ def function_at(file, local, cycle, start, lines):
     return Function(file, local, cycle, start, body, end, not cycle and calls is not None)
 
 
+def owner_of(generic, trait, arguments, own):
+    """The name of an impl: its type, its trait, and the types that the trait is applied to, but those that are variables of the impl."""
+    variables = re.findall(r"(?:^|, )(?:const )?('?\w+)", generic or "")
+    named = [it for it in (it.strip() for it in (arguments or "").split(",")) if re.fullmatch(r"[\w:]+", it) and it not in variables]
+    words = [it.split("::")[-1] for it in (own, trait or "", *named)]
+    return words[0][0].upper() + words[0][1:] + "".join(words[1:])
+
+
 def functions_of(file, text):
     """The functions of a source with a proof of their own: those of the file and of its impls."""
     lines, found, owner, cycle = text.split("\n"), [], (), None
@@ -167,8 +175,7 @@ def functions_of(file, text):
             continue
         bare, head = line.strip(), IMPL.match(line)
         if head:
-            name = head[2].split("::")[-1]
-            owner = (name[0].upper() + name[1:] + (head[1] or "").split("::")[-1],)
+            owner = (owner_of(*head.groups()),)
         elif re.match(r"(pub )?trait ", line):
             owner = None
         elif line.startswith("}"):
