@@ -126,7 +126,6 @@ pub struct OwnedBody<'a> {
 }
 
 /// The declarations of a program, in the order of its text, but for fields of records.
-#[derive(Drop)]
 pub struct Declarations<'a> {
     pub tokens: &'a Tokens,
     pub all: Vec<Declaration<'a>>,
@@ -135,6 +134,19 @@ pub struct Declarations<'a> {
     pub scopes: ScopeTable,
     /// Whether memory was refused for one of them.
     is_refused: bool,
+}
+
+// One call where it is dropped, not one for each list: proofs of functions that may end early are much shorter.
+impl<'a> Drop for Declarations<'a> {
+    fn drop(self) {
+        let Declarations {
+            tokens: _,
+            all: _,
+            bodies: _,
+            scopes: _,
+            is_refused: _,
+        } = self;
+    }
 }
 
 impl<'a> Declarations<'a> {

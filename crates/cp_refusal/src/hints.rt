@@ -90,7 +90,15 @@ impl<'a, 'b> Gathering<'a, 'b> {
         self.bodies.iter().find(|one| one.owned.body.at == body.at)
     }
 
-    /// Adds all hints, kind by kind.
+    /// All hints, kind by kind.
+    fn gather(mut self) -> Result<Hints, AllocError> {
+        self.add_all()?;
+        if self.is_refused {
+            return Err(AllocError);
+        }
+        Ok(self.hints)
+    }
+
     fn add_all(&mut self) -> Result<(), AllocError> {
         for written in self.bodies {
             if self.continue_returns {
@@ -122,6 +130,18 @@ impl<'a, 'b> Gathering<'a, 'b> {
     }
 }
 
+/// What is written in each body of a program.
+fn written_bodies<'a>(
+    alloc: Global,
+    declarations: &Declarations<'a>,
+) -> Result<Vec<Written<'a>>, AllocError> {
+    let mut bodies = Vec::new(alloc);
+    for one in &declarations.bodies {
+        bodies.push(Written::in_body(alloc, *one)?)?;
+    }
+    Ok(bodies)
+}
+
 /// A hint for each thing that is legal, but rarely meant, where `continue` ends the call of its entry procedure, or does not.
 pub fn hints(
     alloc: Global,
@@ -129,15 +149,13 @@ pub fn hints(
     loaded: &Loaded,
     continue_returns: bool,
 ) -> Result<Hints, AllocError> {
-    let declarations = Declarations::of(alloc, &loaded.tokens, loaded.checked.tree())?;
-    let mut bodies = Vec::new(alloc);
-    for one in &declarations.bodies {
-        bodies.push(Written::in_body(alloc, *one)?)?;
-    }
-    let mut gathering = Gathering {
+    let tree = loaded.checked.tree();
+    let declarations = Declarations::of(alloc, &loaded.tokens, tree)?;
+    let bodies = written_bodies(alloc, &declarations)?;
+    Gathering {
         alloc,
         source,
-        program: &loaded.checked.tree().program,
+        program: &tree.program,
         declarations: &declarations,
         bodies: &bodies,
         continue_returns,
@@ -146,10 +164,6 @@ pub fn hints(
             more: 0,
         },
         is_refused: false,
-    };
-    gathering.add_all()?;
-    if gathering.is_refused {
-        return Err(AllocError);
     }
-    Ok(gathering.hints)
+    .gather()
 }

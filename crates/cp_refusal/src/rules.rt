@@ -199,9 +199,10 @@ pub fn sentence<'a>(
     tokens: &'a Tokens,
     broken: Broken<'a>,
 ) -> Result<String, AllocError> {
+    let declarations = Declarations::of(alloc, tokens, broken.tree)?;
     let mut saying = Saying {
         teller: Teller::new(alloc, source, tokens, broken.at),
-        declarations: Declarations::of(alloc, tokens, broken.tree)?,
+        declarations,
     };
     if !put_particular(&mut saying, broken.rule) {
         put_complaint(&mut saying, broken);

@@ -72,13 +72,27 @@ pub struct WrittenName<'a> {
 }
 
 /// The statements and names of a body, with all that is inside of others. A name that is set stands behind the value that it is given.
-#[derive(Drop)]
 pub struct Written<'a> {
     pub owned: OwnedBody<'a>,
     pub statements: Vec<PlacedStatement<'a>>,
     /// Statements that are done one after another.
     pub sequences: Vec<&'a [Statement]>,
     pub names: Vec<WrittenName<'a>>,
+    /// Whether memory was refused for one of them.
+    is_refused: bool,
+}
+
+// One call where it is dropped, not one for each list: proofs of functions that may end early are much shorter.
+impl<'a> Drop for Written<'a> {
+    fn drop(self) {
+        let Written {
+            owned: _,
+            statements: _,
+            sequences: _,
+            names: _,
+            is_refused: _,
+        } = self;
+    }
 }
 
 impl<'a> Written<'a> {
@@ -89,165 +103,154 @@ impl<'a> Written<'a> {
             statements: Vec::new(alloc),
             sequences: Vec::new(alloc),
             names: Vec::new(alloc),
+            is_refused: false,
         };
-        written.add_sequence(&owned.body.statements, NOTHING_AROUND)?;
+        written.add_sequence(&owned.body.statements, NOTHING_AROUND);
+        if written.is_refused {
+            return Err(AllocError);
+        }
         Ok(written)
     }
 
     #[cycle(statements)]
-    fn add_sequence(&mut self, nodes: &'a [Statement], around: Around) -> Result<(), AllocError> {
-        self.sequences.push(nodes)?;
+    fn add_sequence(&mut self, nodes: &'a [Statement], around: Around) {
+        let added = self.sequences.push(nodes);
+        self.is_refused = self.is_refused || added.is_err();
         for node in nodes {
-            self.add_statement(node, around)?;
+            self.add_statement(node, around);
         }
-        Ok(())
     }
 
     #[cycle(statements)]
-    fn add_statement(&mut self, node: &'a Statement, around: Around) -> Result<(), AllocError> {
-        self.statements.push(PlacedStatement {
-            statement: node,
-            around,
-        })?;
+    fn add_statement(&mut self, node: &'a Statement, around: Around) {
+        self.add_placed(node, around);
         let within = around.within(node);
         match &node.kind {
-            StatementKind::Empty => Ok(()),
+            StatementKind::Empty => {}
             StatementKind::Assign(target, value) => {
-                self.add_expression(value)?;
-                self.add_designator(target, Use::Set)
+                self.add_expression(value);
+                self.add_designator(target, Use::Set);
             }
             StatementKind::Call(called, nodes) => self.add_call(called, nodes),
             StatementKind::Init(starts) => {
                 for one in starts {
-                    self.add_call(&one.target, &one.arguments)?;
+                    self.add_call(&one.target, &one.arguments);
                 }
-                Ok(())
             }
             StatementKind::Block(inner) | StatementKind::Cycle(inner) => {
-                self.add_sequence(inner, within)
+                self.add_sequence(inner, within);
             }
             StatementKind::If(test, then, otherwise) => {
-                self.add_expression(test)?;
-                self.add_statement(then, within)?;
-                match otherwise {
-                    Some(inner) => self.add_statement(inner, within),
-                    None => Ok(()),
+                self.add_expression(test);
+                self.add_statement(then, within);
+                if let Some(inner) = otherwise {
+                    self.add_statement(inner, within);
                 }
             }
             StatementKind::Case(selector, arms, _) => {
-                self.add_expression(selector)?;
+                self.add_expression(selector);
                 for one in arms {
-                    self.add_statement(&one.body, within)?;
+                    self.add_statement(&one.body, within);
                 }
-                Ok(())
             }
             StatementKind::While(test, body) => {
-                self.add_expression(test)?;
-                self.add_statement(body, within)
+                self.add_expression(test);
+                self.add_statement(body, within);
             }
             StatementKind::Repeat(inner, test) => {
-                self.add_sequence(inner, within)?;
-                self.add_expression(test)
+                self.add_sequence(inner, within);
+                self.add_expression(test);
             }
             StatementKind::For(variable, from, _, to, body) => {
-                self.add_expression(from)?;
-                self.add_expression(to)?;
-                self.add_name(variable, &[], Use::Set)?;
-                self.add_name(variable, &[], Use::Read)?;
-                self.add_statement(body, within)
+                self.add_expression(from);
+                self.add_expression(to);
+                self.add_name(variable, &[], Use::Set);
+                self.add_name(variable, &[], Use::Read);
+                self.add_statement(body, within);
             }
             StatementKind::Asserted(_, tests, inner) => {
-                self.add_expressions(tests)?;
-                self.add_statement(inner, within)
+                self.add_expressions(tests);
+                self.add_statement(inner, within);
             }
         }
     }
 
-    fn add_call(
-        &mut self,
-        name: &'a Designator,
-        nodes: &'a [Expression],
-    ) -> Result<(), AllocError> {
-        self.add_designator(name, Use::Read)?;
+    fn add_placed(&mut self, statement: &'a Statement, around: Around) {
+        let added = self.statements.push(PlacedStatement { statement, around });
+        self.is_refused = self.is_refused || added.is_err();
+    }
+
+    fn add_call(&mut self, name: &'a Designator, nodes: &'a [Expression]) {
+        self.add_designator(name, Use::Read);
         for one in nodes {
             match name_alone(one) {
-                Some(passed) => self.add_designator(passed, Use::Passed)?,
-                None => self.add_expression(one)?,
+                Some(passed) => self.add_designator(passed, Use::Passed),
+                None => self.add_expression(one),
             }
         }
-        Ok(())
     }
 
-    fn add_name(
-        &mut self,
-        name: &'a Identifier,
-        selectors: &'a [Selector],
-        used: Use,
-    ) -> Result<(), AllocError> {
-        self.names.push(WrittenName {
+    fn add_name(&mut self, name: &'a Identifier, selectors: &'a [Selector], used: Use) {
+        let added = self.names.push(WrittenName {
             name,
             selectors,
             used,
-        })?;
-        Ok(())
+        });
+        self.is_refused = self.is_refused || added.is_err();
     }
 
     #[cycle(names)]
-    fn add_designator(&mut self, node: &'a Designator, used: Use) -> Result<(), AllocError> {
+    fn add_designator(&mut self, node: &'a Designator, used: Use) {
         for one in &node.selectors {
             if let Selector::Index(index) = one {
-                self.add_expression(index)?;
+                self.add_expression(index);
             }
         }
-        self.add_name(&node.name, &node.selectors, used)
+        self.add_name(&node.name, &node.selectors, used);
     }
 
     #[cycle(names)]
-    fn add_expressions(&mut self, nodes: &'a [Expression]) -> Result<(), AllocError> {
+    fn add_expressions(&mut self, nodes: &'a [Expression]) {
         for one in nodes {
-            self.add_expression(one)?;
-        }
-        Ok(())
-    }
-
-    #[cycle(names)]
-    fn add_expression(&mut self, node: &'a Expression) -> Result<(), AllocError> {
-        self.add_sum(&node.left)?;
-        match &node.right {
-            Some((_, right)) => self.add_sum(right),
-            None => Ok(()),
+            self.add_expression(one);
         }
     }
 
     #[cycle(names)]
-    fn add_sum(&mut self, node: &'a Sum) -> Result<(), AllocError> {
-        self.add_term(&node.first)?;
+    fn add_expression(&mut self, node: &'a Expression) {
+        self.add_sum(&node.left);
+        if let Some((_, right)) = &node.right {
+            self.add_sum(right);
+        }
+    }
+
+    #[cycle(names)]
+    fn add_sum(&mut self, node: &'a Sum) {
+        self.add_term(&node.first);
         for (_, term) in &node.more {
-            self.add_term(term)?;
+            self.add_term(term);
         }
-        Ok(())
     }
 
     #[cycle(names)]
-    fn add_term(&mut self, node: &'a Term) -> Result<(), AllocError> {
-        self.add_factor(&node.first)?;
+    fn add_term(&mut self, node: &'a Term) {
+        self.add_factor(&node.first);
         for (_, factor) in &node.more {
-            self.add_factor(factor)?;
+            self.add_factor(factor);
         }
-        Ok(())
     }
 
     #[cycle(names)]
-    fn add_factor(&mut self, node: &'a Factor) -> Result<(), AllocError> {
+    fn add_factor(&mut self, node: &'a Factor) {
         match &node.kind {
             FactorKind::Named(named, arguments) => {
-                self.add_designator(named, Use::Read)?;
-                self.add_expressions(arguments)
+                self.add_designator(named, Use::Read);
+                self.add_expressions(arguments);
             }
             FactorKind::Group(inner) => self.add_expression(inner),
             FactorKind::Not(inner) => self.add_factor(inner),
             FactorKind::Set(elements) => self.add_expressions(elements),
-            FactorKind::Number(_) | FactorKind::Character(_) => Ok(()),
+            FactorKind::Number(_) | FactorKind::Character(_) => {}
         }
     }
 }
