@@ -46,7 +46,6 @@ struct Onward {
 }
 
 /// The states that were found, and the edges between them.
-#[derive(Drop)]
 pub struct PageGraph<'a, K> {
     pub teller: Teller<'a, K>,
     length: Length,
@@ -58,6 +57,21 @@ pub struct PageGraph<'a, K> {
     known: IndexSet<StateKey>,
     /// The state that each edge leads to, where it leads to no end.
     targets: Vec<Option<usize>>,
+}
+
+// One call where it is dropped, not one for each list: proofs of functions that may end early are much shorter.
+impl<'a, K> Drop for PageGraph<'a, K> {
+    fn drop(self) {
+        let PageGraph {
+            teller: _,
+            length: _,
+            merging: _,
+            states: _,
+            nodes: _,
+            known: _,
+            targets: _,
+        } = self;
+    }
 }
 
 impl<'a, K: Schedules> PageGraph<'a, K> {

@@ -16,6 +16,12 @@ use crate::subject::PageSubject;
 use cp_progress::ObserveProgress;
 use std::alloc::{AllocError, Global};
 
+static BEFORE_DATA: [&str; 7] = [BEGIN, STYLE_HASH, BETWEEN, SCRIPT_HASH, HEAD, STYLE, BODY];
+
+static BEHIND_DATA: [&str; 11] = [
+    SCRIPT, PLAY, BRIEF, COUNTS, ROUNDS, TEACH, PANELS, KEY, LANES, MOVES, END,
+];
+
 /// The page on which a program is played: one file of HTML, which loads nothing.
 pub fn page<O: ObserveProgress>(
     alloc: Global,
@@ -24,14 +30,15 @@ pub fn page<O: ObserveProgress>(
 ) -> Result<String, AllocError> {
     let data = data(alloc, subject, observer)?;
     let mut text = String::new(alloc);
-    for part in [BEGIN, STYLE_HASH, BETWEEN, SCRIPT_HASH, HEAD, STYLE, BODY] {
-        text.push_str(part)?;
-    }
+    push_parts(&mut text, &BEFORE_DATA)?;
     text.push_str(data.text()?)?;
-    for part in [
-        SCRIPT, PLAY, BRIEF, COUNTS, ROUNDS, TEACH, PANELS, KEY, LANES, MOVES, END,
-    ] {
+    push_parts(&mut text, &BEHIND_DATA)?;
+    Ok(text)
+}
+
+fn push_parts(text: &mut String, parts: &[&str]) -> Result<(), AllocError> {
+    for part in parts {
         text.push_str(part)?;
     }
-    Ok(text)
+    Ok(())
 }

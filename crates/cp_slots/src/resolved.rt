@@ -9,9 +9,15 @@ use crate::tables::{Component, Layout, Process, ResolvedRoutine};
 use std::marker::Model;
 
 /// A program whose names are slots. Its numbers are sound.
-#[derive(Drop)]
 pub struct Resolved {
     layout: Layout,
+}
+
+// One call where it is dropped, not one for each list: proofs of functions that may end early are much shorter.
+impl Drop for Resolved {
+    fn drop(self) {
+        let Resolved { layout: _ } = self;
+    }
 }
 
 impl Model for Resolved {
