@@ -155,7 +155,9 @@ def function_at(file, local, cycle, start, lines):
     ends = (f"{margin}}}", f"{margin}{{}}")
     end = start if lines[start].endswith("}") else next(at for at in range(start + 1, len(lines)) if lines[at] in ends)
     body = next((at for at in range(start, end + 1) if re.match(rf"{margin}(\S.*)?\{{\s*\}}?$", lines[at])), start)
-    calls = re.search(rf"(?<![\w.:])(Self::|self\.)?{local[-1]}\(", "\n".join(lines[body + 1 : end]))
+    # (in a method the bare name is that of another function)
+    before = r"\b(Self::|self\.)" if len(local) > 1 else r"(?<![\w.:])"
+    calls = re.search(rf"{before}{local[-1]}\(", "\n".join(lines[body + 1 : end]))
     return Function(file, local, cycle, start, body, end, not cycle and calls is not None)
 
 
@@ -163,7 +165,8 @@ def owner_of(generic, trait, arguments, own):
     """The name of an impl: its type, its trait, and the types that the trait is applied to, but those that are variables of the impl."""
     variables = re.findall(r"(?:^|, )(?:const )?('?\w+)", generic or "")
     named = [it for it in (it.strip() for it in (arguments or "").split(",")) if re.fullmatch(r"[\w:]+", it) and it not in variables]
-    words = [it.split("::")[-1] for it in (own, trait or "", *named)]
+    # (a drop stands with its type, without the trait)
+    words = [it.split("::")[-1] for it in (own, *([] if trait in (None, "Drop") else [trait]), *named)]
     return words[0][0].upper() + words[0][1:] + "".join(words[1:])
 
 
