@@ -165,8 +165,7 @@ def owner_of(generic, trait, arguments, own):
     """The name of an impl: its type, its trait, and the types that the trait is applied to, but those that are variables of the impl."""
     variables = re.findall(r"(?:^|, )(?:const )?('?\w+)", generic or "")
     named = [it for it in (it.strip() for it in (arguments or "").split(",")) if re.fullmatch(r"[\w:]+", it) and it not in variables]
-    # (a drop stands with its type, without the trait)
-    words = [it.split("::")[-1] for it in (own, *([] if trait in (None, "Drop") else [trait]), *named)]
+    words = [it.split("::")[-1] for it in (own, trait or "", *named)]
     return words[0][0].upper() + words[0][1:] + "".join(words[1:])
 
 
@@ -178,7 +177,8 @@ def functions_of(file, text):
             continue
         bare, head = line.strip(), IMPL.match(line)
         if head:
-            owner = (owner_of(*head.groups()),)
+            # (a drop is passed over: it is proved fast, and toolchains name it differently)
+            owner = None if head[2] == "Drop" else (owner_of(*head.groups()),)
         elif re.match(r"(pub )?trait ", line):
             owner = None
         elif line.startswith("}"):
