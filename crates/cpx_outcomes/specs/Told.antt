@@ -30,7 +30,7 @@ pub record IsOfProgram (r : Tables) (l : code_legend.Legend) (lines : List (List
   pub program : subject.program.now ≡ r
   pub legend : subject.legend.now ≡ l
   pub source : map string_bytes subject.source.now ≡ lines
-  pub choices : subject.limits.choices ≡ 8
+  pub choices : subject.limits.choices ≡ 100
   pub steps : subject.limits.steps ≡ 1000
   pub gates : subject.limits.discipline.gates ≡ First
   pub signals : subject.limits.discipline.signals ≡ Return

@@ -21,7 +21,7 @@ use cp_symbols::Symbols;
 use std::alloc::{AllocError, Global};
 
 /// The most choices of a schedule, where no option says another number.
-const CHOICES: u8 = 8;
+const CHOICES: u8 = 100;
 
 /// The most steps between choices.
 const STEPS: u32 = 1000;
@@ -117,7 +117,7 @@ fn code_of(is_whole: bool) -> u8
 
 // The limits where no option says others.
 fn usual_limits() -> Limits
-    ensures { (result.choices ≡ 8) × (result.steps ≡ 1000) × (result.discipline.gates ≡ First) × (result.discipline.signals ≡ Return) }
+    ensures { (result.choices ≡ 100) × (result.steps ≡ 1000) × (result.discipline.gates ≡ First) × (result.discipline.signals ≡ Return) }
 {
     let Some(limits) = Limits::new(CHOICES, STEPS, Discipline::by_gates(Gates::First)) else {
         unreachable!()
