@@ -177,7 +177,7 @@ def functions_of(file, text):
             continue
         bare, head = line.strip(), IMPL.match(line)
         if head:
-            # (a drop is passed over: it is proved fast, and toolchains name it differently)
+            # (a drop is passed over: it is proved fast, and its name is not made as those of other impls)
             owner = None if head[2] == "Drop" else (owner_of(*head.groups()),)
         elif re.match(r"(pub )?trait ", line):
             owner = None
