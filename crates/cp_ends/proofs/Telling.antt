@@ -1,10 +1,11 @@
 -- When two ends are one, and two values: what the comparison of the code answers.
-use Rattle.std.proofs.Common.{◌≡◌, ◌==◌, ℕ, Bool, true, false, ap, refl}
+use Rattle.std.proofs.Common.{◌≡◌, ◌==◌, ℕ, Bool, true, false, ap, refl, rules}
 use Rattle.cp_ends.proofs.Vocabulary.{◌&&◌, Decides, Shown, OutcomeKind, ends_tests, Over, Alone, Spins}
 use Rattle.std.proofs.lemmas.Bool.Decides.{Decides-eqb, Decides-int_eq}
+use denote.Enum.Bare.{same_true, true_same}
+use Rattle.cp_store.specs.contracts.error.ErrorName.{the_type}
 use Rattle.cp_store.specs.contracts.error.ErrorNamePartialEq.TheImpl as name_eq
 use Rattle.cp_store.specs.declared.error.ErrorName.{ErrorName}
-use Rattle.cp_store.specs.declared.error.ErrorName.TheVariants.{Overflow, ZeroDivisor, Range, NoCase, QueueInUse, NotInit, InitTwice, Assertion, Invariant}
 use Rattle.cp_machine.specs.declared.shown.Shown.TheVariants.{Integer, Char, Truth, Constant}
 use Rattle.cp_run.specs.contracts.outcome.OutcomeKindPartialEq.TheImpl as kind_eq
 use Rattle.cp_run.specs.declared.outcome.OutcomeKind.TheVariants.{Finished, AllWaiting, RunError, ChoiceLimit, StepLimit, OutputLimit}
@@ -12,16 +13,7 @@ use Rattle.cp_ends.specs.declared.end.End.{End}
 use Rattle.cp_resolved.proofs.components.ComponentImages.{both}
 
 names_told : (a b : ErrorName) → Decides ((name_eq.ghosts).eq a b) (a ≡ b)
-names_told Overflow Overflow = (λ h. refl, λ e. refl)
-names_told ZeroDivisor ZeroDivisor = (λ h. refl, λ e. refl)
-names_told Range Range = (λ h. refl, λ e. refl)
-names_told NoCase NoCase = (λ h. refl, λ e. refl)
-names_told QueueInUse QueueInUse = (λ h. refl, λ e. refl)
-names_told NotInit NotInit = (λ h. refl, λ e. refl)
-names_told InitTwice InitTwice = (λ h. refl, λ e. refl)
-names_told Assertion Assertion = (λ h. refl, λ e. refl)
-names_told Invariant Invariant = (λ h. refl, λ e. refl)
-names_told x y = (λ h. absurd (cc), λ e. absurd (cc))
+names_told a b = (λ h. same_true the_type (search rules) a b h, λ e. true_same the_type a b e)
 
 all_three : (a b c : Bool) → a ≡ true → b ≡ true → c ≡ true → (a && (b && c)) ≡ true
 all_three true true true x y z = refl
