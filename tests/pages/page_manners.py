@@ -155,6 +155,9 @@ def check_point(check, browser, path, data):
                 continue
             marked += 1
             check(browser.do("document.querySelectorAll('#picture line.point').length") >= 1, f"{button} {place}: no point is marked in the lanes")
+            low = browser.do("Number(document.querySelector('#picture line.point').getAttribute('y1'))")
+            heights = browser.do("[...document.querySelectorAll('#lanes .taken .opt')].map(shape => Number(shape.getAttribute('y')) + 9)")
+            check(sum(height < low for height in heights) == wanted, f"{button} {place}: the line is at {low}, the choices at {heights}, and the point after {wanted}")
             check(browser.do("$('point') !== null"), f"{button} {place}: there is no button")
             if browser.do("$('point') !== null"):
                 browser.click("#point")
@@ -210,7 +213,7 @@ def check_signs(check, browser, path):
 
 
 # What says nothing by itself: grounds, lines of life, letters, and the colours of monitors.
-PLAIN = {"band", "life", "hit", "pick", "text", "dim", "lab", "loud", "broken", "ended", "head", "later", "soft", "strong", "held", "hatched",
+PLAIN = {"band", "life", "hit", "pick", "text", "dim", "lab", "loud", "broken", "ended", "head", "later", "soft", "strong", "held", "hatched", "plate",
          *(f"m{m}" for m in range(8)), "finished", "all-waiting", "run-error", "choice-limit", "step-limit", "output-limit", "alone", "spins", "beyond"}
 DRAWN = """(id => {
   const within = element => [...element.children].flatMap(child => [child, ...within(child)]);

@@ -113,10 +113,43 @@ def check_quiet(room):
     odd = os.fsencode(room) + b"/\xff.cp"
     with open(odd, "wb") as file:
         file.write(b"\x00\xff'")
-    done = subprocess.run(["./class", "--csv", "-e", "never all-waiting", odd, str(room)], capture_output=True, cwd=ROOT, timeout=120, check=False)
-    rows = done.stdout.splitlines()[1:]
-    want("a file's odd name", (done.returncode, done.stderr, rows[0].split(b",")[:2]), (0, b"", [odd, b"refused"]))
-    want("a folder", rows[1], os.fsencode(room) + b",unreadable,0,Is a directory")
+    done = subprocess.run(["./class", "--csv", "-e", "never all-waiting", odd], capture_output=True, cwd=ROOT, timeout=120, check=False)
+    want("a file's odd name", (done.returncode, done.stderr, done.stdout.splitlines()[1].split(b",")[:2]), (0, b"", [odd, b"refused"]))
+
+
+def check_what_is_no_file(room):
+    """A folder, and a pattern that no name fits, are refused before anything is marked."""
+    asked = ["./class", "-e", "never all-waiting", DISPLAYS]
+    want("a folder", run(*asked, room), (2, "", f"./class: {room} is a folder: name the files in it{HELP}"))
+    want("a pattern that fits nothing", run(*asked, room / "none/*.cp"), (2, "", f"./class: there is no file {room}/none/*.cp{HELP}"))
+
+
+def check_broken_frame(room):
+    """What stands around the solutions and is refused is said once; a mistake of a solution is not taken for one of what stands around it."""
+    good, worse, top, bottom = (room / it for it in ("good.cp", "worse.cp", "frame-top", "frame-bottom"))
+    good.write_text("m = monitor; procedure entry e; begin end; begin end;\n")
+    worse.write_text("m = monitor; begin end;\n")
+    asked = ["./class", "--csv", "--top", top, "--bottom", bottom, "-e", "never all-waiting"]
+    fits = ("type\n", "var a: m;\nbegin init a; a.e end.\n")
+    for what, texts, files, wanted in (
+        ("nothing", fits, [good], (0, [["holds"]], "")),
+        ("the top", ("type type\n", fits[1]), [good], (2, [], f"./class: each solution is refused for what stands around it: line 1 of {top}: ")),
+        ("the bottom", (fits[0], "var a: m;\nbegin init a; b.e end.\n"), [good, worse], (2, [], f"./class: each solution is refused for what stands around it: line 2 of {bottom}: ")),
+        ("a solution", fits, [good, worse], (0, [["holds"], ["refused"]], "")),
+        ("a solution alone", fits, [worse], (0, [["refused"]], "")),
+    ):
+        top.write_text(texts[0])
+        bottom.write_text(texts[1])
+        status, text, said = run(*asked, *files)
+        want(f"what is broken: {what}", (status, [it[1:2] for it in csv.reader(io.StringIO(text))][1:], said[: len(wanted[2]) or None]), wanted)
+
+
+def check_model_of_expectations():
+    """An expectation that the model itself fails is said, and all is marked."""
+    asked = ["./class", "--csv", "--like", ORDERED, "-e", "never finished", "-e", "never all-waiting", ORDERED]
+    status, text, said = run(*asked)
+    want("marks beside a model that fails", (status, text.splitlines()[1].split(",")[1:5]), (6, ["fails", "holds", "holds", "2"]))
+    want("what is said of the model", (said.count("\n"), said.startswith(f"./class: {ORDERED} itself does not have what is expected: never finished: fails: ")), (1, True))
 
 
 def check_refusal(room):
@@ -273,6 +306,9 @@ def check_class(room):
     check_time(room)
     check_interrupt_of_class(room)
     check_quiet(room)
+    check_what_is_no_file(room)
+    check_broken_frame(room)
+    check_model_of_expectations()
     check_refusal(room)
     check_like_ends()
     check_like_who_waits()
@@ -294,14 +330,13 @@ def check_marks(room):
     unknown.write_text("var a, b: p;\n  c: integr;\n")
     short.write_text("var a: p;\n")
     around = ["--top", top, "--bottom", bottom, "--choices", "5", "--csv", "-e", "never all-waiting"]
-    status, text, said = run("./class", *around, right, unknown, short, "none.cp")
+    status, text, said = run("./class", *around, right, unknown, short)
     lines = text.splitlines()
     want("a class", (status, said), (0, ""))
     want("its columns", lines[0], "file,never all-waiting,points,why: never all-waiting")
     want("a solution that holds", lines[1], f"{right},holds,1,")
     want("the line of the student's file", lines[2], f"{unknown},refused,0,line 2: integr is not declared here: integer may be meant (rule C1)")
     want("the line of what stands below", lines[3], f"{short},refused,0,line 1 of {bottom}: b is not declared here (rule C1)")
-    want("a file that is not there", lines[4], "none.cp,unreadable,0,No such file or directory")
     status, text, _ = run("./class", "--csv", "--choices", "19", "-e", "never all-waiting", "--like", ORDERED, DEADLOCK, ORDERED)
     want("a model", [it.split(",")[1:4] for it in text.splitlines()[1:]], [["fails", "fails", "0"], ["holds", "holds", "2"]])
     want_in("the first schedule against it", text, "first against it: 0.0.1.0.0 all-waiting output -")

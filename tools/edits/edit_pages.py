@@ -1,8 +1,7 @@
-"""The pages of wrong edits that tools/try-edits tries: what each changes, what its record stands on, and which functions of its crate it touches.
+"""The pages of wrong edits that tools/try-edits tries: what each changes, and which functions of its crate it touches.
 
 It reads sources as rt fmt lays them out: what begins and ends an item stands at the item's own indent."""
 import functools
-import hashlib
 import re
 from dataclasses import dataclass
 from pathlib import Path
@@ -14,8 +13,6 @@ TYPE = re.compile(r"^(?:pub(?:\(\w+\))? )?(?:struct|enum) (\w+)", re.M)
 NAMED_ITEM = re.compile(r"(?:const|static|struct|enum|macro_rules!|type) (\w+)")
 DEFINED = re.compile(r"(?:(?:pub|abbrev|unfoldable|data|record|infix\w*|rec) )*([^\s:{(]+)")
 WORD = re.compile(r"[^\s(){}\[\].,;:@\"`]+")
-# (what a drop without a clause takes apart promises nothing)
-PROMISED = re.compile(r"\s*(?!impl\b[^{]* Drop for |fn drop\(self\) \{)(requires|ensures|ghost|pub|fn|impl|struct|enum)\b")
 
 
 # Crates and pages.
@@ -39,11 +36,11 @@ def below(crate):
 
 
 class Page:
-    """A page that says an edit: its pairs of texts, each with its file."""
+    """A page that says an edit: its pairs of texts, each with its file. A control has a line 'control: WHY'."""
 
     def __init__(self, path, text):
         self.path, self.crate, self.name = path, path.parent.parent, f"{path.parent.parent.name}/{path.stem}"
-        self.pairs, self.stray, file, old = [], None, None, None
+        self.pairs, self.stray, self.is_control, file, old = [], None, text.startswith("control: "), None, None
         for line in text.splitlines():
             word, _, rest = line.partition(" ")
             if word == "file:":
@@ -85,30 +82,10 @@ def pages():
     return [Page(it, text) for it, text in texts.items() if it.name != "README.md" and not text.startswith("of: ")]
 
 
-@functools.lru_cache(maxsize=None)
-def sum_of(crate, is_whole):
-    """A sum of a crate's code and definitions, or of its definitions and clauses alone."""
-    total = hashlib.sha256()
-    for part in ("src", "specs"):
-        for path in sorted(it for it in (ROOT / "crates" / crate / part).rglob("*") if it.is_file()):
-            text = path.read_text(encoding="utf-8")
-            if part == "src" and not is_whole:
-                text = "\n".join(it for it in text.split("\n") if PROMISED.match(it))
-            total.update(f"{path.relative_to(ROOT)}\0{len(text)}\0{text}".encode())
-    return total.hexdigest()
-
-
-def checksum(page):
-    """A checksum of an edit, of the code and definitions of its crate, and of the definitions and clauses of the crates below."""
-    crate = page.crate.name
-    sums = [sum_of(crate, True), *(sum_of(it, False) for it in sorted(below(crate)))]
-    return hashlib.sha256(page.path.read_bytes() + " ".join(sums).encode()).hexdigest()[:16]
-
-
 def promised_edits():
     """The names of the edits that tables of documents name beside a promise."""
     found = set()
-    for name in ("PROOFS", "LANGUAGE", "RULES", "SEMANTICS", "REPORT", "SHOW"):
+    for name in ("PROOFS", "WRONG-BODIES", "LANGUAGE", "RULES", "SEMANTICS", "REPORT", "SHOW"):
         columns = []
         for line in (ROOT / f"docs/{name}.md").read_text(encoding="utf-8").splitlines():
             cells = [it.strip() for it in line.strip("|").split("|")] if line.startswith("|") else []
@@ -206,19 +183,34 @@ def source(crate):
     return found, texts
 
 
+def definitions_of(file, text):
+    """The definitions of a text: the file, the name, the first line and the text of each."""
+    found, name, start, lines = [], None, 0, text.split("\n")
+    for number, line in enumerate([*lines, "end"]):
+        word = DEFINED.match(line)
+        if not word or line.startswith(("--", "use ", "mod ", "pub mod", "pub use", "}", ")")) or word[1] == name:
+            continue
+        if name:
+            found.append((file, name, start, "\n".join(lines[start:number])))
+        name, start = word[1], number
+    return found
+
+
 @functools.lru_cache(maxsize=None)
 def definitions(crate):
-    """The definitions of a crate: the file, the name, the first line and the text of each."""
-    found = []
-    for path in sorted((crate / "specs").rglob("*.antt")):
-        name, start, lines = None, 0, path.read_text(encoding="utf-8").split("\n")
-        for number, line in enumerate([*lines, "end"]):
-            word = DEFINED.match(line)
-            if not word or line.startswith(("--", "use ", "mod ", "pub mod", "pub use", "}", ")")) or word[1] == name:
-                continue
-            if name:
-                found.append((str(path.relative_to(crate)), name, start, "\n".join(lines[start:number])))
-            name, start = word[1], number
+    """The definitions of a crate."""
+    paths = sorted((crate / "specs").rglob("*.antt"))
+    return [it for path in paths for it in definitions_of(str(path.relative_to(crate)), path.read_text(encoding="utf-8"))]
+
+
+def definitions_turned(page):
+    """The definitions that an edit changes, each with its file."""
+    found = set()
+    for file, old, _ in page.pairs:
+        text = (page.crate / file).read_text(encoding="utf-8")
+        if file.startswith("specs/") and not old.startswith("use ") and old in text:
+            line = text[: text.index(old)].count("\n")
+            found |= {(file, name) for where, name, start, own in definitions(page.crate) if where == file and start <= line <= start + own.count("\n")}
     return found
 
 
@@ -261,8 +253,8 @@ def functions_touched(page):
     wanted = {}
     for file, old, _ in page.pairs:
         text = (page.crate / file).read_text(encoding="utf-8")
-        # (a pair may stand in what an earlier one made)
-        if old in text and not file.startswith("proofs/"):
+        # (a pair may stand in what an earlier one made, and an import touches what names it)
+        if old in text and not file.startswith("proofs/") and not old.startswith("use "):
             found = functions_touched_in(page.crate, file, text[: text.index(old)].count("\n"))
             if not found:
                 return []

@@ -8,7 +8,7 @@ FLAGS = ("--merge", "--ends", "--at-once")
 FORMS = ("--csv", "--html")
 # Options of ./class alone, with a value.
 OWN = ("-e", "--like", "--mutants", "--top", "--bottom", "--seconds", "--minutes", "--pages")
-ALONE = ("--no-display",)
+ALONE = ("--no-display", "--other-sources")
 
 
 class Refused(Exception):
@@ -20,7 +20,7 @@ class Asked:
 
     def __init__(self, words):
         self.expectations, self.files, self.options, self.form, self.own = [], [], [], None, {}
-        self.no_display = False
+        self.no_display, self.other_sources = False, False
         left, are_files = list(words), False
         while left:
             word = left.pop(0)
@@ -48,7 +48,7 @@ class Asked:
         elif name in FLAGS:
             self.options.append(name)
         elif name in ALONE:
-            self.no_display = True
+            setattr(self, name[2:].replace("-", "_"), True)
         elif name in FORMS:
             if self.form not in (None, name[2:]):
                 raise Refused(f"{name}: not beside --{self.form}")

@@ -1,13 +1,14 @@
 -- The entries of the code are the kept states, each with its word.
 use Rattle.std.proofs.Common.{◌≡◌, ◌∙◌, ◌⊎◌, inl, inr, ◌<◌, ◌≤◌, ℕ, zero, suc, Bool, true, false, cond, if◌then◌else◌, List, [], ◌∷◌, ◌++◌, length, Option, None, Some, is_some, get_or, refl, sym, ap, subst, arith}
-use Rattle.std.specs.Prelude.{All, nat_eq, slice_get}
+use Rattle.std.specs.Prelude.{◌≢◌, All, AllPairs, nat_eq, slice_get}
 use Rattle.std.specs.Map.{lookup}
 use Rattle.std.proofs.lemmas.List.{append_assoc}
 use Rattle.std.proofs.lemmas.List.Elements.{All-push, All-weaker}
+use Rattle.std.proofs.lemmas.List.Quantifiers.{all_pairs_push}
 use Rattle.std.proofs.lemmas.Option.{same_Some, slice_get_cases, slice_get_past, slice_get_within}
 use Rattle.indexmap.specs.IndexMap.{insert_entry}
 use lib.Pointwise.{pointwise}
-use Rattle.cp_at_once.proofs.Words.{Tables, Machine, same_key, has, all_at, OriginAtOnce}
+use Rattle.cp_at_once.proofs.Words.{Tables, Machine, same_key, has, key_self, all_at, OriginAtOnce}
 use Rattle.cp_key.specs.Room.{IsMachineOf}
 use Rattle.cp_parts.specs.Placed.{IsPlaced}
 use Rattle.cp_ends.specs.Holds as by_states
@@ -103,6 +104,20 @@ found_same r store placed (e ∷ es) (x ∷ xs) row m h owns is = by (pointwise 
     by false true t on = cc
 found_same r store placed _ _ row m h owns is = absurd h
 
+-- a state that was not found is none of them
+new_state : (xs : List Stated) (m : Machine) → has same_key xs m ≡ false → (i : ℕ) (d : Stated) → i < length xs → (get_or xs i d).0 ≢ m
+new_state [] m fresh i d lt = absurd (omega (arith, lt))
+new_state (x ∷ xs) m fresh i d lt = by (same_key x.0 m) refl fresh (λ old i lt. new_state xs m old i d lt) i lt
+  where
+    by : (b : Bool) → b ≡ same_key x.0 m → (if b then true else has same_key xs m) ≡ false → (has same_key xs m ≡ false → (i : ℕ) → i < length xs → (get_or xs i d).0 ≢ m) → (i : ℕ) → i < length (x ∷ xs) → (get_or (x ∷ xs) i d).0 ≢ m
+    by true is old on i lt same = cc
+    by false is old on zero lt same = let found : false ≡ true = is ∙ subst (λ n. same_key x.0 n ≡ true) same (key_self x.0) in cc
+    by false is old on (suc i) lt same = on old i (omega (arith, lt)) same
+
+-- with one that was not found each is there once
+pub one_apart : (xs : List Stated) (m : Machine) (word : List ℕ) → AllPairs (λ x y. x.0 ≢ y.0) xs → has same_key xs m ≡ false → AllPairs (λ x y. x.0 ≢ y.0) (xs ++ (m, word) ∷ [])
+one_apart xs m word apart fresh = all_pairs_push (λ (x y : Stated). x.0 ≢ y.0) xs (m, word) apart (λ i d lt. new_state xs m fresh i d lt)
+
 insert_new : (eq : HalvedRow → HalvedRow → Bool) (es : List Entry) (k : HalvedRow) (o : OriginAtOnce) → is_some (lookup (eq k) es) ≡ false → insert_entry eq es k o ≡ es ++ (k, o) ∷ []
 insert_new eq [] k o new = refl
 insert_new eq (e ∷ es) k o new = by (eq k e.0) new (insert_new eq es k o)
@@ -129,6 +144,7 @@ module _ (r : Tables) (kept : Kept) (xs : List Stated) (h : AreKept r kept xs) w
       record {
         entries = h.entries;
         rows = rows_on r kept.store store es xs stays owned h.rows;
+        apart = h.apart;
         ruled = All-weaker (λ (x : Stated). x.0.discipline ≡ kept.store.discipline) (λ (x : Stated). x.0.discipline ≡ store.discipline) (λ x e. e ∙ sym stays.ruled) xs h.ruled;
         known = stays.known h.known;
       }
@@ -188,6 +204,7 @@ module _ (r : Tables) (kept : Kept) (xs : List Stated) (h : AreKept r kept xs) w
             record {
               entries = subst (λ l. AreStates r l (xs ++ (m, word) ∷ [])) (sym all) states;
               rows = subst (λ l. AreRows new.store l (xs ++ (m, word) ∷ [])) (sym all) rows;
+              apart = one_apart xs m word h.apart fresh;
               ruled = subst (λ (s : States). All (λ (x : Stated). x.0.discipline ≡ s.discipline) (xs ++ (m, word) ∷ [])) (sym same) (All-push (λ (x : Stated). x.0.discipline ≡ kept.store.discipline) xs (m, word) h.ruled stated.it.ruled);
               known = subst (λ (s : States). by_states.AreStates r s []) (sym same) h.known;
             }

@@ -11,5 +11,6 @@ pub mod Going
 pub mod Pending
 pub mod Tied
 pub mod Saying
+pub mod Telling
 pub mod Unwinding
 mod Words

@@ -14,6 +14,7 @@ nothing_kept r kept none known =
     record {
       entries = subst (λ es. AreStates r es []) (sym none) (no_states r);
       rows = subst (λ es. AreRows kept.store es []) (sym none) tt;
+      apart = λ i j d less within. absurd (omega (arith, within));
       ruled = All-nil _;
       known = known;
     }

@@ -2,7 +2,9 @@
 use Rattle.cp_at_once.proofs.Words.{◌≡◌, ◌∙◌, ℕ, List, Bool, true, false, length, refl, subst, sym, arith, All-weaker, Tables, Discipline, Machine, slots, silent_slots}
 use Rattle.cp_at_once.proofs.Words.{without_output, slot_graph, LeadsToPlace, LeadsToEnd, ShowsLast, same_key, has, ok_to, all_at, HasWord, Holds, HasLeg}
 use Rattle.cp_at_once.proofs.Words.{FoundAtOnce}
-use Rattle.std.specs.Prelude.{All, IfOk, Result}
+use Rattle.std.specs.Prelude.{◌∷◌, ◌++◌, [], All, IfOk, Result}
+use Rattle.std.proofs.lemmas.List.{length-append}
+use Rattle.std.proofs.lemmas.List.Elements.{All-push}
 use Rattle.cp_at_once_laws.specs.OnSlots.{by_the_book}
 use Rattle.cp_run.specs.declared.outcome.OutcomeKind.TheVariants.{StepLimit}
 use Rattle.cp_ends.specs.Ends.{EndsSo, ShowsSo}
@@ -13,6 +15,7 @@ use Rattle.cp_at_once_laws.specs.OnSlots.{LeavesNothingOut}
 use Rattle.cp_at_once.specs.Following.{Answers, IsGoneThrough, IsOneTooMany, knows_end, knows_value}
 use Rattle.cp_at_once.specs.Whole.{HasTooMany, IsAnswer, IsComplete}
 use Rattle.cp_at_once.proofs.Following.{States}
+use Rattle.cp_at_once.proofs.Keeping.{Stated, one_apart}
 use Rattle.cp_at_once.proofs.Pending.{never_pending}
 use Rattle.cp_at_once.proofs.Tied.{searches}
 use Rattle.cp_ends.proofs.named.Keys.{key_same, key_self}
@@ -33,8 +36,14 @@ module _ (nothing_out : LeavesNothingOut) (r : Tables) (steps most : ℕ) (found
     values : All (λ v. HasWord states v.origin (ShowsSo (slots r discipline) without_output steps v.value)) found.values.items
     values = All-weaker (λ v. HasWord states v.origin (ShowsLast (slot_graph r discipline steps) v.value)) (λ v. HasWord states v.origin (ShowsSo (slots r discipline) without_output steps v.value)) (λ v k. (k.0, k.1, shows_there (slots r discipline) without_output same_key steps key_same key_self v.value k.0 k.2)) found.values.items h.values
 
-    too_many : IsOneTooMany (slot_graph r discipline steps) most states → HasTooMany r discipline steps most states
-    too_many k = record { full = (let few = h.few in let full = k.full in omega (arith, few, full)); state = k.state; word = k.word; leads = place k.state k.word k.leads; new = k.new }
+    too_many : IsOneTooMany (slot_graph r discipline steps) most states → HasTooMany r discipline steps most
+    too_many k =
+        record {
+          states = states ++ (k.state, k.word) ∷ [];
+          count = (let few = h.few in let full = k.full in let one = length-append states ((k.state, k.word) ∷ []) in omega (arith, few, full, one));
+          apart = one_apart states k.state k.word h.kept.apart k.new;
+          reached = All-push (λ (x : Stated). LeadsToState (slots r discipline) without_output steps x.0 x.1) states (k.state, k.word) reached (place k.state k.word k.leads);
+        }
 
   -- ---- nothing is left out
 
@@ -56,9 +65,9 @@ module _ (nothing_out : LeavesNothingOut) (r : Tables) (steps most : ℕ) (found
 
   by : (discipline : Discipline) (b : Bool) → b ≡ found.is_whole → Answers r (slot_graph r discipline steps) (HasLeg r discipline) most 8 found b → IsAnswer r discipline steps most found
   by discipline true e (states, h, t) =
-      record { states = states; kept = h.kept.entries; rows = h.kept.rows; few = h.few; reached = reached discipline states h; ends = ends discipline states h; values = values discipline states h; whole = λ is first uncut. whole discipline states h t first uncut; too_many = λ none. absurd (true_false (e ∙ none)) }
+      record { states = states; kept = h.kept.entries; rows = h.kept.rows; few = h.few; apart = h.kept.apart; reached = reached discipline states h; ends = ends discipline states h; values = values discipline states h; whole = λ is first uncut. whole discipline states h t first uncut; too_many = λ none. absurd (true_false (e ∙ none)) }
   by discipline false e (states, h, many) =
-      record { states = states; kept = h.kept.entries; rows = h.kept.rows; few = h.few; reached = reached discipline states h; ends = ends discipline states h; values = values discipline states h; whole = λ is first uncut. absurd (true_false (sym (e ∙ is))); too_many = λ none. too_many discipline states h many }
+      record { states = states; kept = h.kept.entries; rows = h.kept.rows; few = h.few; apart = h.kept.apart; reached = reached discipline states h; ends = ends discipline states h; values = values discipline states h; whole = λ is first uncut. absurd (true_false (sym (e ∙ is))); too_many = λ none. too_many discipline states h many }
 
 -- of the code's result
 pub says : {E : Type 0} → LeavesNothingOut → (r : Tables) (discipline : Discipline) (steps most : ℕ) (result : Result FoundAtOnce E) → IfOk result (λ found. Answers r (slot_graph r discipline steps) (HasLeg r discipline) most 8 found found.is_whole) → IfOk result (λ found. IsAnswer r discipline steps most found)

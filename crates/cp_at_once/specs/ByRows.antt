@@ -2,23 +2,16 @@
 use Rattle.std.specs.Prelude.{◌≡◌, ℕ, List, [], length}
 use Rattle.cp_slots.specs.Tables.{Tables}
 use Rattle.cp_machine.specs.declared.discipline.Discipline.{Discipline}
-use Rattle.cp_machine.specs.declared.shown.Shown.{Shown}
 use Rattle.cp_machine.specs.System.{Machine}
-use Rattle.cp_run.specs.Silent.{without_output}
-use Rattle.cp_run.specs.Slots.{slots}
-use Rattle.cp_run.specs.declared.outcome.Halt.{Halt}
-use Rattle.cp_run.specs.declared.outcome.Halt.TheVariants.{Choice}
 use Rattle.cp_states.specs.Numbers.{number_at}
 use Rattle.cp_parts.specs.declared.placing.PlaceTable.{PlaceTable}
 use Rattle.cp_parts.specs.declared.store.PartStore.{PartStore}
 use Rattle.cp_parts.specs.Parts.{part_at}
 use Rattle.cp_effects.specs.Changes.{part_position}
 use Rattle.cp_ends.specs.Answer.{slot_graph}
-use Rattle.cp_ends.specs.Arrivals.{goal_at, next_arrival}
 use Rattle.cp_ends.specs.Halves.{width_of}
-use Rattle.cp_ends.specs.Holds.{AreStates, same_key}
+use Rattle.cp_ends.specs.Holds.{AreStates}
 use Rattle.cp_ends.specs.Rows.{IsHalved, IsRowFor}
-use Rattle.cp_ends.specs.declared.end.End.{End}
 use Rattle.cp_ends.specs.declared.states.States.{States}
 use Rattle.cp_at_once.specs.Following.{Within}
 use Rattle.cp_at_once.specs.Legs.{HasLeg}
@@ -46,13 +39,6 @@ pub record HasRoom (discipline : Discipline) (s : SearchAtOnce) : Type 0 where
   pub ruled : s.found.kept.store.discipline ≡ discipline
   pub row : length s.row.items ≡ width_of s.found.kept.store.cache.table
   pub from : length s.from.items ≡ width_of s.found.kept.store.cache.table
-
--- A choice leads to where a stretch halts, and displays these values. Where it halts at a choice, the machine there is such a one.
-pub record Goes (r : Tables) (discipline : Discipline) (steps : ℕ) (m : Machine) (process : ℕ) (halt : Halt End) (IsSuch : Machine → Type 0) (shown : List Shown) : Type 0 where
-  pub after : Machine
-  pub is : halt ≡ Choice → IsSuch after
-  pub goal : goal_at halt after ≡ (next_arrival (slots r discipline) without_output same_key steps m process).goal
-  pub told : shown ≡ (next_arrival (slots r discipline) without_output same_key steps m process).shown
 
 -- The search expands the kept state of a number, which is this machine and has this row, and took these choices.
 pub record IsWithinRow (r : Tables) (discipline : Discipline) (steps most : ℕ) (s : SearchAtOnce) (row : List ℕ) (at : ℕ) (m : Machine) (done : List ℕ) : Type 0 where

@@ -1,5 +1,6 @@
 -- What the findings of the code stand for: the kept states, each with its word, and words that lead to the ends and values.
-use Rattle.std.specs.Prelude.{◌≡◌, ◌<◌, ◌≤◌, ℕ, List, [], ◌∷◌, ◌++◌, All, Option, None, Some, length, slice_get}
+use Rattle.std.specs.Prelude.{◌≡◌, ◌≢◌, ◌<◌, ◌≤◌, ℕ, List, [], ◌∷◌, ◌++◌, All, Option, None, Some, length, slice_get}
+use Rattle.std.specs.List.{AllPairs}
 use Rattle.cp_slots.specs.Tables.{Tables}
 use Rattle.cp_key.specs.Room.{IsMachineOf}
 use Rattle.cp_machine.specs.declared.shown.Shown.{Shown}
@@ -62,10 +63,11 @@ pub record AreStates (r : Tables) (entries : List (HalvedRow × OriginAtOnce)) (
   pub words : (i : ℕ) (e : HalvedRow × OriginAtOnce) (x : Machine × List ℕ) → slice_get entries i ≡ Some e → slice_get states i ≡ Some x → IsWordOf states e.1 x.1
   pub before : (i : ℕ) (e : HalvedRow × OriginAtOnce) → slice_get entries i ≡ Some e → IsBefore i e.1.state
 
--- What the code keeps are the states, under the discipline of its store. What that knows of parts and legs is the program's.
+-- What the code keeps are the states, each once, under the discipline of its store. What that knows of parts and legs is the program's.
 pub record AreKept (r : Tables) (kept : Kept) (states : List (Machine × List ℕ)) : Type 0 where
   pub entries : AreStates r kept.known.entries states
   pub rows : AreRows kept.store kept.known.entries states
+  pub apart : AllPairs (λ x y. x.0 ≢ y.0) states
   pub ruled : All (λ x. x.0.discipline ≡ kept.store.discipline) states
   pub known : by_states.AreStates r kept.store []
 

@@ -3,3 +3,4 @@ pub mod Legs
 pub mod Following
 pub mod ByRows
 pub mod Whole
+pub mod Told

@@ -1,5 +1,6 @@
 -- What a search that makes calls at once answers: true words, and, where each kept state was expanded and no stretch was cut, nothing is left out.
-use Rattle.std.specs.Prelude.{◌≡◌, ◌≤◌, ℕ, List, All, true, false, length}
+use Rattle.std.specs.Prelude.{◌≡◌, ◌≢◌, ◌≤◌, ◌+◌, ℕ, List, All, true, false, length}
+use Rattle.std.specs.List.{AllPairs}
 use Rattle.cp_slots.specs.Tables.{Tables}
 use Rattle.cp_machine.specs.declared.discipline.Discipline.{Discipline}
 use Rattle.cp_at_once_laws.specs.OnSlots.{by_the_book}
@@ -39,22 +40,22 @@ pub record IsComplete (r : Tables) (steps : ℕ) (found : FoundAtOnce) (states :
   pub search : SearchesAtOnce (silent_slots r by_the_book) steps 8 (IsQuietOnSlots r) (λ m. has same_key states m ≡ true) (ends_known found) (alone_known found) (spins_known found) (Tells r (values_known found))
   pub meaning : OfItsPrograms r (λ t. LeavesNone t (ends_known found) (alone_known found) (spins_known found) (values_known found))
 
--- One state more than may be kept is led to.
-pub record HasTooMany (r : Tables) (discipline : Discipline) (steps most : ℕ) (states : List (Machine × List ℕ)) : Type 0 where
-  pub full : length states ≡ most
-  pub state : Machine
-  pub word : List ℕ
-  pub leads : LeadsToState (slots r discipline) without_output steps state word
-  pub new : has same_key states state ≡ false
+-- Words lead to more states than may be kept.
+pub record HasTooMany (r : Tables) (discipline : Discipline) (steps most : ℕ) : Type 0 where
+  pub states : List (Machine × List ℕ)
+  pub count : length states ≡ most + 1
+  pub apart : AllPairs (λ x y. x.0 ≢ y.0) states
+  pub reached : All (λ x. LeadsToState (slots r discipline) without_output steps x.0 x.1) states
 
--- The kept states, the ends and the values are led to by their words. Where no state was one too many, and no stretch was cut, they are complete.
+-- The kept states, each once, the ends and the values are led to by their words. Where no state was one too many, and no stretch was cut, they are complete.
 pub record IsAnswer (r : Tables) (discipline : Discipline) (steps most : ℕ) (found : FoundAtOnce) : Type 0 where
   pub states : List (Machine × List ℕ)
   pub kept : AreStates r found.kept.known.entries states
   pub rows : AreRows found.kept.store found.kept.known.entries states
   pub few : length states ≤ most
+  pub apart : AllPairs (λ x y. x.0 ≢ y.0) states
   pub reached : All (λ x. LeadsToState (slots r discipline) without_output steps x.0 x.1) states
   pub ends : All (λ e. HasWord states e.origin (EndsSo (silent_slots r discipline) steps e.end)) found.ends.items
   pub values : All (λ v. HasWord states v.origin (ShowsSo (slots r discipline) without_output steps v.value)) found.values.items
   pub whole : found.is_whole ≡ true → discipline ≡ by_the_book → knows_end found (Over StepLimit) ≡ false → IsComplete r steps found states
-  pub too_many : found.is_whole ≡ false → HasTooMany r discipline steps most states
+  pub too_many : found.is_whole ≡ false → HasTooMany r discipline steps most

@@ -6,7 +6,9 @@ ghost use Rattle.cp_slots.specs.Tables.{Tables};
 ghost use Rattle.cp_machine.specs.System.{Machine, machine_of, opening};
 ghost use Rattle.cp_ends.specs.Answer.{ends_tests};
 ghost use Rattle.cp_ends.specs.Graph.{LeadsToEnd, ShowsLast};
-ghost use Rattle.cp_at_once.specs.Following.{NotesEnd, NotesValues, SlotGraph};
+ghost use Rattle.cp_ends.specs.declared.end.End.TheVariants.{Over};
+ghost use Rattle.cp_run.specs.declared.outcome.OutcomeKind.TheVariants.{StepLimit};
+ghost use Rattle.cp_at_once.specs.Following.{NotesEnd, NotesValues, SlotGraph, knows_end};
 ghost use Rattle.cp_at_once.specs.Holds.{Holds, IsWordOf};
 
 use crate::kept::Kept;
@@ -100,11 +102,17 @@ impl FoundAtOnce {
     }
 
     /// Whether a stretch was cut of which nothing is known that follows.
-    pub fn has_cut(&self) -> bool {
-        self.ends
-            .iter()
-            .any(|found| found.end == End::Over(OutcomeKind::StepLimit))
+    pub fn has_cut(&self) -> bool
+        ensures { result ≡ knows_end self.now (Over StepLimit) }
+    {
+        self.ends.iter().any(is_cut)
     }
+}
+
+fn is_cut(found: &EndAtOnce) -> bool
+    ensures { result ≡ ends_tests.end found.now.end (Over StepLimit) }
+{
+    found.end == End::Over(OutcomeKind::StepLimit)
 }
 
 // Where this end stands among those that were found, or is to stand.

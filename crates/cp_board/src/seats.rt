@@ -1,5 +1,5 @@
 //! The board and its seats.
-ghost use Rattle.std.specs.Prelude.{◌≡◌, ℕ, ◌+◌, ◌<◌, ◌≤◌, ◌⊎◌, ◌↔◌, false, cond, [], map, length, All, IfOk, IfSome, IfNone};
+ghost use Rattle.std.specs.Prelude.{◌≡◌, ◌+◌, ◌<◌, ◌≤◌, ◌⊎◌, ◌↔◌, false, cond, [], map, length, All, IfOk, IfSome, IfNone};
 ghost use Rattle.cp_board.specs.Views.{NotesOnce, NotesEachOnce, HasOpenTask, Settles, DrawsEachBelow, drew, ran_dry, noted_by, rows_noted, view};
 
 use crate::plays::{BoardRule, ClaimStep, JoinStep, NoteStep, SplitStep};

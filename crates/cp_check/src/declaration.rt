@@ -1,7 +1,7 @@
 //! Declarations of constants, types and variables.
 
 ghost use Rattle.std.specs.Prelude.{◌≡◌, map, OnOk, IfErr, Some};
-ghost use Rattle.cp_scope.specs.Judged.{Judges, Finds};
+ghost use Rattle.cp_scope.specs.Judged.{Finds};
 ghost use Rattle.cp_scope.specs.View.{scopes_of};
 ghost use Rattle.cp_scope.specs.declared.fault.CheckFault.TheVariants as check_fault;
 ghost use Rattle.cp_tree.specs.View.{constant_definition_view, type_definition_view, variable_group_view, part_view};

@@ -19,9 +19,7 @@ use cp_scope::{
     Base, CheckFault, Detail, Parameter, Predeclared, Role, Rule, ScopeTable, Use, ValueType,
     broken_rule, values_of,
 };
-use cp_tree::{
-    Arm, Designator, Expression, Identifier, Start, Statement, StatementKind, SystemKind,
-};
+use cp_tree::{Arm, Designator, Expression, Start, Statement, StatementKind, SystemKind};
 use std::alloc::Global;
 
 /// What stands on the left of an assignment.

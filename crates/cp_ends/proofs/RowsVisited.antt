@@ -12,7 +12,7 @@ use Rattle.cp_stretches.specs.Cached.{IsCache, StandsFor}
 use Rattle.cp_stretches.specs.declared.cache.LegCache.{LegCache}
 use Rattle.cp_ends.specs.Answer.{Arrives}
 use Rattle.cp_ends.specs.Arrivals.{goal_at}
-use Rattle.cp_ends.specs.ByRows.{Goes, HasRoom, IsWithinRow, KeepFound, Seeing}
+use Rattle.cp_ends.specs.ByRows.{GoesAsTold, HasRoom, IsWithinRow, KeepFound, Seeing}
 use Rattle.cp_ends.specs.Halves.{width_of}
 use Rattle.cp_ends.specs.Holds.{AreFound, AreStates, IsBefore, IsWordOf, SlotArrival, end_origin, value_origin}
 use Rattle.cp_ends.specs.Rows.{IsHalved, IsRowFor, IsStated}
@@ -45,11 +45,11 @@ module _ {W : Type 0} (looks : W → Tables → Machine → Type 0) (r : Tables)
   cache_within s from at m done h = subst (λ (d : Discipline). IsCache r d s.found.states.cache) h.room.ruled h.within.holds.holds.states.cached
 
   -- where a choice leads, its arrival is that of the graph
-  pub takes_so : (sees : Seeing W) (old mid : RowSearch W) (new : Found) (from : StateRow W) (at : ℕ) (m : Machine) (p : ℕ) (within : IsWithinRow looks r discipline steps most old from at m (those_below p (graph.may m))) (h : Halt End) (b : Arrived) → KeepFound r old.found mid.found → Goes sees r discipline steps m p h (IsStated r mid.found.states mid.next.numbers) mid.told →
+  pub takes_so : (sees : Seeing W) (old mid : RowSearch W) (new : Found) (from : StateRow W) (at : ℕ) (m : Machine) (p : ℕ) (within : IsWithinRow looks r discipline steps most old from at m (those_below p (graph.may m))) (h : Halt End) (b : Arrived) → KeepFound r old.found mid.found → GoesAsTold sees r discipline steps m p h (IsStated r mid.found.states mid.next.numbers) mid.told →
       ((f : SlotFindings) (word : List ℕ) (a : SlotArrival) (k : Machine) → HoldsFew r most mid.found f → IsWordOf f.states (Choice at p) word → IsBefore (length f.states) (Choice at p) → (h ≡ halt.Choice → IsStated r mid.found.states mid.next.numbers k) → goal_at h k ≡ a.goal → mid.told.values.items ≡ a.shown → Arrives r most new f word a b) →
       Takes r graph most old.found new at m p within.within b
   takes_so sees old mid new from at m p within h b kept goes on f word few is before =
-      on f word (graph.on m p) goes.after (record { holds = kept.holds f few.holds; few = few.few }) is before goes.is goes.goal goes.shown
+      on f word (graph.on m p) goes.goes.after (record { holds = kept.holds f few.holds; few = few.few }) is before goes.goes.is goes.goes.goal goes.goes.shown
 
   -- where only more is found
   pub room_kept : (s : RowSearch W) (found : Found) → found.states.cache ≡ s.found.states.cache → found.states.discipline ≡ s.found.states.discipline → HasRoom discipline s → HasRoom discipline (record s { found = found })

@@ -15,7 +15,7 @@ use Rattle.cp_stretches.specs.Cached.{StandsFor}
 use Rattle.cp_stretches.specs.Stretching.{LeadsTo, shower, turn_of}
 use Rattle.cp_ends.specs.Arrivals.{halt_arrival, next_arrival, teller}
 use Rattle.cp_endless_laws.specs.Moments.{Moment, moments}
-use Rattle.cp_ends.specs.ByRows.{Goes, Seeing, end_of}
+use Rattle.cp_ends.specs.ByRows.{GoesAsTold, Seeing, end_of}
 use Rattle.cp_ends.specs.Holds.{same_key}
 use Rattle.cp_ends.specs.Rows.{IsRowFor}
 use Rattle.cp_ends.specs.declared.end.End.{End}
@@ -85,13 +85,15 @@ module _ (r : Tables) (discipline : Discipline) where
 
   -- where a stretch halts by its row, the choice leads, and what is seen of it is so
   pub goes_so : {W : Type 0} (sees : Seeing W) (steps : ℕ) (m : Machine) (p : ℕ) (halt : Halt OutcomeKind) (kept : States) (row : List ℕ) (told : Told W) → kept.discipline ≡ discipline →
-      LeadsTo r discipline kept.cache.store kept.cache.table steps m p [] halt row told.values.items → told.again ≡ None → sees told.seen r discipline (m ∷ []) (moments quiet steps m p) → Goes sees r discipline steps m p (end_of halt) (IsRowFor r kept row) told
+      LeadsTo r discipline kept.cache.store kept.cache.table steps m p [] halt row told.values.items → told.again ≡ None → sees told.seen r discipline (m ∷ []) (moments quiet steps m p) → GoesAsTold sees r discipline steps m p (end_of halt) (IsRowFor r kept row) told
   goes_so {W} sees steps m p halt kept row told ruled leads again seen =
       record {
-        after = leads.after;
-        is = λ due. row_for r kept row leads.after (subst (λ (d : Discipline). StandsFor r d kept.cache.store kept.cache.table leads.after row) (sym ruled) leads.stands);
-        goal = comes_to (slots r discipline) quiet same_key steps (next_arrival (slots r discipline) without_output same_key steps m p) (fold_chosen quiet tell steps m p) (walked_chosen quiet steps m p) leads.after (turn_of halt) leads.walked (choice_comes (slots r discipline) without_output same_key steps m p) ([], false) shown shown (goal_at (end_of halt) leads.after) all (cut halt);
-        shown = shows (slots r discipline) quiet same_key steps (next_arrival (slots r discipline) without_output same_key steps m p) (fold_chosen quiet tell steps m p) (walked_chosen quiet steps m p) leads.after (turn_of halt) leads.walked (choice_comes (slots r discipline) without_output same_key steps m p) ([], false) shown shown (goal_at (end_of halt) leads.after) all (cut halt);
+        goes = record {
+          after = leads.after;
+          is = λ due. row_for r kept row leads.after (subst (λ (d : Discipline). StandsFor r d kept.cache.store kept.cache.table leads.after row) (sym ruled) leads.stands);
+          goal = comes_to (slots r discipline) quiet same_key steps (next_arrival (slots r discipline) without_output same_key steps m p) (fold_chosen quiet tell steps m p) (walked_chosen quiet steps m p) leads.after (turn_of halt) leads.walked (choice_comes (slots r discipline) without_output same_key steps m p) ([], false) shown shown (goal_at (end_of halt) leads.after) all (cut halt);
+          shown = shows (slots r discipline) quiet same_key steps (next_arrival (slots r discipline) without_output same_key steps m p) (fold_chosen quiet tell steps m p) (walked_chosen quiet steps m p) leads.after (turn_of halt) leads.walked (choice_comes (slots r discipline) without_output same_key steps m p) ([], false) shown shown (goal_at (end_of halt) leads.after) all (cut halt);
+        };
         seen = subst (λ (a : Option W). ComesTo quiet now steps (choice_leg quiet steps m p) (m ∷ []) told.seen (with_round a (end_of halt)) leads.after) (sym again)
             (subst (λ (leg : Leg Machine). ComesTo quiet now steps leg (m ∷ []) told.seen (with_round None (end_of halt)) leads.after) (sym out.2)
             (comes halt (sym out.3 ∙ leads.walked) (subst (λ (leg : Leg Machine). now told.seen (m ∷ []) (leg.moments steps)) out.2 seen)));

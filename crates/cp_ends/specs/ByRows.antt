@@ -60,13 +60,17 @@ abbrev pub TellsOf : {W : Type 0} → Seeing W → Tables → Discipline → (st
 TellsOf sees r discipline steps m process told halt last =
     ComesTo (silent_slots r discipline) (λ w. sees w r discipline) steps (choice_leg (silent_slots r discipline) steps m process) (m ∷ []) told.seen (with_round told.again halt) last
 
--- A choice leads to where a stretch halts, and that is told. Where it halts at a choice, the machine there is such a one.
-pub record Goes {W : Type 0} (sees : Seeing W) (r : Tables) (discipline : Discipline) (steps : ℕ) (m : Machine) (process : ℕ) (halt : Halt End) (IsSuch : Machine → Type 0) (told : Told W) : Type 0 where
+-- A choice leads to where a stretch halts, and displays these values. Where it halts at a choice, the machine there is such a one.
+pub record Goes (r : Tables) (discipline : Discipline) (steps : ℕ) (m : Machine) (process : ℕ) (halt : Halt End) (IsSuch : Machine → Type 0) (values : List Shown) : Type 0 where
   pub after : Machine
   pub is : halt ≡ Choice → IsSuch after
   pub goal : goal_at halt after ≡ (next_arrival (slots r discipline) without_output same_key steps m process).goal
-  pub shown : told.values.items ≡ (next_arrival (slots r discipline) without_output same_key steps m process).shown
-  pub seen : TellsOf sees r discipline steps m process told halt after
+  pub shown : values ≡ (next_arrival (slots r discipline) without_output same_key steps m process).shown
+
+-- .. and that is told
+pub record GoesAsTold {W : Type 0} (sees : Seeing W) (r : Tables) (discipline : Discipline) (steps : ℕ) (m : Machine) (process : ℕ) (halt : Halt End) (IsSuch : Machine → Type 0) (told : Told W) : Type 0 where
+  pub goes : Goes r discipline steps m process halt IsSuch told.values.items
+  pub seen : TellsOf sees r discipline steps m process told halt goes.after
 
 -- The search expands the state of a number, which is this machine and has this row with these numbers and this look, and took these choices.
 pub record IsWithinRow {W : Type 0} (looks : W → Tables → Machine → Type 0) (r : Tables) (discipline : Discipline) (steps most : ℕ) (s : RowSearch W) (from : StateRow W) (at : ℕ) (m : Machine) (done : List ℕ) : Type 0 where

@@ -1,6 +1,6 @@
 //! Choices by moves that are known: of the row to which one leads, all but the statuses is known beforehand.
 
-ghost use Rattle.std.specs.Prelude.{◌≡◌, ◌++◌, ◌<◌, ◌≤◌, ℕ, All, List, false, length, option_to_list, true, IfOk, IfSome};
+ghost use Rattle.std.specs.Prelude.{◌≡◌, ◌<◌, ◌≤◌, ℕ, All, List, false, length, true, IfOk, IfSome};
 ghost use Rattle.cp_slots.specs.Tables.{Tables};
 ghost use Rattle.cp_machine.specs.declared.discipline.Discipline.{Discipline};
 ghost use Rattle.cp_machine.specs.System.{Machine};
@@ -28,21 +28,8 @@ use cp_parts::PlaceTable;
 use cp_run::{Job, Turn};
 use cp_states::ListStore;
 use cp_stretches::numbers::is_free;
+use cp_stretches::stretch::add_shown;
 use std::alloc::{AllocError, Global};
-
-// A value more was displayed, or none.
-#[inline(always)]
-fn add_shown(shown: &mut Vec<Shown>, value: Option<Shown>) -> Result<(), AllocError>
-    ensures { IfOk result (λ _. shown.new.items ≡ shown.old.items ++ option_to_list value) }
-{
-    match value {
-        Some(one) => {
-            shown.push(one)?;
-            Ok(())
-        }
-        None => Ok(()),
-    }
-}
 
 // The number of the statuses of a row: this one, where they are those of which it is.
 #[inline(always)]

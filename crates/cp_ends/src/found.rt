@@ -1,22 +1,16 @@
 //! What a search finds.
 
-ghost use Rattle.std.specs.Prelude.{◌≡◌, ◌<◌, ◌≤◌, ◌^◌, ◌∷◌, ℕ, List, [], Some, IfOk, length, slice_get, true};
+ghost use Rattle.std.specs.Prelude.{◌≡◌, ◌<◌, ◌^◌, ◌∷◌, ℕ, List, [], Some, IfOk, length, true};
 ghost use Rattle.std.specs.List.{list_any};
 ghost use Rattle.cp_slots.specs.Tables.{Tables};
-ghost use Rattle.cp_machine.specs.System.{Machine, machine_of, opening, output_of, IsStateOf};
-ghost use Rattle.cp_run.specs.Run.{may};
-ghost use Rattle.cp_run.specs.Slots.{slots};
-ghost use Rattle.cp_run.specs.Silent.{without_output};
+ghost use Rattle.cp_machine.specs.System.{Machine, machine_of, opening};
 ghost use Rattle.cp_run.specs.declared.outcome.Halt.TheVariants as halt;
 ghost use Rattle.cp_run.specs.declared.outcome.Halt.TheVariants.{Choice};
-ghost use Rattle.cp_parts.specs.Parts.{IsPartRow};
-ghost use Rattle.cp_parts.specs.Placed.{IsPlaced};
 ghost use Rattle.cp_ends.specs.declared.found.Arrived.TheVariants as arrived;
 ghost use Rattle.cp_ends.specs.Answer.{Arrives, Comes, HoldsFew, ends_tests, halt_of, has_room, number_of};
-ghost use Rattle.cp_ends.specs.Arrivals.{goal_at, next_arrival};
+ghost use Rattle.cp_ends.specs.Arrivals.{goal_at};
 ghost use Rattle.cp_ends.specs.Graph as graph;
-ghost use Rattle.cp_ends.specs.Holds.{Holds, IsBefore, IsWordOf, SlotArrival, SlotFindings, same_key};
-ghost use Rattle.cp_ends.specs.declared.origin.Origin.TheVariants.{Start};
+ghost use Rattle.cp_ends.specs.Holds.{Holds, IsBefore, IsWordOf, SlotArrival, SlotFindings};
 ghost use Rattle.cp_ends.specs.Legs.{with_round};
 ghost use Rattle.cp_ends.specs.Halves.{width_of};
 ghost use Rattle.cp_ends.specs.Rows.{IsRowFor, IsStated};

@@ -1,6 +1,6 @@
 //! A row in three lists: its statuses, and two halves of what its places have.
 
-ghost use Rattle.std.specs.Prelude.{◌≡◌, ◌+◌, ◌++◌, ◌≤◌, ◌<◌, ℕ, Bool, List, length, true, false, IfOk, IfSome};
+ghost use Rattle.std.specs.Prelude.{◌≡◌, ◌+◌, ◌++◌, ◌≤◌, ◌<◌, ℕ, List, length, true, false, IfOk, IfSome};
 ghost use Rattle.cp_states.specs.Pieces.{IsPiece, KeepPieces};
 ghost use Rattle.cp_effects.specs.Noting.{among};
 ghost use Rattle.cp_ends.specs.Halves.{half_in, is_in_first as is_first_at, statuses_in, width_of};

@@ -5,6 +5,7 @@ ghost use Rattle.std.specs.List.{list_any};
 ghost use Rattle.cp_endless_laws.specs.Silent.{has_monitor_return};
 
 use cp_machine::{Entry, State};
+use cp_parts::taking::body_numbers_of;
 use cp_stretches::LegCache;
 
 /// A look at a state.
@@ -105,6 +106,6 @@ impl Look for RowLook<'_> {
         let store = &self.cache.store;
         let position = self.cache.table.part_position(pid as usize);
         let part = store.parts.at(self.row[position] as usize);
-        is_inside(store.bodies.stacks.at(part[6] as usize))
+        is_inside(store.bodies.stacks.at(body_numbers_of(part).stack as usize))
     }
 }

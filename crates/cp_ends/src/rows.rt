@@ -1,6 +1,6 @@
 //! The search by rows: a choice is taken by the legs that are known, and step by step only where they don't tell where it leads.
 
-ghost use Rattle.std.specs.Prelude.{◌≡◌, ◌≤◌, ◌<◌, ◌++◌, ◌∷◌, [], ℕ, List, IfOk, false, true};
+ghost use Rattle.std.specs.Prelude.{◌≡◌, ◌≤◌, ◌<◌, ◌++◌, ◌∷◌, [], IfOk, false, true};
 ghost use Rattle.cp_machine.specs.System.{Machine, machine_of, opening, IsStateOf};
 ghost use Rattle.cp_parts.specs.Parts.{IsPartRow};
 ghost use Rattle.cp_stretches.specs.Cached.{IsCache};
@@ -10,7 +10,7 @@ ghost use Rattle.cp_run.specs.declared.outcome.Halt.TheVariants.{Choice};
 ghost use Rattle.cp_run.specs.Slots.{processes_of, slots};
 ghost use Rattle.cp_endless_laws.specs.Silent.{silent_slots};
 ghost use Rattle.cp_ends.specs.Answer.{HoldsFew, IsSearch, IsStopped, ends_tests, halt_of, has_room, slot_graph};
-ghost use Rattle.cp_ends.specs.ByRows.{Goes, HasRoom, IsTold, IsWithinRow, KeepFound, end_of, with_standing};
+ghost use Rattle.cp_ends.specs.ByRows.{GoesAsTold, HasRoom, IsTold, IsWithinRow, KeepFound, end_of, with_standing};
 ghost use Rattle.cp_ends.specs.Holds.{Holds, SlotFindings};
 ghost use Rattle.cp_ends.specs.Legs.{ComesTo, first_leg, with_round};
 ghost use Rattle.cp_ends.specs.Rows.{IsHalved, IsRowFor, IsStated};
@@ -156,7 +156,7 @@ impl<P: Sight> RowSearch<P> {
         requires here { (f : SlotFindings) × (m : Machine) × Holds job.now.run.program.now self.old.found f × IsRowFor job.now.run.program.now self.old.found.states from.now.row.items m × (may (slots job.now.run.program.now job.now.run.limits.discipline) m process ≡ true) }
         ensures room { IfOk result (λ _. HasRoom job.now.run.limits.discipline self.new) }
         ensures kept { IfOk result (λ _. KeepFound job.now.run.program.now self.old.found self.new.found) }
-        ensures goes { IfOk result (λ halt. (m : Machine) → IsRowFor job.now.run.program.now self.old.found.states from.now.row.items m → may (slots job.now.run.program.now job.now.run.limits.discipline) m process ≡ true → Goes P.sees job.now.run.program.now job.now.run.limits.discipline job.now.run.limits.steps m process halt (IsRowFor job.now.run.program.now self.new.found.states self.new.row.items) self.new.told) }
+        ensures goes { IfOk result (λ halt. (m : Machine) → IsRowFor job.now.run.program.now self.old.found.states from.now.row.items m → may (slots job.now.run.program.now job.now.run.limits.discipline) m process ≡ true → GoesAsTold P.sees job.now.run.program.now job.now.run.limits.discipline job.now.run.limits.steps m process halt (IsRowFor job.now.run.program.now self.new.found.states self.new.row.items) self.new.told) }
     {
         self.told.values.clear();
         let states = &mut self.found.states;
@@ -180,7 +180,7 @@ impl<P: Sight> RowSearch<P> {
         requires here { (f : SlotFindings) × (m : Machine) × Holds job.now.run.program.now self.old.found f × IsRowFor job.now.run.program.now self.old.found.states from.now.row.items m × (may (slots job.now.run.program.now job.now.run.limits.discipline) m process ≡ true) }
         ensures room { IfOk result (λ _. HasRoom job.now.run.limits.discipline self.new) }
         ensures kept { IfOk result (λ _. KeepFound job.now.run.program.now self.old.found self.new.found) }
-        ensures goes { IfOk result (λ halt. (m : Machine) → IsRowFor job.now.run.program.now self.old.found.states from.now.row.items m → may (slots job.now.run.program.now job.now.run.limits.discipline) m process ≡ true → P.looks from.now.seen job.now.run.program.now m → Goes P.sees job.now.run.program.now job.now.run.limits.discipline job.now.run.limits.steps m process halt (IsRowFor job.now.run.program.now self.new.found.states self.new.row.items) self.new.told) }
+        ensures goes { IfOk result (λ halt. (m : Machine) → IsRowFor job.now.run.program.now self.old.found.states from.now.row.items m → may (slots job.now.run.program.now job.now.run.limits.discipline) m process ≡ true → P.looks from.now.seen job.now.run.program.now m → GoesAsTold P.sees job.now.run.program.now job.now.run.limits.discipline job.now.run.limits.steps m process halt (IsRowFor job.now.run.program.now self.new.found.states self.new.row.items) self.new.told) }
     {
         self.told.values.clear();
         self.row.copy_from_slice(from.row.as_slice());
@@ -206,7 +206,7 @@ impl<P: Sight> RowSearch<P> {
         requires halved { IsHalved self.old.found.states from.now.numbers.numbers from.now.row.items }
         ensures room { IfOk result (λ _. HasRoom job.now.run.limits.discipline self.new) }
         ensures kept { IfOk result (λ _. KeepFound job.now.run.program.now self.old.found self.new.found) }
-        ensures goes { IfOk result (λ is_made. is_made ≡ true → (m : Machine) → IsRowFor job.now.run.program.now self.old.found.states from.now.row.items m → may (slots job.now.run.program.now job.now.run.limits.discipline) m process ≡ true → P.looks from.now.seen job.now.run.program.now m → Goes P.sees job.now.run.program.now job.now.run.limits.discipline job.now.run.limits.steps m process Choice (IsStated job.now.run.program.now self.new.found.states self.new.next.numbers) self.new.told) }
+        ensures goes { IfOk result (λ is_made. is_made ≡ true → (m : Machine) → IsRowFor job.now.run.program.now self.old.found.states from.now.row.items m → may (slots job.now.run.program.now job.now.run.limits.discipline) m process ≡ true → P.looks from.now.seen job.now.run.program.now m → GoesAsTold P.sees job.now.run.program.now job.now.run.limits.discipline job.now.run.limits.steps m process Choice (IsStated job.now.run.program.now self.new.found.states self.new.next.numbers) self.new.told) }
     {
         let states = &mut self.found.states;
         let Some(known) = states.find_move(&job.run, from.row.as_slice(), from.numbers, process)
@@ -241,7 +241,7 @@ impl<P: Sight> RowSearch<P> {
         requires halved { IsHalved self.old.found.states from.now.numbers.numbers from.now.row.items }
         ensures room { IfOk result (λ _. HasRoom job.now.run.limits.discipline self.new) }
         ensures kept { IfOk result (λ _. KeepFound job.now.run.program.now self.old.found self.new.found) }
-        ensures goes { IfOk result (λ halt. (m : Machine) → IsRowFor job.now.run.program.now self.old.found.states from.now.row.items m → may (slots job.now.run.program.now job.now.run.limits.discipline) m process ≡ true → P.looks from.now.seen job.now.run.program.now m → Goes P.sees job.now.run.program.now job.now.run.limits.discipline job.now.run.limits.steps m process halt (IsStated job.now.run.program.now self.new.found.states self.new.next.numbers) self.new.told) }
+        ensures goes { IfOk result (λ halt. (m : Machine) → IsRowFor job.now.run.program.now self.old.found.states from.now.row.items m → may (slots job.now.run.program.now job.now.run.limits.discipline) m process ≡ true → P.looks from.now.seen job.now.run.program.now m → GoesAsTold P.sees job.now.run.program.now job.now.run.limits.discipline job.now.run.limits.steps m process halt (IsStated job.now.run.program.now self.new.found.states self.new.next.numbers) self.new.told) }
     {
         if self.follow_move(job, from, process)? {
             return Ok(Halt::Choice);

@@ -1,23 +1,8 @@
 //! The search through all states.
 
-ghost use Rattle.std.specs.Prelude.{◌≡◌, ◌≤◌, ◌<◌, ◌∷◌, ◌++◌, ℕ, List, [], Some, IfOk, slice_get, true, false};
-ghost use Rattle.cp_slots.specs.Tables.{Tables};
-ghost use Rattle.cp_machine.specs.Bodies.{KeepBodies, has_moved};
-ghost use Rattle.cp_machine.specs.System.{Machine, machine_of, opening, IsStateOf};
-ghost use Rattle.cp_run.specs.Run.{may, those_below};
-ghost use Rattle.cp_run.specs.Silent.{silent_slots, without_output};
-ghost use Rattle.cp_parts.specs.Parts.{IsPartRow};
-ghost use Rattle.cp_run.specs.Slots.{processes_of, slots};
-ghost use Rattle.cp_run.specs.declared.outcome.Halt.TheVariants as halt;
-ghost use Rattle.cp_run.specs.declared.outcome.Halt.TheVariants.{Choice};
-ghost use Rattle.cp_ends.specs.Answer.{HasNumber, HoldsFew, IsSearch, IsStopped, ends_tests, halt_of, has_room, slot_graph};
-ghost use Rattle.cp_ends.specs.Arrivals.{goal_at, next_arrival};
-ghost use Rattle.cp_ends.specs.Holds.{Holds, HasFindings, SlotFindings, same_key};
-ghost use Rattle.cp_ends.specs.Legs.{ComesTo, choice_leg, first_leg, with_round};
-ghost use Rattle.cp_ends.specs.Searched.{nothing, searched};
-ghost use Rattle.cp_ends.specs.Visited.{IsWithin, gone_with};
+ghost use Rattle.std.specs.Prelude.{◌≤◌, ◌<◌, IfOk};
+ghost use Rattle.cp_ends.specs.Holds.{HasFindings};
 ghost use Rattle.cp_ends.specs.Whole.{IsAnswer};
-ghost use Rattle.cp_ends.specs.declared.found.Arrived.TheVariants.{At};
 
 use crate::found::Found;
 use crate::rows::search_rows;

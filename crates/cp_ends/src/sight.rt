@@ -5,7 +5,7 @@ use cp_slots::Resolved;
 
 /// What is seen of due choices and of the moments after them.
 pub trait Sight: Copy + Drop {
-    ghost use Rattle.std.specs.Prelude.{◌≡◌, ◌∷◌, ◌++◌, List, [], ℕ};
+    ghost use Rattle.std.specs.Prelude.{◌∷◌, ◌++◌, List, [], ℕ};
     ghost use Rattle.cp_slots.specs.Tables.{Tables};
     ghost use Rattle.cp_machine.specs.System.{Machine};
     ghost use Rattle.cp_machine.specs.declared.discipline.Discipline.{Discipline};

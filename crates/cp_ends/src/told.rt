@@ -42,7 +42,6 @@ impl<P: Sight> Observe for Told<P> {
     ghost use Rattle.cp_run.specs.Fold.{beside};
     ghost use Rattle.cp_run.specs.Slots.{slots};
     ghost use Rattle.cp_run.proofs.LocalOutput.{local_output};
-    ghost use Rattle.cp_run.specs.Silent.{without_output};
     ghost use Rattle.cp_endless_laws.specs.Moments.{Moment};
     ghost use Rattle.cp_ends.specs.Arrivals.{teller};
     ghost use Rattle.cp_ends.specs.Legs.{seer};

@@ -4,11 +4,9 @@ ghost use Rattle.std.specs.Prelude.{◌≡◌, ◌++◌, ◌∷◌, [], Some, No
 ghost use Rattle.cp_expectation.specs.Plain.{Ends, Waits, end_of, expected_of, item_of, topic_of, who_of};
 ghost use Rattle.cp_expectation.specs.Reader.{Leads, addition_of, place_of, state_of};
 ghost use Rattle.cp_expectation.specs.Steps as steps;
-ghost use Rattle.cp_expectation.specs.Steps.{claims, meant_by, value_in};
+ghost use Rattle.cp_expectation.specs.Steps.{meant_by, value_in};
 
-use crate::expectation::{
-    Claim, EndPattern, Expectation, OutputItem, OutputPattern, Topic, WhoPattern,
-};
+use crate::expectation::{EndPattern, Expectation, OutputItem, OutputPattern, Topic, WhoPattern};
 use crate::reading::Reading;
 use crate::vocabulary::{as_name, claim_of, error_of, process_of, value_of};
 use cp_machine::ErrorName;

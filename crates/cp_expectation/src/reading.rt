@@ -25,6 +25,8 @@ pub enum WantedWord {
     Value,
     /// `output`, or a joint: `and`, `or`, or what begins another topic.
     AfterEnd,
+    /// The name of a run error, `output`, or a joint.
+    Error,
     /// A process, `output`, or a joint.
     Process,
     /// A process, or a joint.
@@ -98,6 +100,7 @@ fn wanted_behind(end: &EndPattern) -> WantedWord {
         EndPattern::AllWaiting(None) | EndPattern::Alone(None) | EndPattern::Spins(None) => {
             WantedWord::Process
         }
+        EndPattern::AnyError => WantedWord::Error,
         _ => WantedWord::AfterEnd,
     }
 }

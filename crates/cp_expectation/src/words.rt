@@ -185,8 +185,11 @@ pub fn push_expectation(text: &mut String, expectation: &Expectation) -> Result<
     push_topics(text, &expectation.topics)
 }
 
-// What begins a topic, and what may stand between two.
+// What begins a topic, what may follow `run-error`, and what may stand between two topics.
 const TOPICS: &str = "finished, all-waiting, run-error, shown, waiting, alone or spins";
+
+const ERRORS: &str =
+    "overflow, zero-divisor, range, no-case, queue-in-use, not-init, init-twice, assertion, invariant, output, ";
 
 const JOINT: &str = "and, or, finished, all-waiting, run-error, shown, waiting, alone or spins";
 
@@ -198,6 +201,7 @@ fn wanted_words(wanted: WantedWord) -> &'static str {
         WantedWord::Output => "a value, - or ..",
         WantedWord::Value => "a value",
         WantedWord::AfterEnd => "output, ",
+        WantedWord::Error => ERRORS,
         WantedWord::Process => "a process, output, ",
         WantedWord::WhoWaits => "a process, ",
         WantedWord::AfterProcess => "a process, .., output, ",

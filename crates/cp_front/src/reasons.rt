@@ -1,5 +1,5 @@
 //! The reasons for which a source is refused, as they are written.
-ghost use Rattle.std.specs.Prelude.{◌≡◌, IfOk, codes, string_bytes, option_map};
+ghost use Rattle.std.specs.Prelude.{◌≡◌, IfOk, string_bytes, option_map};
 ghost use Rattle.cp_front.specs.Refusals as spec;
 
 use cp_check::{CheckFault, Rule};

@@ -1,6 +1,6 @@
 //! Why a source has no program, and the line that says so.
 
-ghost use Rattle.std.specs.Prelude.{◌≡◌, IfOk, option_map, string_bytes};
+ghost use Rattle.std.specs.Prelude.{IfOk, option_map, string_bytes};
 ghost use Rattle.cp_front.specs.Refusals as spec;
 
 use crate::reasons::{check_reason, parse_reason, reason_line, scan_reason};

@@ -1,5 +1,5 @@
 //! Reading a whole source and writing a whole text.
-ghost use Rattle.std.specs.Prelude.{◌≡◌, ◌+◌, ◌≤◌, ◌<◌, ◌≢◌, ◌++◌, ℕ, List, vec_len, take, min, length, IfOk, IfSome, MatchResult, Some};
+ghost use Rattle.std.specs.Prelude.{◌≡◌, ◌+◌, ◌≤◌, ◌<◌, ◌++◌, ℕ, List, take, length, IfOk, IfSome};
 ghost use Rattle.std.specs.Io.KnownBytes.{Appends};
 ghost use Rattle.cp_front.specs.Calls.{one_if_failed, one_if_refused};
 ghost use Rattle.cp_front.specs.Transfer.{code_of_fault, one_if_read_failed};

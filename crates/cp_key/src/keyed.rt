@@ -1,7 +1,7 @@
 //! What has a key.
 
 ghost use Rattle.std.specs.Prelude.{◌≡◌, ◌+◌, ◌∷◌, ◌++◌, ◌≤◌, [], length, ℕ, List, IfOk, IfSome, IsTrue, flat_map, take, vec_capacity, vec_len};
-ghost use Rattle.cp_key.specs.Numbers.{list_key, number_key};
+ghost use Rattle.cp_key.specs.Numbers.{list_key};
 
 use crate::reader::KeyReader;
 use std::alloc::AllocError;

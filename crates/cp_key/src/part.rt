@@ -1,6 +1,6 @@
 //! The parts of a state as bytes.
 
-ghost use Rattle.std.specs.Prelude.{◌≡◌, ◌∷◌, ◌++◌, ℕ, List, IfOk, IsTrue};
+ghost use Rattle.std.specs.Prelude.{◌≡◌, ◌∷◌, ◌++◌, IfOk, IsTrue};
 ghost use Rattle.cp_key.specs.Numbers.{number_key, short_key};
 ghost use Rattle.cp_key.specs.Key.{IsSmall, address_key, discipline_key, entry_key, frame_key, gates_key, option_key, phase_key, shown_key, signals_key, status_key};
 

@@ -2,9 +2,9 @@
 
 ghost use Rattle.std.specs.Prelude.{◌≡◌, ◌++◌, ℕ, List, IfOk, map, true};
 ghost use Rattle.std.specs.List.{flat_map};
-ghost use Rattle.cp_machine.specs.Machine.{Machine, machine_of, monitor_of, thread_of};
+ghost use Rattle.cp_machine.specs.Machine.{machine_of, monitor_of, thread_of};
 ghost use Rattle.cp_machine.specs.Bodies.{body_of, has_moved, KeepBodies};
-ghost use Rattle.cp_key.specs.Key.{body_key, core_key, frames_key, hidden_key, key_of, monitor_key, phase_key, rest_key, status_key, threads_key};
+ghost use Rattle.cp_key.specs.Key.{body_key, core_key, frames_key, hidden_key, key_of, monitor_key, rest_key, status_key, threads_key};
 ghost use Rattle.cp_key.specs.Known.{AreKeyOf, ArePartsOf, Cover, IsRun, KnowUnmoved};
 ghost use Rattle.cp_key.specs.Numbers.{integer_key, list_key, number_key};
 

@@ -31,7 +31,8 @@ pub fn changes_words(scene: Scene<'_>, events: &[StoryEvent]) -> Result<String, 
     text.finish()
 }
 
-/// What changed in some events, in lines as wide as their column. Each monitor begins a line.
+/// What changed in some events, in lines as wide as their column. Each monitor begins a line. The row of a stop has no events: there it is what changed
+/// since the last one.
 pub fn changes_in_lines(
     scene: Scene<'_>,
     events: &[StoryEvent],
@@ -50,6 +51,11 @@ pub fn changes_in_lines(
             if !is_changed(later, change) {
                 lines.put(scene, change);
             }
+        }
+    }
+    if events.is_empty() {
+        for change in &scene.story.last_changes {
+            lines.put(scene, change);
         }
     }
     lines.finish(scene)

@@ -7,6 +7,7 @@ use crate::palette::{FAINT, GREEN, GREY, Hue, INK, PALE, PATTERNS, RED, SLATE, W
 use crate::pictures::{Layout, Scene};
 use crate::plan::{Column, Plan, TOP};
 use crate::sheet::EDGE;
+use crate::stops::words_of_stop;
 use crate::svg::{BOLD_MIDDLE, BOLD_TYPE, Block, Style, Svg};
 use crate::wrapping::LineRoom;
 use cp_prose::Prose;
@@ -285,47 +286,75 @@ fn draw_edge_with(svg: &mut Svg, plan: &Plan, top: f64, words: &str) {
     svg.close();
 }
 
-/// What stands below the rows: how the run stops, who waits then, and notes.
-pub fn draw_end(svg: &mut Svg, scene: Scene<'_>, plan: &Plan, top: f64, notes: &[String]) {
+/// What stands below the rows: how the run stops, and lines about it.
+pub fn draw_end(svg: &mut Svg, scene: Scene<'_>, plan: &Plan, top: f64, lines: &[EndLine]) {
     match end_words(scene.alloc, scene.story) {
         Ok(words) => draw_outcome(svg, scene, plan, top, words.as_str()),
         Err(_) => svg.refuse(),
     }
     let mut y = top + 46.0;
-    let colour = if all_wait(scene.story) { RED } else { INK };
-    for wait in &scene.story.waits {
-        let words = wait_words(scene.alloc, scene.legend, wait);
-        svg.words_made(26.0, y, Style::new(12.0, colour, ""), words);
-        y += 20.0;
-    }
-    for line in notes {
-        svg.words(26.0, y, Style::new(12.0, INK, ""), line.as_str().trim());
+    for line in lines {
+        svg.words(
+            26.0,
+            y,
+            Style::new(12.0, line.fill, ""),
+            line.words.as_str().trim(),
+        );
         y += 20.0;
     }
 }
 
-/// What stands below those who wait: why they are not woken, and that numbers of the schedule are not used, in lines of a picture of this width.
-pub fn note_lines(scene: Scene<'_>, width: f64) -> Result<Vec<String>, AllocError> {
+/// A line below the badge.
+#[derive(Drop)]
+pub struct EndLine {
+    words: String,
+    fill: &'static str,
+}
+
+/// What stands below the badge of a picture of this width: what a run error is of, who waits and why they are not woken, and that numbers of the
+/// schedule are not used.
+pub fn end_lines(scene: Scene<'_>, width: f64) -> Result<Vec<EndLine>, AllocError> {
     let room = LineRoom::new(scene.alloc, width - 46.0, 12.0 * WIDTH);
     let mut lines = Vec::new(scene.alloc);
+    if let Some(words) = failure_words(scene)? {
+        push_lines(&mut lines, room.wrap(words.as_str()), INK)?;
+    }
+    let fill = if all_wait(scene.story) { RED } else { INK };
+    for wait in &scene.story.waits {
+        let words = wait_words(scene.alloc, scene.legend, wait)?;
+        lines.push(EndLine { words, fill })?;
+    }
     for reason in &scene.story.reasons {
         let words = reason_text(scene.alloc, scene.legend, reason)?;
-        push_lines(&mut lines, room.wrap(words.as_str()))?;
+        push_lines(&mut lines, room.wrap(words.as_str()), INK)?;
     }
     if let Some(words) = unused_words(scene.alloc, scene.story.left)? {
-        push_lines(&mut lines, room.wrap(words.as_str()))?;
+        push_lines(&mut lines, room.wrap(words.as_str()), INK)?;
     }
     Ok(lines)
 }
 
 fn push_lines(
-    lines: &mut Vec<String>,
+    lines: &mut Vec<EndLine>,
     more: Result<Vec<String>, AllocError>,
+    fill: &'static str,
 ) -> Result<(), AllocError> {
-    for line in more? {
-        lines.push(line)?;
+    for words in more? {
+        lines.push(EndLine { words, fill })?;
     }
     Ok(())
+}
+
+// What a run error is of, where the label of the stop does not say so.
+fn failure_words(scene: Scene<'_>) -> Result<Option<String>, AllocError> {
+    let Some(stop) = &scene.story.stop else {
+        return Ok(None);
+    };
+    let words = words_of_stop(scene, stop)?;
+    if words.as_str() == stop.words.as_str() {
+        return Ok(None);
+    }
+    Ok(Some(words))
 }
 
 // How the run stops, with the last line of the trace beside it.

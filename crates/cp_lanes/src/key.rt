@@ -4,7 +4,7 @@ use crate::draw::all_wait;
 use crate::labels::plain_width;
 use crate::palette::{FAINT, INK, RED, WHITE, hue_of};
 use crate::pictures::{Layout, Scene};
-use crate::svg::{Block, Style, Svg};
+use crate::svg::{Block, Svg};
 use cp_story::{Choice, Happening, StoryEvent};
 
 /// Which signs occur.

@@ -3,7 +3,7 @@
 use crate::changes::{SWATCH, changes_words};
 use crate::draw::spans_drawn;
 use crate::frame::{
-    draw_again, draw_edges, draw_end, draw_ground, draw_heads, draw_patterns, note_lines,
+    draw_again, draw_edges, draw_end, draw_ground, draw_heads, draw_patterns, end_lines,
 };
 use crate::heading::{PictureHeading, draw_heading, heading_of};
 use crate::key::{draw_key, signs_of};
@@ -12,9 +12,10 @@ use crate::plan::{Plan, Widths, plan_of};
 use crate::rows::draw_rows;
 use crate::sheet::{Sheet, SheetExtent, sheet_of};
 use crate::spans::{Spans, spans_of};
+use crate::stops::{height_of_stop, line_of_check};
 use crate::svg::Svg;
 use cp_legend::Legend;
-use cp_story::{Story, StoryEvent};
+use cp_story::{AbruptEnd, Story, StoryEvent};
 use std::alloc::{AllocError, Global};
 
 /// What of a schedule is drawn, and how.
@@ -66,7 +67,30 @@ pub fn picture(scene: Scene<'_>) -> Result<String, AllocError> {
 fn draw_sheet(scene: Scene<'_>, sheet: &mut Sheet) -> Result<String, AllocError> {
     let plan = plan_of(scene, sheet, widths(scene, sheet)?)?;
     sheet.place(scene, plan.changes.width - SWATCH)?;
+    if let Some(stop) = &scene.story.stop {
+        let height = stop_height(scene, sheet, &plan, stop)?;
+        sheet.heighten_stop(scene.story, height);
+    }
     draw_planned(scene, sheet, &plan)
+}
+
+// The height that the last row needs, if that is the one of the stop.
+fn stop_height(
+    scene: Scene<'_>,
+    sheet: &Sheet,
+    plan: &Plan,
+    stop: &AbruptEnd,
+) -> Result<f64, AllocError> {
+    let spans = spans_of(scene, sheet)?;
+    let layout = Layout {
+        plan,
+        sheet,
+        spans: &spans,
+    };
+    match sheet.rows.last() {
+        Some(row) => height_of_stop(scene, layout, row, stop),
+        None => Ok(0.0),
+    }
 }
 
 fn draw_planned(scene: Scene<'_>, sheet: &Sheet, plan: &Plan) -> Result<String, AllocError> {
@@ -87,8 +111,8 @@ fn draw_parts(
 ) -> Result<String, AllocError> {
     let Layout { plan, sheet, .. } = layout;
     let bottom = sheet.bottom() + 34.0;
-    let notes = note_lines(scene, plan.width)?;
-    let key = bottom + 54.0 + points(scene.story.waits.len().saturating_add(notes.len())) * 20.0;
+    let lines = end_lines(scene, plan.width)?;
+    let key = bottom + 54.0 + points(lines.len()) * 20.0;
     let signs = signs_of(scene, layout);
     let height = key
         + if scene.is_plain {
@@ -105,7 +129,7 @@ fn draw_parts(
     spans_drawn(&mut svg, scene, layout);
     draw_rows(&mut svg, scene, layout);
     draw_around(&mut svg, scene, layout);
-    draw_end(&mut svg, scene, plan, bottom, &notes);
+    draw_end(&mut svg, scene, plan, bottom, &lines);
     if !scene.is_plain {
         draw_key(&mut svg, signs, plan.width, key);
     }
@@ -139,9 +163,11 @@ fn widths(scene: Scene<'_>, sheet: &Sheet) -> Result<Widths, AllocError> {
             let width = plain_width(word, 10.5) + SWATCH + 1.0;
             widths.longest_word = widths.longest_word.max(width);
         }
-        if let Some(line) = line_of(scene.story, events) {
-            let text = source_line(scene.source, line);
-            widths.source = widths.source.max(text_width(text, 10.5, FIXED) + 1.0);
+        for line in [
+            line_of(scene.story, events),
+            check_beside(scene.story, events),
+        ] {
+            widths.source = widths.source.max(source_width(scene, line));
         }
     }
     if widths.changes > 0.0 {
@@ -153,6 +179,22 @@ fn widths(scene: Scene<'_>, sheet: &Sheet) -> Result<Widths, AllocError> {
         widths.source.min(330.0)
     };
     Ok(widths)
+}
+
+fn source_width(scene: Scene<'_>, line: Option<u32>) -> f64 {
+    match line {
+        Some(line) => text_width(source_line(scene.source, line), 10.5, FIXED) + 1.0,
+        None => 0.0,
+    }
+}
+
+// The line before which an invariant is broken, in the row of the stop.
+fn check_beside(story: &Story, events: &[StoryEvent]) -> Option<u32> {
+    if events.is_empty() {
+        line_of_check(story)
+    } else {
+        None
+    }
 }
 
 // The line of the first of a row's events, or of the stop where there is none.

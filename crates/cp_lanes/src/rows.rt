@@ -15,7 +15,7 @@ use crate::wrapping::{LineRoom, label_lines};
 use cp_story::{Choice, Happening, StoryEvent, happening_words};
 
 /// The free space between two lanes, into which a label may reach.
-const GAP: f64 = 12.0;
+pub const GAP: f64 = 12.0;
 
 /// Draws the rows.
 pub fn draw_rows(svg: &mut Svg, scene: Scene<'_>, layout: Layout<'_>) {
@@ -161,10 +161,7 @@ fn open_row(svg: &mut Svg, scene: Scene<'_>, row: &PictureRow) {
         is_first = false;
         write_event(svg, scene, event);
     }
-    match changes_words(scene, events) {
-        Ok(changes) => write_changes(svg, changes.as_str()),
-        Err(_) => svg.refuse(),
-    }
+    write_changes(svg, scene, events);
     svg.end_title();
 }
 
@@ -178,10 +175,14 @@ fn write_event(svg: &mut Svg, scene: Scene<'_>, event: &StoryEvent) {
     svg.escape_made(happening_words(scene.alloc, scene.legend, event));
 }
 
-fn write_changes(svg: &mut Svg, changes: &str) {
-    if !changes.is_empty() {
-        svg.raw("; ");
-        svg.escape(changes);
+/// Writes what changed, behind what happened.
+pub fn write_changes(svg: &mut Svg, scene: Scene<'_>, events: &[StoryEvent]) {
+    match changes_words(scene, events) {
+        Ok(changes) => {
+            svg.raw(if changes.is_empty() { "" } else { "; " });
+            svg.escape(changes.as_str());
+        }
+        Err(_) => svg.refuse(),
     }
 }
 
@@ -283,8 +284,8 @@ fn style_of(face: Face) -> Style<'static> {
     }
 }
 
-// A label that goes beyond its lane has white edges, which hide the lines behind it.
-fn halo_of(face: Face) -> &'static str {
+/// The attributes of a label that may go beyond its lane: it has white edges, which hide the lines behind it.
+pub fn halo_of(face: Face) -> &'static str {
     if face == Face::Bold {
         "font-weight=\"bold\" stroke=\"#fff\" stroke-width=\"3\" stroke-opacity=\".7\" paint-order=\"stroke\""
     } else {
@@ -337,8 +338,8 @@ fn draw_arrow(
     }
 }
 
-// What changed, in lines; the first of each monitor has a sign in its colour.
-fn draw_changes(svg: &mut Svg, plan: &Plan, row: &PictureRow) {
+/// Draws what changed, in lines; the first of each monitor has a sign in its colour.
+pub fn draw_changes(svg: &mut Svg, plan: &Plan, row: &PictureRow) {
     let above = points(row.changes.len().saturating_sub(1)) * LINE / 2.0;
     let mut at = row.middle() + 4.0 - above;
     let left = plan.changes.left;

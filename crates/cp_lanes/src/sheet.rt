@@ -124,6 +124,16 @@ impl Sheet {
         Ok(())
     }
 
+    /// Makes the row of the stop as high as this at least, if it is drawn.
+    pub fn heighten_stop(&mut self, story: &Story, height: f64) {
+        if let Some(row) = self.rows.last_mut() {
+            if row.events(story).is_empty() {
+                row.height = row.height.max(height);
+                self.end = row.top + row.height;
+            }
+        }
+    }
+
     /// Where the rows and the edge below them end.
     pub fn bottom(&self) -> f64 {
         if self.after > 0 {

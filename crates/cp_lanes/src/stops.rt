@@ -1,16 +1,19 @@
 //! The row of a run error or of a limit.
 
-use crate::labels::{Face, PictureLabel, bold_width};
+use crate::labels::{Face, PictureLabel, bold_width, points};
 use crate::palette::RED;
 use crate::pictures::{Layout, Scene};
-use crate::rows::{draw_choice, draw_number, draw_source, room_beside};
-use crate::sheet::PictureRow;
+use crate::plan::Plan;
+use crate::rows::{
+    draw_changes, draw_choice, draw_number, draw_source, halo_of, room_beside, write_changes,
+};
+use crate::sheet::{LINE, PictureRow};
 use crate::spans::Spans;
-use crate::svg::{BOLD_TYPE, Block, Style, Svg};
-use crate::wrapping::label_lines;
+use crate::svg::{BOLD_TYPE, Block, LABEL_LINE, Style, Svg};
+use crate::wrapping::{label_lines, whole_label_lines};
 use crate::written::expression_at;
 use cp_run::{OutcomeKind, RunEnd};
-use cp_story::{AbruptEnd, Annotation, Violation, error_words, violation_words};
+use cp_story::{AbruptEnd, Annotation, Moment, Story, Violation, error_words, stop_words};
 use std::alloc::AllocError;
 
 /// Draws the row of a run error or of a limit.
@@ -24,7 +27,8 @@ pub fn draw_stop(
     let plan = layout.plan;
     let y = row.middle();
     svg.begin_title();
-    svg.escape_made(stop_title(scene, stop));
+    svg.escape_made(words_of_stop(scene, stop));
+    write_changes(svg, scene, &[]);
     svg.end_title();
     draw_number(svg, scene, row);
     if let Some(choice) = &scene.story.last_choice {
@@ -37,20 +41,73 @@ pub fn draw_stop(
     if let Some(monitor) = broken_monitor(scene) {
         draw_broken(svg, layout, monitor, y);
     }
-    let lane = plan.lane(stop.process);
-    let beside = room_beside(layout, stop.process, y);
-    let lines = stop_lines(scene, stop, lane.width - 36.0, beside);
-    svg.lines_made(lane.left + 31.0, y, Style::new(10.5, RED, BOLD_TYPE), lines);
-    draw_source(svg, scene, plan, stop.line, y);
+    let left = plan.lane(stop.process).left + 31.0;
+    let lines = stop_lines(scene, layout, stop, y);
+    let face = if scene.story.violation.is_some() {
+        halo_of(Face::Bold)
+    } else {
+        BOLD_TYPE
+    };
+    svg.lines_made(left, y, Style::new(10.5, RED, face), lines);
+    draw_changes(svg, plan, row);
+    draw_stop_source(svg, scene, plan, stop, y);
     svg.close();
 }
 
-// How the run stopped; of an annotation also which one, when, and with which values.
-fn stop_title(scene: Scene<'_>, stop: &AbruptEnd) -> Result<String, AllocError> {
-    match &scene.story.violation {
-        Some(violation) => violation_words(scene.alloc, scene.legend, violation),
-        None => stop.words.clone(),
+/// How the run stopped, and what its error is of: of an annotation also which one, when, and with which values.
+pub fn words_of_stop(scene: Scene<'_>, stop: &AbruptEnd) -> Result<String, AllocError> {
+    let story = scene.story;
+    stop_words(
+        scene.alloc,
+        scene.legend,
+        stop,
+        story.cause,
+        &story.violation,
+    )
+}
+
+// The line of the stop, and above it the one before which an invariant is looked at.
+fn draw_stop_source(svg: &mut Svg, scene: Scene<'_>, plan: &Plan, stop: &AbruptEnd, y: f64) {
+    match line_of_check(scene.story) {
+        Some(line) => {
+            draw_source(svg, scene, plan, Some(line), y - LINE / 2.0);
+            draw_source(svg, scene, plan, stop.line, y + LINE / 2.0);
+        }
+        None => draw_source(svg, scene, plan, stop.line, y),
     }
+}
+
+/// The line of the `delay` or `continue` before which an invariant is broken.
+pub fn line_of_check(story: &Story) -> Option<u32> {
+    match &story.violation {
+        Some(
+            Violation {
+                annotation: Annotation::Invariant(_, moment),
+                ..
+            },
+        ) => line_of_moment(*moment),
+        _ => None,
+    }
+}
+
+fn line_of_moment(moment: Moment) -> Option<u32> {
+    match moment {
+        Moment::Delay(line) | Moment::Continue(line) => Some(line),
+        Moment::Return(_) | Moment::Initialised => None,
+    }
+}
+
+/// How high the row of a stop has to be for its label, and for the lines of the source.
+pub fn height_of_stop(
+    scene: Scene<'_>,
+    layout: Layout<'_>,
+    row: &PictureRow,
+    stop: &AbruptEnd,
+) -> Result<f64, AllocError> {
+    let lines = stop_lines(scene, layout, stop, row.middle())?;
+    let label = points(lines.len()) * LABEL_LINE + 8.0;
+    let has_both = !scene.is_plain && line_of_check(scene.story).is_some();
+    Ok(label.max(if has_both { 2.0 * LINE + 8.0 } else { 0.0 }))
 }
 
 // The monitor of an invariant that is broken, or the one that its class is a part of.
@@ -89,13 +146,21 @@ fn held_around(spans: &Spans, monitor: u8, y: f64) -> Option<(f64, f64)> {
     None
 }
 
+// What is said of the stop; the expression of an annotation is never cut.
 fn stop_lines(
     scene: Scene<'_>,
+    layout: Layout<'_>,
     stop: &AbruptEnd,
-    room: f64,
-    beside: f64,
+    y: f64,
 ) -> Result<Vec<String>, AllocError> {
-    label_lines(scene.alloc, &stop_label(scene, stop)?, room, beside)
+    let room = layout.plan.lane(stop.process).width - 36.0;
+    let beside = room_beside(layout, stop.process, y);
+    let label = stop_label(scene, stop)?;
+    if scene.story.violation.is_some() {
+        whole_label_lines(scene.alloc, &label, room, beside)
+    } else {
+        label_lines(scene.alloc, &label, room, beside)
+    }
 }
 
 // The expression of an annotation, or the words for another stop.

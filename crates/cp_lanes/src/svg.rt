@@ -3,6 +3,7 @@
 ghost use Rattle.cp_lanes.specs.Escaping as spec;
 ghost use Rattle.cp_prose.specs.Telling.{UnlessRefused, appended};
 
+use crate::labels::points;
 use cp_prose::Prose;
 use std::alloc::{AllocError, Global};
 
@@ -43,6 +44,9 @@ pub const MIDDLE: &str = "text-anchor=\"middle\"";
 pub const BOLD_MIDDLE: &str = "text-anchor=\"middle\" font-weight=\"bold\"";
 
 pub const AT_END: &str = "text-anchor=\"end\"";
+
+/// The height of a line of a label.
+pub const LABEL_LINE: f64 = 11.0;
 
 // Printed, a picture is as large as the page; one within a page of HTML is as large as that says.
 const PRINTED: &str = "<style>@media print{svg:root{width:100%;height:100%}}</style>\n";
@@ -185,7 +189,7 @@ impl Svg {
         }
     }
 
-    /// Texts below each other about a point, one or two, which may have failed for want of memory.
+    /// Texts below each other about a point, which may have failed for want of memory.
     pub fn lines_made(
         &mut self,
         x: f64,
@@ -200,10 +204,15 @@ impl Svg {
     }
 
     fn lines(&mut self, x: f64, y: f64, style: Style<'_>, lines: &[String]) {
-        let mut at = if lines.len() > 1 { y - 2.5 } else { y + 4.0 };
+        let above = points(lines.len().saturating_sub(1)) * LABEL_LINE / 2.0;
+        let mut at = if lines.len() > 1 {
+            y + 3.0 - above
+        } else {
+            y + 4.0
+        };
         for line in lines {
             self.words(x, at, style, line.as_str());
-            at += 11.0;
+            at += LABEL_LINE;
         }
     }
 

@@ -1,6 +1,7 @@
 //! Texts that break into lines at a word, and that are cut.
 
 use crate::labels::{PictureLabel, points};
+use crate::rows::GAP;
 use cp_prose::Prose;
 use std::alloc::{AllocError, Global};
 use std::mem;
@@ -118,6 +119,31 @@ impl LineRoom {
         beside.lines_within(beside.wrap(words))
     }
 
+    // The words in as many lines as they take; a word for which there is no room in one goes on in the next.
+    fn wrap_all(self, words: &str) -> Result<Vec<String>, AllocError> {
+        let mut lines = Vec::new(self.alloc);
+        for line in &self.wrap(words)? {
+            self.push_pieces(&mut lines, line.as_str().trim())?;
+        }
+        Ok(lines)
+    }
+
+    // Appends a text in pieces for which there is room.
+    fn push_pieces(self, lines: &mut Vec<String>, text: &str) -> Result<(), AllocError> {
+        let mut piece = String::new(self.alloc);
+        let mut used = 0.0;
+        for character in text.chars() {
+            if !piece.is_empty() && used + self.each > self.room {
+                lines.push(mem::replace(&mut piece, String::new(self.alloc)))?;
+                used = 0.0;
+            }
+            piece.push(character)?;
+            used += self.each;
+        }
+        lines.push(piece)?;
+        Ok(())
+    }
+
     // Lines without what is blank at their ends, if these are two at most, each with room.
     fn lines_within(
         self,
@@ -193,4 +219,20 @@ pub fn label_lines(
         }
     }
     beside.lines_cut(words)
+}
+
+/// The lines of a label that is never cut: two at most, in the room of its lane or of the free lanes beside it, or else as many as it takes in these lanes.
+pub fn whole_label_lines(
+    alloc: Global,
+    label: &PictureLabel,
+    room: f64,
+    beside: f64,
+) -> Result<Vec<String>, AllocError> {
+    let each = LETTERS * label.factor();
+    let lane = LineRoom::new(alloc, room, each);
+    let words = label.words.as_str();
+    match lane.whole_lines(words, LineRoom::new(alloc, beside, each))? {
+        Some(lines) => Ok(lines),
+        None => LineRoom::new(alloc, beside - GAP, each).wrap_all(words),
+    }
 }

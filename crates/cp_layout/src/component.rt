@@ -1,6 +1,6 @@
 //! The components of a program, each followed by those that it contains.
 
-ghost use Rattle.std.specs.Prelude.{◌≡◌, ◌++◌, map, length, slice_get, IfOk, OnOk};
+ghost use Rattle.std.specs.Prelude.{◌≡◌, ◌++◌, map, slice_get, IfOk, OnOk};
 ghost use Rattle.cp_layout.specs.Kinds.{types_seen};
 ghost use Rattle.cp_layout.specs.Layers.{system_seen, owned_seen};
 ghost use Rattle.cp_layout.specs.LaidComponents as spec;

@@ -1,6 +1,6 @@
 //! Routines, system types and the program.
 
-ghost use Rattle.std.specs.Prelude.{◌≡◌, map, length, OnOk};
+ghost use Rattle.std.specs.Prelude.{◌≡◌, map, length};
 ghost use Rattle.cp_tree.specs.View.{routine_view, body_view, system_view, definition_view, system_definition_view, program_part_view, program_view};
 ghost use Rattle.cp_layout.specs.Layers.{layer_seen, heading_seen, Lays, Leads};
 ghost use Rattle.cp_layout.specs.LaidDeclarations as spec;

@@ -1,8 +1,8 @@
 //! Headings: the parameters of routines and system types. Each function takes the parameters before those that it adds.
 
-ghost use Rattle.std.specs.Prelude.{◌≡◌, [], map};
+ghost use Rattle.std.specs.Prelude.{[], map};
 ghost use Rattle.cp_tree.specs.View.{group_view, parameter_group_view, routine_kind_view};
-ghost use Rattle.cp_layout.specs.Layers.{layer_seen, heading_seen, Lays, Leads};
+ghost use Rattle.cp_layout.specs.Layers.{layer_seen, heading_seen, Lays};
 ghost use Rattle.cp_layout.specs.LaidDeclarations as spec;
 
 use crate::layer::{HeadingLayout, Layouter, ParameterLayout, Passing};

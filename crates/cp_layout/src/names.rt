@@ -4,7 +4,6 @@ ghost use Rattle.std.specs.Prelude.{◌≡◌, ◌∷◌, ◌-◌, length, drop,
 ghost use Rattle.cp_layout.specs.Layers as spec;
 ghost use Rattle.cp_layout.specs.Layers.{names_seen, declared_seen};
 
-use cp_slots::PlaceOrigin;
 use cp_symbols::{CellBase, CellType, LayoutMeaning, PredeclaredRoutine, values_of};
 use std::alloc::{AllocError, Global};
 

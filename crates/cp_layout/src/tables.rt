@@ -4,7 +4,6 @@ ghost use Rattle.std.specs.Prelude.{◌≡◌, map, slice_get, IfOk};
 ghost use Rattle.cp_tree.specs.TreeView.{tree_view};
 ghost use Rattle.cp_slots.specs.Tables.{tables_of, routine_view, system_view};
 ghost use Rattle.cp_layout.specs.Layers.{layer_seen, system_seen, owned_seen};
-ghost use Rattle.cp_layout.specs.LaidComponents.{listing_seen};
 ghost use Rattle.cp_layout.specs.Laid as spec;
 ghost use Rattle.cp_layout.specs.Laid.{plain, laid, whole};
 ghost use Rattle.cp_layout.specs.Symbols.{AreSymbolsOf};

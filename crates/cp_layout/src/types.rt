@@ -1,8 +1,8 @@
 //! Constants and types as they are written.
 
-ghost use Rattle.std.specs.Prelude.{◌≡◌, map, IfOk, OnOk};
+ghost use Rattle.std.specs.Prelude.{◌≡◌, IfOk, OnOk};
 ghost use Rattle.cp_tree.specs.View.{simple_view, type_view, field_group_view, field_groups_view, field_groups_of};
-ghost use Rattle.cp_layout.specs.Kinds.{field_seen, fields_seen, no_fields};
+ghost use Rattle.cp_layout.specs.Kinds.{fields_seen, no_fields};
 ghost use Rattle.cp_layout.specs.Layers.{layer_seen, names_seen, find, find_type, Lays, Leads};
 ghost use Rattle.cp_layout.specs.LaidTypes as spec;
 

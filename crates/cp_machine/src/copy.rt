@@ -3,10 +3,10 @@
 ghost use Rattle.std.specs.Prelude.{◌≡◌, ◌≤◌, false, length, ℕ, IfOk, map, vec_capacity, vec_len};
 ghost use Rattle.cp_slots.specs.Tables.{Tables};
 ghost use Rattle.cp_machine.specs.Fits.{HasRoomFor, HaveCells, HaveReferences, HaveRoom, HaveStacks, IsReserved, IsStateOf};
-ghost use Rattle.cp_machine.specs.Bodies.{body_at, body_of, has_moved, KeepBodies};
+ghost use Rattle.cp_machine.specs.Bodies.{body_at, body_of};
 ghost use Rattle.cp_machine.specs.Machine.{machine_of, monitor_of, thread_at, thread_of};
 
-use crate::moved::{Moved, Unwatched, Watch};
+use crate::moved::{Unwatched, Watch};
 use crate::process::ProcessState;
 use crate::shown::Shown;
 use crate::state::{Gate, Phase, State};
@@ -44,16 +44,6 @@ impl State {
     {
         take_state(self, other, &Unwatched);
     }
-
-    /// Becomes the same as a state of the same program after which these processes alone moved.
-    pub fn take_moved(&mut self, other: &State, moved: &Moved)
-        requires own { (r : Tables) × IsStateOf r self.old × IsStateOf r other.now }
-        requires kept { KeepBodies (has_moved moved.now) (machine_of other.now) (machine_of self.old) }
-        ensures same { machine_of self.new ≡ machine_of other.now }
-        ensures own { (r : Tables) → IsStateOf r self.old → IsStateOf r other.now → IsStateOf r self.new }
-    {
-        take_state(self, other, moved);
-    }
 }
 
 #[inline(always)]
@@ -73,9 +63,9 @@ fn take_state<W: Watch>(to: &mut State, from: &State, watch: &W)
     take_list(&mut to.output, &from.output);
 }
 
-// Becomes the same as another list, for which there is room.
+/// Becomes the same as another list, for which there is room.
 #[inline(always)]
-fn take_list<T: Copy>(to: &mut Vec<T>, from: &[T])
+pub fn take_list<T: Copy>(to: &mut Vec<T>, from: &[T])
     requires { length from.now ≤ vec_capacity to.old }
     ensures items { to.new.items ≡ from.now }
     ensures room { vec_capacity to.old ≤ vec_capacity to.new }

@@ -27,6 +27,7 @@ pub mod stepper;
 mod take;
 pub mod ticks;
 
+pub use copy::take_list;
 pub use discipline::{Discipline, Gates, Signals};
 pub use event::{ErrorName, Event, Kernel, RunError};
 pub use local::local_step;

@@ -1,6 +1,6 @@
 //! Loops.
 
-ghost use Rattle.std.specs.Prelude.{◌≡◌, ◌<◌, if◌then◌else◌};
+ghost use Rattle.std.specs.Prelude.{◌≡◌, ◌<◌};
 ghost use Rattle.std.specs.Ordering.{int_eq};
 ghost use Rattle.cp_slots.specs.Tables.{Tables};
 ghost use Rattle.cp_slots.specs.declared.item.Action.TheVariants.{Until, While};

@@ -1,6 +1,6 @@
 //! Which processes moved: their frames, control stacks and cells may have changed.
 
-ghost use Rattle.std.specs.Prelude.{◌≡◌, ◌<◌, Bool, ℕ, true, false};
+ghost use Rattle.std.specs.Prelude.{◌≡◌, ◌<◌, Bool, ℕ, true};
 
 /// What is told of each process that moves.
 pub trait Watch {
@@ -25,16 +25,6 @@ pub struct Moved {
 
 impl Moved {
     ghost use Rattle.cp_machine.specs.Bodies.{has_moved};
-
-    /// No process.
-    #[inline(always)]
-    pub fn nobody() -> Moved
-        ensures { (pid : ℕ) → pid < 16 → has_moved result pid ≡ false }
-    {
-        Moved {
-            by_number: [false; 16],
-        }
-    }
 
     /// All processes.
     #[inline(always)]

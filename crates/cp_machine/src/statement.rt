@@ -1,6 +1,6 @@
 //! Statements without calls.
 
-ghost use Rattle.std.specs.Prelude.{◌≡◌, ◌+◌, ◌<◌, ◌≤◌, None, if◌then◌else◌, vec_capacity, vec_len};
+ghost use Rattle.std.specs.Prelude.{◌≡◌, ◌+◌, ◌<◌, ◌≤◌, None, vec_capacity, vec_len};
 ghost use Rattle.cp_slots.specs.Tables.{Tables};
 ghost use Rattle.cp_slots.specs.declared.item.Action.TheVariants.{Assert, Assign, AssignSet, Copy, Display, If};
 ghost use Rattle.cp_machine.specs.Fits.{IsReserved};

@@ -11,7 +11,6 @@ ghost use Rattle.cp_machine.specs.Step.{act};
 use crate::event::{ErrorName, Event, RunError};
 use crate::loops::{Course, successor};
 use crate::perform::perform;
-use crate::process::Entry;
 use crate::stack::replace;
 use crate::state::State;
 use cp_slots::{Action, Item, Resolved};

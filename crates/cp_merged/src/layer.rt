@@ -35,7 +35,7 @@ impl Drop for StateLayer {
 }
 
 impl StateLayer {
-    ghost use Rattle.std.specs.Prelude.{◌+◌, ◌<◌, ◌^◌, [], ℕ, map, nat_eq, true, IfNone, IfOk, IfSome, slice_get, Some};
+    ghost use Rattle.std.specs.Prelude.{◌+◌, ◌<◌, ◌^◌, [], ℕ, map, nat_eq, true, IfNone, IfOk, IfSome, Some};
     ghost use lib.Pointwise.{pointwise};
     ghost use Rattle.cp_states.specs.Hashing.{hash_of as hash_in};
     ghost use Rattle.cp_merged.specs.Code.{keyed};

@@ -24,7 +24,7 @@ use Rattle.cp_story.proofs.StoryFloats.{violation_free}
 use Rattle.cp_story.proofs.Floats.{both, is_float_member, no_float-array, no_float-at_each, no_float-numbers, no_float-object, none_of, with_both}
 use Rattle.cp_story.specs.CauseText.{error_cause_members}
 use Rattle.cp_story.specs.Objects.{Member, array_of, number_data, numbers_data, text_data, with_member, with_members}
-use Rattle.cp_story.specs.ReasonText.{callers_data, reason_data, reason_text, reasons_data, routine_text, routines_data}
+use Rattle.cp_story.specs.ReasonText.{callers_data, perhaps_members, reason_data, reason_text, reasons_data, routine_text, routines_data}
 use Rattle.cp_story.specs.Reasons.{Reason}
 use Rattle.cp_story.specs.StoryData.{kind_members, monitor_data, named_data, process_data, signals_members, status_members, wait_data}
 use Rattle.cp_story.specs.Waiting.{Waiting}
@@ -67,6 +67,10 @@ wait_free l w =
     let where_inside = (codes "inside", numbers_data w.inside) ∷ [] in
     no_float-object ((codes "process", number_data w.process) ∷ status_members l w.status ++ where_inside) (both refl (none_of (status_members l w.status) where_inside (status_free l w.status) (both (no_float-numbers w.inside) refl)))
 
+perhaps_free : (l : Legend) (ns : List ℕ) (b : Bool) → list_any is_float_member (if b then [] else (codes "perhaps", routines_data l ns) ∷ []) ≡ false
+perhaps_free l ns true = refl
+perhaps_free l ns false = both (no_float-array (λ n. text_data (routine_text l n)) ns (λ n. refl)) refl
+
 reason_free : (l : Legend) (r : Reason) → has_float (reason_data l r) ≡ false
 unfolding reason_data
 reason_free l r =
@@ -77,12 +81,12 @@ reason_free l r =
     ∷ (codes "in_vain", numbers_data r.in_vain)
     ∷ (codes "callers", callers_data r.callers)
     ∷ (codes "text", text_data (reason_text l r))
-    ∷ [])
+    ∷ perhaps_members l r.perhaps)
     (both refl
     (both refl
     (both (no_float-array (λ n. text_data (routine_text l n)) r.entries (λ n. refl))
     (both (no_float-numbers r.in_vain)
-    (both (no_float-array (λ (c : Caller). number_data c.process) r.callers (λ c. refl)) refl)))))
+    (both (no_float-array (λ (c : Caller). number_data c.process) r.callers (λ c. refl)) (both refl (perhaps_free l r.perhaps (length r.perhaps == 0))))))))
 
 why_free : (l : Legend) (rs : List Reason) (b : Bool) → list_any is_float_member (if b then [] else (codes "why", reasons_data l rs) ∷ []) ≡ false
 why_free l rs true = refl

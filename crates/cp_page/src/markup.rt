@@ -8,13 +8,13 @@ pub const BEGIN: &str = r##"<!DOCTYPE html>
 <meta http-equiv="Content-Security-Policy" content="default-src 'none'; base-uri 'none'; form-action 'none'; style-src 'sha256-"##;
 
 /// The SHA-256 of the style sheet to the base 64.
-pub const STYLE_HASH: &str = "PrKG3boGzshgRolmb7BO30kLJakbpNrEv3Tyrpd8AE8=";
+pub const STYLE_HASH: &str = "Ba0Pa00IDbeUBwNRrmYZxGAU+IjsPIpB8NUl2L0vLEw=";
 
 /// Between the hashes.
 pub const BETWEEN: &str = "'; script-src 'sha256-";
 
 /// The SHA-256 of the script to the base 64.
-pub const SCRIPT_HASH: &str = "BAQbxVHFkR1bPmTk44dKX8aStyZEqZ+aGlSckH9YVCg=";
+pub const SCRIPT_HASH: &str = "v8xhckNjcEq91Ti3tUznCAVJ/eb1+4d8yY7CzhRT4kc=";
 
 /// Between the hash of the script and the style sheet.
 pub const HEAD: &str = r##"'">

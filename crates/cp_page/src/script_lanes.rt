@@ -311,17 +311,19 @@ function roundShapes(s, y) {
   return brackets;
 }
 
-// A line before the choice behind which nothing but the end can come any more.
+// A line below the choice behind which nothing but the end can come any more.
 function pointShapes(s, point, { y, width, bottom }) {
   const row = rowOf(s, point);
   const low = row < s.rows.length ? y(row) - H / 2 : bottom;
+  const words = `\u2691 point of no return: from here on only ${kindText(s.end.kind)}${point.isOutcome ? ", displayed " + (s.output.join(" ") || "nothing") : ""}`;
   return svg("g", { class: s.end.kind },
     svg("line", { x1: 0, x2: width, y1: low - 2, y2: low - 2, class: "point" }),
-    text(26, low - 10, "point", `\u2691 point of no return: from here on only ${kindText(s.end.kind)}${point.isOutcome ? ", displayed " + (s.output.join(" ") || "nothing") : ""}`));
+    rect(22, low - 22, widthOf(words, LOUD) + 8, 16, 3, "plate"),
+    text(26, low - 10, "point", words));
 }
 
-// The first row of the choice behind which there is no return.
-const rowOf = (s, { place }) => s.rows.filter(r => r.used < place).length;
+// The row below the one of the choice behind which there is no return.
+const rowOf = (s, { place }) => Math.min(s.rows.length, s.rows.filter(r => r.used < place).length + 1);
 
 function pictureOf(s, plan, point) {
   const { rows } = s;

@@ -132,6 +132,7 @@ svg .ahead { fill: var(--ground); opacity: .66 }
 #signs { list-style: none; margin: .4em 0; padding: .3em .6em; border: 1px solid var(--line); border-radius: .4em; columns: 17em }
 #signs li { display: flex; gap: .5em; align-items: center; break-inside: avoid }
 #signs svg { flex: none }
+svg .plate { fill: var(--ground) }
 svg .point { stroke: var(--k); stroke-width: 3; stroke-dasharray: 9 4 }
 svg text.point { fill: var(--k); stroke: var(--ground); stroke-width: 4; stroke-dasharray: none; paint-order: stroke; font-weight: 700 }
 svg .folded { fill: var(--band); stroke: var(--pale) }

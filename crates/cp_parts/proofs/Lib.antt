@@ -10,4 +10,5 @@ pub mod Rows
 pub mod Laid
 pub mod Becoming
 pub mod Anew
+pub mod Threads
 pub mod Whole

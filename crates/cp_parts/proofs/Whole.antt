@@ -14,8 +14,8 @@ use Rattle.cp_machine.specs.Machine.{Machine, machine_of, monitor_of, thread_at,
 use Rattle.cp_machine.specs.Reach.{Reaches}
 use Rattle.cp_key.specs.Room.{IsMachineOf}
 use Rattle.cp_key.proofs.Owned.{machine_room}
-use Rattle.cp_states.specs.Taking.{AreTaken, HasRoomFor}
-use Rattle.cp_states.proofs.Taking.{cells_kept, references_kept, stacks_kept, threads_taken}
+use Rattle.cp_parts.specs.Taking.{AreTaken, HasRoomFor}
+use Rattle.cp_parts.proofs.Threads.{cells_kept, references_kept, stacks_kept, threads_taken}
 
 -- a machine is its parts
 pub machine_made : (m n : Machine) → n.permanents ≡ m.permanents → n.bindings ≡ m.bindings → n.phases ≡ m.phases → n.threads ≡ m.threads → n.monitors ≡ m.monitors → n.pending ≡ m.pending → n.discipline ≡ m.discipline → n.output ≡ m.output → n ≡ m

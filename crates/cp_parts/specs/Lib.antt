@@ -4,3 +4,4 @@ pub mod Coded
 pub mod Parts
 pub mod Laws
 pub mod Taken
+pub mod Taking

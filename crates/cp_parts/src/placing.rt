@@ -20,7 +20,7 @@ pub struct PlaceTable {
 }
 
 impl PlaceTable {
-    ghost use Rattle.std.specs.Prelude.{◌<◌, ◌≤◌, ℕ, IfOk};
+    ghost use Rattle.std.specs.Prelude.{◌<◌, ◌≤◌, IfOk};
     ghost use Rattle.cp_slots.specs.Fits.{IsSound, KindFits};
     ghost use Rattle.cp_slots.specs.Tables.{Tables};
     ghost use Rattle.cp_parts.specs.Placed.{ArePlacedBelow, IsNext, IsPlaced, cells_before, places_of};

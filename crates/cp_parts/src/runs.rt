@@ -14,7 +14,7 @@ pub struct Runs {
 }
 
 impl Runs {
-    ghost use Rattle.std.specs.Prelude.{◌≡◌, ◌<◌, ◌≤◌, ◌++◌, ◌∷◌, [], ℕ, length, true, IfOk};
+    ghost use Rattle.std.specs.Prelude.{◌≡◌, ◌<◌, ◌≤◌, ◌++◌, ◌∷◌, [], length, true, IfOk};
     ghost use Rattle.cp_parts.specs.Runs.{AreFilled, IsOpen, span_at};
 
     /// No thing has a label, of so many.

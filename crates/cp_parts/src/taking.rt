@@ -11,8 +11,7 @@ use crate::grounds::{Ground, GroundStore};
 use crate::placing::PlaceTable;
 use crate::span::Span;
 use crate::store::PartStore;
-use cp_machine::{Gate, Phase, ProcessState, State};
-use cp_states::processes::take_list;
+use cp_machine::{Gate, Phase, ProcessState, State, take_list};
 
 // The numbers of a part stand in it in this order.
 const CELLS: usize = 0;
@@ -75,9 +74,9 @@ fn ground_of(part: &[u32]) -> Ground
     }
 }
 
-// The numbers of what a process has beside its status, in a part that has a process.
+/// The numbers of what a process has beside its status, in a part that has a process.
 #[inline(always)]
-fn body_numbers_of(part: &[u32]) -> BodyNumbers
+pub fn body_numbers_of(part: &[u32]) -> BodyNumbers
     requires { length part.now ≡ 9 }
     ensures { result ≡ body_in part.now }
 {
@@ -137,7 +136,7 @@ impl GroundStore {
 impl BodyStore {
     ghost use Rattle.cp_machine.specs.Bodies.{body_of};
     ghost use Rattle.cp_machine.specs.Machine.{Thread, thread_of};
-    ghost use Rattle.cp_states.specs.Taking.{HasRoomFor, HasRoomOf};
+    ghost use Rattle.cp_parts.specs.Taking.{HasRoomFor, HasRoomOf};
     ghost use Rattle.cp_parts.specs.Parts.{IsBody};
 
     // A process has the body that has numbers, and keeps its status. There is room for it.
@@ -159,16 +158,14 @@ impl BodyStore {
 }
 
 impl PartStore {
-    ghost use Rattle.std.specs.Prelude.{◌<◌, ◌⊎◌, ℕ, [], List, map, slice_index_or};
+    ghost use Rattle.std.specs.Prelude.{◌<◌, ℕ, [], map, slice_index_or};
     ghost use Rattle.cp_slots.specs.Tables.{Tables};
-    ghost use Rattle.cp_key.specs.Room.{IsMachineOf};
     ghost use Rattle.cp_machine.specs.declared.process.Status.{Status};
     ghost use Rattle.cp_machine.specs.Bodies.{body_of};
     ghost use Rattle.cp_machine.specs.Fits.{IsStateOf};
-    ghost use Rattle.cp_machine.specs.Machine.{Machine, Monitor, Thread, machine_of, monitor_at, monitor_of, thread_at, thread_of};
-    ghost use Rattle.cp_states.specs.Taking.{AreTaken, HasRoomFor, HasRoomOf};
-    ghost use Rattle.cp_parts.specs.Parts.{IsMonitorPart, IsPartRow, IsProcessPart, IsStatusNumber, part_at};
-    ghost use Rattle.cp_parts.specs.Placed.{IsPlaced, place_count};
+    ghost use Rattle.cp_machine.specs.Machine.{Machine, Monitor, Thread, machine_of, monitor_of, thread_at, thread_of};
+    ghost use Rattle.cp_parts.specs.Taking.{AreTaken, HasRoomFor, HasRoomOf};
+    ghost use Rattle.cp_parts.specs.Parts.{IsMonitorPart, IsProcessPart, IsStatusNumber, part_at};
     ghost use Rattle.cp_parts.specs.Taken.{AreLaid, CanLay, CanTake, CanTakeAnew, IsByteStatus};
 
     // A process has the status of a number, which perhaps is the one that it had.

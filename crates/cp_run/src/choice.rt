@@ -1,6 +1,6 @@
 //! Choices: what a due choice may take, and where it leads to.
 
-ghost use Rattle.std.specs.Prelude.{◌≡◌, ◌≤◌, ◌+◌, true};
+ghost use Rattle.std.specs.Prelude.{◌≡◌, ◌≤◌, ◌+◌, true, if◌then◌else◌};
 ghost use Rattle.cp_machine.specs.Bodies.{KeepBodies};
 ghost use Rattle.cp_machine.specs.System.{Machine, machine_of, opening, IsStateOf};
 ghost use Rattle.cp_run.specs.Run.{those_below, may, chosen, opened};
@@ -47,14 +47,14 @@ pub fn choose<S: Count, C: Count, W: Watch + Copy>(
     ensures node { chosen (slots job.now.program.now job.now.limits.discipline) job.now.limits.steps (machine_of state.old) process ≡ node_of result (machine_of state.new) }
     ensures own { IsStateOf job.now.program.now state.new }
     ensures steps { S.count steps.new ≤ S.count steps.old + job.now.limits.steps }
-    ensures calls { C.count calls.new ≤ C.count calls.old + 1 }
+    ensures calls { C.count calls.new ≡ (if C.counts then C.count calls.old + 1 else C.count calls.old) }
     ensures kept { (before : Machine) → KeepBodies (W.moved watch.old) before (machine_of state.old) → KeepBodies (W.moved watch.new) before (machine_of state.new) }
 {
-    calls.tick();
     let mut moves = Moves { watch: *watch };
     match observe_choice(job, state, process, steps, &mut moves) {
         Ok(turn) => {
             *watch = moves.watch;
+            calls.tick();
             halt_at(turn)
         }
         Err(never) => match never {},
@@ -73,7 +73,7 @@ pub fn open<S: Count, C: Count>(
     ensures node { opened (slots job.now.program.now job.now.limits.discipline) job.now.limits.steps ≡ node_of result (machine_of state.new) }
     ensures own { IsStateOf job.now.program.now state.new }
     ensures steps { S.count steps.new ≤ S.count steps.old + job.now.limits.steps }
-    ensures calls { C.count calls.new ≤ C.count calls.old + 1 }
+    ensures calls { C.count calls.new ≡ (if C.counts then C.count calls.old + 1 else C.count calls.old) }
 {
     calls.tick();
     let mut moves = Moves { watch: Unwatched };

@@ -11,6 +11,7 @@ pub mod observe;
 pub mod observing;
 pub mod outcome;
 pub mod runs;
+pub mod stretches;
 pub mod traces;
 pub mod turn;
 
@@ -23,4 +24,5 @@ pub use observe::Observe;
 pub use observing::{expect_step, halt_at, observe_choice, observe_opening, observe_run, see_step};
 pub use outcome::{Halt, Outcome, OutcomeKind, Output, RunEnd, Turn};
 pub use runs::{is_over, outcome_at, run};
+pub use stretches::stretch;
 pub use traces::{holders, trace};

@@ -1,6 +1,6 @@
 //! Stretches and runs that are observed.
 
-ghost use Rattle.std.specs.Prelude.{◌≡◌, ◌≤◌, ◌+◌, ◌*◌, false, true, IfOk, length};
+ghost use Rattle.std.specs.Prelude.{◌≡◌, ◌≤◌, ◌+◌, ◌*◌, false, true, IfOk};
 ghost use Rattle.cp_machine.specs.System.{machine_of, is_ready, is_pending, opening, IsStateOf};
 ghost use Rattle.cp_run.specs.Code.{IfGoes, answer_of, halt_at, node_of};
 ghost use Rattle.cp_run.specs.Fold.{fold_chosen, fold_opened, fold_run, fold_stretch, fold_turn, walked, walked_chosen, walked_opened};
@@ -100,8 +100,8 @@ pub fn see_step<S: Count, O: Observe>(
     Ok(turn_of(job, state, process, event))
 }
 
-// A stretch, if one comes next: at most as many steps as the limit. Answers what comes after them.
-fn observe_stretch<S: Count, O: Observe>(
+/// A stretch, if one comes next: at most as many steps as the limit. An observer is told of it. Answers what comes after them.
+pub fn observe_stretch<S: Count, O: Observe>(
     job: &Job<'_>,
     state: &mut State,
     turn: Turn,

@@ -1,7 +1,7 @@
 //! What comes before the next step of a run.
 
 ghost use Rattle.std.specs.Prelude.{◌≡◌, true, false};
-ghost use Rattle.cp_machine.specs.System.{Machine, machine_of, is_local, is_ready, is_pending, IsStateOf};
+ghost use Rattle.cp_machine.specs.System.{machine_of, is_local, is_ready, is_pending, IsStateOf};
 ghost use Rattle.cp_run.specs.Run.{settled_turn, turn_at, turn_after};
 ghost use Rattle.cp_run.specs.Slots.{slots};
 ghost use Rattle.cp_run.specs.Code.{IfGoes};

@@ -4,7 +4,7 @@ ghost use Rattle.std.specs.Prelude.{◌≡◌, option_map, Some, IfErr, OnOk, []
 ghost use Rattle.std.specs.Map.{lookup};
 ghost use Rattle.indexmap.specs.IndexMap.{insert_entry};
 ghost use Rattle.cp_scope.specs.Scopes as spec;
-ghost use Rattle.cp_scope.specs.View.{shape_view, shapes_of, heading_view};
+ghost use Rattle.cp_scope.specs.View.{shape_view, shapes_of};
 ghost use Rattle.cp_scope.specs.declared.fault.CheckFault.TheVariants as check_fault;
 
 use crate::count::{Use, plus, times};

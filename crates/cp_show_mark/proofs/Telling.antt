@@ -83,15 +83,15 @@ module _ (o : Options) (l : Limits) (r : Tables) (ps : Processes) (es : List Exp
   by_states : IsEndsMark r ps l.discipline l.steps o.states es m → TellsEndsMark r ps o.discipline o.steps o.states es verdict
   by_states h = (m, is, subst (λ (g : Discipline). IsEndsMark r ps g o.steps o.states es m) same.2 (subst (λ (n : ℕ). IsEndsMark r ps l.discipline n o.states es m) same.1 h))
 
-  by_calls : IsMarkAtOnce r ps l.steps es m → TellsMarkAtOnce r ps o.steps es verdict
-  by_calls h = (m, is, subst (λ (n : ℕ). IsMarkAtOnce r ps n es m) same.1 h)
+  by_calls : IsMarkAtOnce r ps l.steps o.states es m → TellsMarkAtOnce r ps o.steps o.states es verdict
+  by_calls h = (m, is, subst (λ (n : ℕ). IsMarkAtOnce r ps n o.states es m) same.1 h)
 
-  tells_by : (at_once : Bool) → (at_once ≡ true → TellsMarkAtOnce r ps o.steps es verdict) → (at_once ≡ false → TellsEndsMark r ps o.discipline o.steps o.states es verdict) → TellsEndsBy at_once r ps o es verdict
+  tells_by : (at_once : Bool) → (at_once ≡ true → TellsMarkAtOnce r ps o.steps o.states es verdict) → (at_once ≡ false → TellsEndsMark r ps o.discipline o.steps o.states es verdict) → TellsEndsBy at_once r ps o es verdict
   tells_by true calls states = calls refl
   tells_by false calls states = states refl
 
   -- with calls at once, where these settle it
-  pub judged_at_once : is_at_once o.analysis ≡ true → (can_be_at_once l.discipline es ≡ true → IsMarkAtOnce r ps l.steps es m) → (can_be_at_once l.discipline es ≡ false → IsEndsMark r ps l.discipline l.steps o.states es m) → TellsEnds r ps o es verdict
+  pub judged_at_once : is_at_once o.analysis ≡ true → (can_be_at_once l.discipline es ≡ true → IsMarkAtOnce r ps l.steps o.states es m) → (can_be_at_once l.discipline es ≡ false → IsEndsMark r ps l.discipline l.steps o.states es m) → TellsEnds r ps o es verdict
   judged_at_once asked calls states =
       let here : (b : Bool) → can_be_at_once o.discipline es ≡ b → can_be_at_once l.discipline es ≡ b = λ b can. subst (λ (g : Discipline). can_be_at_once g es ≡ b) (sym same.2) can in
       subst (λ (b : Bool). TellsEndsBy (b && can_be_at_once o.discipline es) r ps o es verdict) (sym asked) (tells_by (can_be_at_once o.discipline es) (λ can. by_calls (calls (here true can))) (λ cannot. by_states (states (here false cannot))))

@@ -133,7 +133,7 @@ are_at_once o es = is_at_once o.analysis && can_be_at_once o.discipline es
 
 abbrev pub TellsEndsBy : (at_once : Bool) → Tables → Processes → Options → List Expectation → ShowVerdict → Type 0
 TellsEndsBy false r ps o es verdict = TellsEndsMark r ps o.discipline o.steps o.states es verdict
-TellsEndsBy true r ps o es verdict = TellsMarkAtOnce r ps o.steps es verdict
+TellsEndsBy true r ps o es verdict = TellsMarkAtOnce r ps o.steps o.states es verdict
 
 abbrev pub TellsEnds : Tables → Processes → Options → List Expectation → ShowVerdict → Type 0
 TellsEnds r ps o es verdict = TellsEndsBy (are_at_once o es) r ps o es verdict

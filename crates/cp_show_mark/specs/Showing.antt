@@ -79,5 +79,5 @@ abbrev pub TellsEndsMark : Tables → Processes → Discipline → (steps most :
 TellsEndsMark r ps discipline steps most es verdict = (m : ends_mark.EndsMark) × (verdict ≡ ends_verdict_of m) × IsEndsMark r ps discipline steps most es m
 
 -- the mark with kernel calls at once from the first is told
-abbrev pub TellsMarkAtOnce : Tables → Processes → ℕ → List Expectation → ShowVerdict → Type 0
-TellsMarkAtOnce r ps steps es verdict = (m : ends_mark.EndsMark) × (verdict ≡ ends_verdict_of m) × IsMarkAtOnce r ps steps es m
+abbrev pub TellsMarkAtOnce : Tables → Processes → (steps most : ℕ) → List Expectation → ShowVerdict → Type 0
+TellsMarkAtOnce r ps steps most es verdict = (m : ends_mark.EndsMark) × (verdict ≡ ends_verdict_of m) × IsMarkAtOnce r ps steps most es m

@@ -135,7 +135,7 @@ const LAYER_STATES: OptionWords = OptionWords::Valued(
 const LAYER_OR_ALL_STATES: OptionWords = OptionWords::Valued(
     "states",
     "N",
-    "States that a layer may have, or that there may be in all with --end and --wait [default: 200000]",
+    "States that a layer may have, or that there may be in all with --end and --wait [default: 200000, with --at-once 2000000]",
 );
 
 // What of a picture is drawn.
@@ -195,7 +195,7 @@ const ENDING: &[OptionWords] = &[
     OptionWords::Valued(
         "states",
         "N",
-        "States that there may be in all, 1 to 10000000 [default: 200000]",
+        "States that there may be in all, 1 to 10000000 [default: 200000, with --at-once 2000000]",
     ),
     JSON,
 ];

@@ -5,18 +5,15 @@ ghost use Rattle.cp_slots.specs.Tables.{Tables};
 ghost use Rattle.cp_machine.specs.System.{IsStateOf};
 ghost use Rattle.cp_simplest.specs.Own.{AreOwn};
 
-use cp_machine::State;
-use cp_states::{StateRow, Store};
+use cp_key::{Parts, StateKey, thaw};
+use cp_machine::{Moved, State};
 use indexmap::IndexSet;
 use std::alloc::{AllocError, Global};
 
 /// The states that were found, each once, in the order in which they were found.
 #[derive(Drop)]
 pub struct States {
-    /// The row of each state.
-    pub rows: IndexSet<StateRow>,
-    /// The parts of the states.
-    pub store: Store,
+    pub keys: IndexSet<StateKey>,
 }
 
 impl States {
@@ -25,22 +22,24 @@ impl States {
         ensures { (r : Tables) → AreOwn r result }
     {
         States {
-            rows: IndexSet::new(alloc),
-            store: Store::new(alloc),
+            keys: IndexSet::new(alloc),
         }
     }
 
     /// How many states were found.
     pub fn len(&self) -> usize {
-        self.rows.len()
+        self.keys.len()
     }
 
     /// The number of a state, which is new where the state is.
     pub fn number_of(&mut self, alloc: Global, state: &State) -> Result<usize, AllocError>
         ensures { IfOk result (λ _. (r : Tables) → IsStateOf r state.now → AreOwn r self.old → AreOwn r self.new) }
     {
-        let row = self.store.row_anew(alloc, state)?;
-        let (number, _) = self.rows.insert_full(row)?;
+        let mut key = StateKey {
+            bytes: Vec::new(alloc),
+        };
+        key.take_from(state)?;
+        let (number, _) = self.keys.insert_full(key)?;
         Ok(number)
     }
 
@@ -49,10 +48,11 @@ impl States {
         requires { (r : Tables) × IsStateOf r state.old × AreOwn r self.now }
         ensures { (r : Tables) → IsStateOf r state.old → AreOwn r self.now → IsStateOf r state.new }
     {
-        let Some(row) = self.rows.get_index(number) else {
+        let Some(key) = self.keys.get_index(number) else {
             return false;
         };
-        self.store.take_anew(row, state);
+        let mut moved = Moved::everybody();
+        let _ = thaw(key.bytes.as_slice(), &Parts::none(), state, &mut moved);
         true
     }
 }

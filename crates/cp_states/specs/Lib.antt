@@ -1,12 +1,6 @@
-pub mod Admitted
 pub mod Chains
 pub mod Codes
-pub mod Gated
 pub mod Hashes
 pub mod Hashing
-pub mod Kept
 pub mod Numbers
 pub mod Pieces
-pub mod Rows
-pub mod Starts
-pub mod Taking

@@ -1,4 +1,4 @@
-//! ListStore by numbers.
+//! Lists by numbers.
 
 ghost use Rattle.std.specs.Prelude.{length};
 ghost use Rattle.cp_states.specs.Pieces.{AreDifferent, AreHashed, AreInside};
@@ -6,7 +6,7 @@ ghost use Rattle.cp_states.specs.Hashes.{hashes};
 
 use crate::hashing::{Compared, Hashed, hash_of};
 use crate::index::{HashIndex, MOST};
-use crate::processes::take_list;
+use cp_machine::take_list;
 use std::alloc::{AllocError, Global};
 
 /// Different lists, each with a number.
@@ -23,9 +23,9 @@ pub struct ListStore<T: Hashed> {
 }
 
 impl<T: Hashed + Compared> ListStore<T> {
-    ghost use Rattle.std.specs.Prelude.{◌≡◌, ◌+◌, ◌<◌, ◌≤◌, ◌++◌, ◌∷◌, [], ℕ, length, true, vec_capacity, IfNone, IfOk, IfSome};
+    ghost use Rattle.std.specs.Prelude.{◌≡◌, ◌<◌, ◌≤◌, ℕ, length, true, vec_capacity, IfNone, IfOk, IfSome};
     ghost use Rattle.cp_states.specs.Hashing.{hash_of as hash_in};
-    ghost use Rattle.cp_states.specs.Pieces.{IsPiece, piece_at, KeepPieces};
+    ghost use Rattle.cp_states.specs.Pieces.{piece_at, KeepPieces};
 
     /// There is no list.
     pub fn new(alloc: Global) -> ListStore<T>
@@ -115,21 +115,6 @@ impl<T: Hashed + Compared> ListStore<T> {
         let _ = self.items.extend_from_slice(list);
         self.ends.push_reserved(self.items.len());
         Ok(number as u32)
-    }
-
-    /// A list becomes the one with a number, which perhaps is the one that it was.
-    #[inline(always)]
-    pub fn take(&self, number: u32, known: u32, list: &mut Vec<T>)
-        requires number { number < length self.now.ends.items }
-        requires known { IsPiece self.now.items.items self.now.ends.items known list.old.items }
-        requires room { length (piece_at self.now.items.items self.now.ends.items number) ≤ vec_capacity list.old }
-        ensures items { list.new.items ≡ piece_at self.now.items.items self.now.ends.items number }
-        ensures room { vec_capacity list.old ≤ vec_capacity list.new }
-    {
-        if number == known {
-            return;
-        }
-        self.take_anew(number, list);
     }
 
     /// A list becomes the one with a number.

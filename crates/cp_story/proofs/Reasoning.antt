@@ -72,8 +72,8 @@ module _ (f : ℕ → List ℕ) (ns : List ℕ) (i last : ℕ) (now : List ℕ) 
 
 -- ---- one number more
 
-pub entries_more : (r : Tables) (system own at : ℕ) → with_entry r system own (entries_below r system own at) (item_at r at) ≡ entries_below r system own (at + 1)
-entries_more r system own at = rw add-one refl
+pub entries_more : (r : Tables) (computed : Bool) (system own at : ℕ) → with_entry r computed system own (entries_below r computed system own at) (item_at r at) ≡ entries_below r computed system own (at + 1)
+entries_more r computed system own at = rw add-one refl
 
 pub reasons_more : (s : Standstill) (n : ℕ) → reasons_below s n ++ reason_by s n (thread_at s.machine.threads n).status ≡ reasons_below s (n + 1)
 reasons_more s n = rw add-one refl

@@ -3,17 +3,18 @@ use Rattle.std.proofs.Common.{◌≡◌, ◌∙◌, ℕ, suc, ◌+◌, ◌<◌, 
 use Rattle.std.proofs.Math.Seq.{drop-cons}
 use Rattle.std.proofs.lemmas.Result.{on_ok_weaker}
 use Rattle.std.proofs.lemmas.List.{drop_all, append-nil, drop-map, get_or_default, map-append, take-map}
-use Rattle.std.specs.Prelude.{true, ◌&&◌, decimal, nat_lt, max, slice_get, slice_index_or}
+use Rattle.std.specs.Prelude.{true, Bool, ◌&&◌, decimal, nat_lt, max, slice_get, slice_index_or}
 use Rattle.std.specs.String.{string_bytes}
 use Rattle.std.proofs.Math.Nat.{max-zero}
 use Rattle.std.specs.declared.alloc.Global.{Global}
 use Rattle.std.specs.declared.string.String.{String}
-use Rattle.cp_legend.specs.Names.{at_each}
+use Rattle.cp_legend.specs.Names.{Legend, at_each}
 use Rattle.cp_run.specs.Table.{each}
-use Rattle.cp_story.specs.Columns.{row_seen, width_of, width, widths, gap, cell_text, left_before, cells_text, row_text, rows_text}
+use Rattle.cp_story.specs.Columns.{Row, row_seen, width_of, width, widths, gap, cell_text, left_before, cells_text, row_text, rows_text}
 use Rattle.cp_story.specs.Joined.{joined}
 use Rattle.cp_story.specs.Sentences.{alternatives_from, sign_before}
-use Rattle.cp_story.specs.Text.{are_digits}
+use Rattle.cp_story.specs.Text.{are_digits, event_row, event_rows, number_text}
+use Rattle.cp_story.specs.declared.event.StoryEvent.{StoryEvent}
 use Rattle.cp_story.specs.declared.tables.TableRow.{TableRow}
 
 -- ---- the first of those that are left
@@ -96,6 +97,13 @@ module _ {A B : Type 0} (f : A → B) (xs : List A) (i : ℕ) (now : List B) whe
 
   pub map_none : length xs ≤ i → now ++ map f (drop i xs) ≡ now
   map_none none = rw (drop_all i xs none) (append-nil now)
+
+module _ (l : Legend) (named : Bool) (xs : List StoryEvent) (i : ℕ) (now : List Row) where
+  pub events_step : (x : StoryEvent) → i < length xs → x ≡ get_or xs i x → now ++ event_rows l named (i + 1) (drop i xs) ≡ (now ++ (number_text named (i + 1) ∷ event_row l x) ∷ []) ++ event_rows l named ((i + 1) + 1) (drop (i + 1) xs)
+  events_step x within here = rw (next xs i x within, ← here) (sym (append_assoc now ((number_text named (i + 1) ∷ event_row l x) ∷ []) (event_rows l named ((i + 1) + 1) (drop (i + 1) xs))))
+
+  pub events_none : length xs ≤ i → now ++ event_rows l named (i + 1) (drop i xs) ≡ now
+  events_none none = rw (drop_all i xs none) (append-nil now)
 
 pub row_more : (rows : List TableRow) (r : TableRow) → map row_seen (rows ++ r ∷ []) ≡ map row_seen rows ++ row_seen r ∷ []
 row_more rows r = map-append row_seen rows (r ∷ [])

@@ -29,7 +29,7 @@ use Rattle.cp_story.specs.Changes.{Changed}
 use Rattle.cp_story.specs.Halted.{Halted, halted_seen}
 use Rattle.cp_story.specs.Objects.{array_of, flag, integer_data, number_data, numbers_data, optional, text_data, with_member}
 use Rattle.cp_story.specs.Passed.{Given}
-use Rattle.cp_story.specs.ReasonText.{callers_data, reason_data, reason_text, reasons_data, routine_text, routines_data, why_members}
+use Rattle.cp_story.specs.ReasonText.{callers_data, perhaps_members, reason_data, reason_text, reasons_data, routine_text, routines_data, why_members}
 use Rattle.cp_story.specs.Reasons.{Reason, reason_seen}
 use Rattle.cp_story.specs.Story.{Decision, Happened, Enters, Leaves, Delays, Continues, Starts, Displays, Ends, IsAdmitted, Told}
 use Rattle.cp_story.specs.StoryData as spec
@@ -237,6 +237,10 @@ signals_free Return = refl
 signals_free Continue = refl
 signals_free Wait = refl
 
+perhaps_free : (l : Legend) (ns : List ℕ) (b : Bool) → list_any is_float_member (if b then [] else (codes "perhaps", routines_data l ns) ∷ []) ≡ false
+perhaps_free l ns true = refl
+perhaps_free l ns false = both (no_float-array (λ n. text_data (routine_text l n)) ns (λ n. refl)) refl
+
 reason_free : (l : Legend) (r : Reason) → has_float (reason_data l r) ≡ false
 unfolding reason_data
 reason_free l r =
@@ -247,12 +251,12 @@ reason_free l r =
     ∷ (codes "in_vain", numbers_data r.in_vain)
     ∷ (codes "callers", callers_data r.callers)
     ∷ (codes "text", text_data (reason_text l r))
-    ∷ [])
+    ∷ perhaps_members l r.perhaps)
     (both refl
     (both refl
     (both (no_float-array (λ n. text_data (routine_text l n)) r.entries (λ n. refl))
     (both (no_float-numbers r.in_vain)
-    (both (no_float-array (λ (c : Caller). number_data c.process) r.callers (λ c. refl)) refl)))))
+    (both (no_float-array (λ (c : Caller). number_data c.process) r.callers (λ c. refl)) (both refl (perhaps_free l r.perhaps (length r.perhaps == 0))))))))
 
 why_free : (l : Legend) (rs : List Reason) (b : Bool) → list_any is_float_member (if b then [] else (codes "why", reasons_data l rs) ∷ []) ≡ false
 why_free l rs true = refl

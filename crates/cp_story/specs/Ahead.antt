@@ -1,11 +1,16 @@
 -- Which statements processes may come to: those at which the lists on their control stacks go on, and step by step what may come after each.
-use Rattle.std.specs.Prelude.{ℕ, suc, zero, ◌+◌, ◌==◌, ◌&&◌, ◌*◌, ◌-ℤ◌, unsigned_abs, nat_lt, Bool, if◌then◌else◌, List, [], ◌∷◌, ◌++◌, length, Option, Some, None, slice_get, slice_index_or, unwrap_or}
+use Rattle.std.specs.Prelude.{ℕ, suc, zero, ◌+◌, ◌==◌, ◌&&◌, ◌*◌, ℤ, neg_ℤ, ◌-ℤ◌, int_le, unsigned_abs, nat_lt, Bool, if◌then◌else◌, List, [], ◌∷◌, ◌++◌, length, Option, Some, None, slice_get, slice_index_or, unwrap_or}
 use Rattle.std.specs.List.{list_any}
 use Rattle.cp_slots.specs.declared.item.Action.{Action}
 use Rattle.cp_slots.specs.declared.item.Action.TheVariants as action
 use Rattle.cp_slots.specs.declared.item.ResolvedArm.{ResolvedArm}
 use Rattle.cp_slots.specs.declared.place.ComponentPlace.{ComponentPlace}
 use Rattle.cp_slots.specs.declared.place.ComponentPlace.TheVariants.{Own, Contained, Element, Parameter}
+use Rattle.cp_slots.specs.declared.place.Place as code_place
+use Rattle.cp_slots.specs.declared.place.Index as code_index
+use Rattle.cp_slots.specs.declared.place.OrdinalExpression as code_expression
+use Rattle.cp_slots.specs.declared.place.OrdinalExpression.TheOpen.{OrdinalExpression-F}
+use Rattle.cp_slots.specs.declared.place.SetExpression as code_set
 use Rattle.cp_slots.specs.declared.tables.Process.{Process}
 use Rattle.cp_slots.specs.Tables.{Tables, item_at, process_at, routine_at}
 use Rattle.cp_symbols.specs.Kinds.{plus, times}
@@ -27,6 +32,29 @@ with_one found a = if list_any (is_one a) found then found else found ++ a ∷ [
 abbrev pub with_list : (process component : ℕ) → List Ahead → Option ℕ → List Ahead
 with_list p c found None = found
 with_list p c found (Some at) = with_one found (record { process = p; component = c; at = at })
+
+-- ---- an element, by its index
+
+abbrev pub negated_by : OrdinalExpression-F code_expression.OrdinalExpression code_set.SetExpression code_index.Index code_place.Place → Option ℤ
+negated_by (OrdinalExpression-F.Number z) = Some (neg_ℤ z)
+negated_by _ = None
+
+-- that of a number with a minus
+abbrev pub negated : code_expression.OrdinalExpression → Option ℤ
+negated e = negated_by (code_expression.out-OrdinalExpression e)
+
+abbrev pub written_by : OrdinalExpression-F code_expression.OrdinalExpression code_set.SetExpression code_index.Index code_place.Place → Option ℤ
+written_by (OrdinalExpression-F.Number z) = Some z
+written_by (OrdinalExpression-F.Negate e) = negated e.value
+written_by _ = None
+
+-- the value of an index that is written as a number or a constant, maybe with a minus; any other is computed
+abbrev pub written_index : code_expression.OrdinalExpression → Option ℤ
+written_index e = written_by (code_expression.out-OrdinalExpression e)
+
+-- where the element of an index begins, if the array has one
+abbrev pub element_at : (first : ℕ) → (low high : ℤ) → (size : ℕ) → ℤ → Option ℕ
+element_at first low high size z = if int_le low z && int_le z high then Some (plus first (times (unsigned_abs (z -ℤ low)) size)) else None
 
 -- ---- on a control stack, from its top
 
@@ -59,10 +87,20 @@ abbrev pub with_arms : (process component : ℕ) → List Ahead → List Resolve
 with_arms p c found [] = found
 with_arms p c found (arm ∷ arms) = with_arms p c (with_list p c found arm.body) arms
 
+-- in the component of a number, if there is one
+abbrev pub with_list_at : (process : ℕ) → List Ahead → (body component : Option ℕ) → List Ahead
+with_list_at p found body None = found
+with_list_at p found body (Some c) = with_list p c found body
+
 -- in the first elements of an array of components
 abbrev pub with_elements : (process first stride elements : ℕ) → List Ahead → Option ℕ → List Ahead
 with_elements p first stride zero found body = found
 with_elements p first stride (suc n) found body = with_list p (plus first (times n stride)) (with_elements p first stride n found body) body
+
+-- in the element of this index, or in each where the index is computed
+abbrev pub with_elements_at : (process first : ℕ) → (low high : ℤ) → (stride : ℕ) → List Ahead → (body : Option ℕ) → (index : Option ℤ) → List Ahead
+with_elements_at p first low high stride found body (Some z) = with_list_at p found body (element_at first low high stride z)
+with_elements_at p first low high stride found body None = with_elements p first stride (unsigned_abs (high -ℤ low) + 1) found body
 
 -- the component that the parameter in a cell is bound to
 abbrev pub bound_in : Machine → (slot : ℕ) → Option Named → ℕ
@@ -73,7 +111,7 @@ bound_in m slot (Some c) = slice_index_or m.bindings (plus c.base slot) 0
 abbrev pub with_called : Legend → Machine → Ahead → ComponentPlace → List Ahead → (body : Option ℕ) → List Ahead
 with_called l m a Own found body = with_list a.process a.component found body
 with_called l m a (Contained number) found body = with_list a.process (plus a.component number) found body
-with_called l m a (Element first low high stride index) found body = with_elements a.process (plus a.component first) stride (unsigned_abs (high -ℤ low) + 1) found body
+with_called l m a (Element first low high stride index) found body = with_elements_at a.process (plus a.component first) low high stride found body (written_index index.value)
 with_called l m a (Parameter slot) found body = with_list a.process (bound_in m slot (slice_get l.components a.component)) found body
 
 abbrev pub begins_with : (routine : ℕ) → Process → Bool

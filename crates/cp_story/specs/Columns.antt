@@ -26,9 +26,9 @@ abbrev pub width : List Row → (column : ℕ) → ℕ
 width [] n = 0
 width (r ∷ rs) n = max (width_of (slice_get r n)) (width rs n)
 
--- of the five columns
+-- of the six columns
 abbrev pub widths : List Row → List ℕ
-widths rows = at_each (width rows) 5
+widths rows = at_each (width rows) 6
 
 -- ---- a row
 

@@ -10,8 +10,10 @@ use Rattle.cp_run.specs.declared.outcome.OutcomeKind.{OutcomeKind}
 use Rattle.cp_run.specs.declared.outcome.OutcomeKind.TheVariants as kind
 use Rattle.cp_run.specs.Run.{Answer, Ended, run}
 use Rattle.cp_run.specs.Slots.{slots}
+use Rattle.cp_run.specs.Stop.{last_state}
 use Rattle.cp_store.specs.declared.error.ErrorName.{ErrorName}
 use Rattle.cp_store.specs.declared.error.ErrorName.TheVariants.{QueueInUse}
+use Rattle.cp_story.specs.Changes.{Changed, changes_in}
 use Rattle.cp_story.specs.Ends.{error_name}
 use Rattle.cp_story.specs.Sentences.{cell_queue_text, process_text}
 use Rattle.cp_story.specs.Story.{telling}
@@ -89,3 +91,7 @@ halted_at l _ last ws = None
 -- how the run of a word stopped: after its last step, where these wait
 abbrev pub how_halted : Legend → Tables → Discipline → (choices steps : ℕ) → List ℕ → Option Halted
 how_halted l r discipline choices steps word = halted_at l (run (slots r discipline) choices steps word) (telling l r discipline choices steps word).past.last (who_waits l r discipline choices steps word)
+
+-- the variables of monitors that changed since its last event, and what they are where it stopped
+abbrev pub changes_at_halt : Legend → Tables → Discipline → (choices steps : ℕ) → List ℕ → List Changed
+changes_at_halt l r discipline choices steps word = changes_in l (telling l r discipline choices steps word).past.cells (last_state (slots r discipline) choices steps word).permanents

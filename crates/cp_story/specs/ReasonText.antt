@@ -32,8 +32,25 @@ routine_text l n = name_of_routine (slice_get l.routines n)
 abbrev pub verb_text : (routines : ℕ) → List ℕ
 verb_text n = if n == 0 then codes "no entry continues " else if n == 1 then codes " continues " else codes " continue "
 
+abbrev pub continued_text : Legend → (routines : List ℕ) → (queue : ℕ) → List ℕ
+continued_text l ns queue = listed (routine_text l) ns ++ verb_text (length ns) ++ cell_queue_text l queue
+
+-- which do, or that none does
+abbrev pub surely_text : Legend → Reason → List ℕ
+surely_text l r = if length r.entries == 0 && not (length r.perhaps == 0) then [] else continued_text l r.entries r.queue
+
+abbrev pub comma_before : Reason → List ℕ
+comma_before r = if length r.entries == 0 then [] else codes ", "
+
+-- which do for an element of its array
+abbrev pub elements_text : Legend → Reason → List ℕ
+elements_text l r = comma_before r ++ continued_text l r.perhaps r.queue ++ codes " or another element"
+
+abbrev pub perhaps_text : Legend → Reason → List ℕ
+perhaps_text l r = if length r.perhaps == 0 then [] else elements_text l r
+
 abbrev pub continuing_text : Legend → Reason → List ℕ
-continuing_text l r = listed (routine_text l) r.entries ++ verb_text (length r.entries) ++ cell_queue_text l r.queue
+continuing_text l r = surely_text l r ++ perhaps_text l r
 
 abbrev pub signalled_text : (events : List ℕ) → List ℕ
 signalled_text events = codes "; signalled in vain at " ++ listed decimal events
@@ -61,7 +78,7 @@ caller_text l c = codes "; " ++ could_text l c
 
 -- that nobody could, where there is such a routine
 abbrev pub nobody_text : Reason → List ℕ
-nobody_text r = if length r.callers == 0 && not (length r.entries == 0) then codes "; nobody else who waits could do so" else []
+nobody_text r = if length r.callers == 0 && not (length r.entries == 0 && length r.perhaps == 0) then codes "; nobody else who waits could do so" else []
 
 abbrev pub callers_text : Legend → Reason → List ℕ
 callers_text l r = each (caller_text l) r.callers ++ nobody_text r
@@ -83,7 +100,11 @@ routines_data l ns = array_of (map (λ n. text_data (routine_text l n)) ns)
 abbrev pub callers_data : List Caller → Data
 callers_data cs = array_of (map (λ (c : Caller). number_data c.process) cs)
 
--- a process by its number, since when it waits, which routines continue the queue, what was in vain, who could do so, and the sentence
+-- those that continue an element of the array, if there are some
+abbrev pub perhaps_members : Legend → List ℕ → List Member
+perhaps_members l ns = if length ns == 0 then [] else (codes "perhaps", routines_data l ns) ∷ []
+
+-- a process by its number, since when it waits, which routines continue the queue, what was in vain, who could do so, and the sentence; and which routines perhaps continue the queue
 unfoldable pub reason_data : Legend → Reason → Data
 reason_data l r =
     object_with
@@ -93,7 +114,7 @@ reason_data l r =
     ∷ (codes "in_vain", numbers_data r.in_vain)
     ∷ (codes "callers", callers_data r.callers)
     ∷ (codes "text", text_data (reason_text l r))
-    ∷ [])
+    ∷ perhaps_members l r.perhaps)
 
 abbrev pub reasons_data : Legend → List Reason → Data
 reasons_data l rs = array_of (map (reason_data l) rs)

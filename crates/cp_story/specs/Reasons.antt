@@ -1,6 +1,7 @@
 -- Why nobody goes on where all wait: of each process that waits in a queue, since which event, which routines have a `continue` of this queue, which events
--- continued it while nobody waited there, and which processes that wait could still come to such a `continue`.
-use Rattle.std.specs.Prelude.{ℕ, zero, suc, ◌+◌, ◌-◌, ◌==◌, ◌&&◌, not, nat_le, nat_lt, nat_eq, ◌-ℤ◌, ℤ, int_le, unsigned_abs, Bool, true, false, if◌then◌else◌, List, [], ◌∷◌, ◌++◌, map, length, Option, Some, None, slice_get}
+-- continued it while nobody waited there, and which processes that wait could still come to such a `continue`. Where the index of an array of queues is computed, it is not known
+-- ahead which of them is continued.
+use Rattle.std.specs.Prelude.{ℕ, zero, suc, ◌+◌, ◌-◌, ◌==◌, ◌&&◌, not, nat_le, nat_lt, nat_eq, ◌-ℤ◌, ℤ, int_lt, unsigned_abs, Bool, true, false, if◌then◌else◌, List, [], ◌∷◌, ◌++◌, map, length, Option, Some, None, slice_get}
 use Rattle.std.specs.List.{list_any}
 use Rattle.std.specs.Cmp.Lexicographic.{pointwise}
 use Rattle.cp_slots.specs.declared.item.Action.{Action}
@@ -8,9 +9,6 @@ use Rattle.cp_slots.specs.declared.item.Action.TheVariants.{Continue}
 use Rattle.cp_slots.specs.declared.item.Item.{Item}
 use Rattle.cp_slots.specs.declared.place.Place as code_place
 use Rattle.cp_slots.specs.declared.place.Index as code_index
-use Rattle.cp_slots.specs.declared.place.OrdinalExpression as code_expression
-use Rattle.cp_slots.specs.declared.place.OrdinalExpression.TheOpen.{OrdinalExpression-F}
-use Rattle.cp_slots.specs.declared.place.SetExpression as code_set
 use Rattle.cp_slots.specs.declared.place.PlaceOrigin.{PlaceOrigin}
 use Rattle.cp_slots.specs.declared.place.PlaceOrigin.TheVariants as origin
 use Rattle.cp_slots.specs.Tables.{Tables, item_at, routine_at}
@@ -27,7 +25,7 @@ use Rattle.cp_run.specs.Run.{Answer, Ended, run, those_below}
 use Rattle.cp_run.specs.Slots.{slots}
 use Rattle.cp_run.specs.Stop.{last_state}
 use Rattle.cp_run.specs.Table.{each}
-use Rattle.cp_story.specs.Ahead.{item_count, statements_ahead}
+use Rattle.cp_story.specs.Ahead.{element_at, item_count, statements_ahead, written_index}
 use Rattle.cp_story.specs.Story.{Happened, Delays, Continues, NamedQueue, Told, queue_at, story_of}
 use Rattle.cp_story.specs.Views.{told_of}
 use Rattle.cp_story.specs.Waiting.{Waiting, waits_at, who_waits}
@@ -44,13 +42,15 @@ pub record Reason : Type 0 where
   pub since : ℕ
   -- the routines that have a `continue` of the queue
   pub entries : List ℕ
+  -- those that have one of an element of its array by a computed index, which may be the queue
+  pub perhaps : List ℕ
   -- the numbers of the events that continued it where nobody waited there
   pub in_vain : List ℕ
   -- who could still come to such a `continue`, and waits
   pub callers : List Caller
 
 abbrev pub reason_seen : WaitReason → Reason
-reason_seen r = record { process = r.process; queue = r.queue; since = r.since; entries = r.entries.items; in_vain = r.in_vain.items; callers = r.callers.items }
+reason_seen r = record { process = r.process; queue = r.queue; since = r.since; entries = r.entries.items; perhaps = r.perhaps.items; in_vain = r.in_vain.items; callers = r.callers.items }
 
 -- the state in which all wait, the events that led there, and the statements that each process could still come to
 pub record Standstill : Type 0 where
@@ -99,29 +99,21 @@ in_vain q found before (e ∷ es) = in_vain q (with_lost q found before e) (befo
 
 -- ---- in the tables
 
--- how many cells the elements before an index have
-abbrev pub cells_before : (index low : ℤ) → (size : ℕ) → ℕ
-cells_before index low size = times (unsigned_abs (index -ℤ low)) size
-
--- the value of an index that is written as a number
-abbrev pub written_by : OrdinalExpression-F code_expression.OrdinalExpression code_set.SetExpression code_index.Index code_place.Place → Option ℤ
-written_by (OrdinalExpression-F.Number z) = Some z
-written_by _ = None
-
-abbrev pub written_index : code_index.Index → Option ℤ
-written_index i = written_by (code_expression.out-OrdinalExpression (code_index.out-Index i).at)
-
 -- the cells of all elements of an array
 abbrev pub cells_of : code_index.Index → ℕ
 cells_of i = times (plus (unsigned_abs ((code_index.out-Index i).high -ℤ (code_index.out-Index i).low)) 1) (code_index.out-Index i).size
 
--- whether a cell is the element of this index, or may be where the index is no number
+abbrev pub is_cell : (own : ℕ) → Option ℕ → Bool
+is_cell own None = false
+is_cell own (Some cell) = cell == own
+
+-- whether a cell is the element of this index, or may be where the index is computed
 abbrev pub is_element_at : code_index.Index → (start own : ℕ) → Option ℤ → Bool
-is_element_at i start own (Some z) = int_le (code_index.out-Index i).low z && (int_le z (code_index.out-Index i).high && own == plus start (cells_before z (code_index.out-Index i).low (code_index.out-Index i).size))
+is_element_at i start own (Some z) = is_cell own (element_at start (code_index.out-Index i).low (code_index.out-Index i).high (code_index.out-Index i).size z)
 is_element_at i start own None = nat_le start own && nat_lt own (plus start (cells_of i))
 
 abbrev pub is_element : code_index.Index → (start own : ℕ) → Bool
-is_element i start own = is_element_at i start own (written_index i)
+is_element i start own = is_element_at i start own (written_index (code_index.out-Index i).at)
 
 abbrev pub is_part : Option code_index.Index → (start own : ℕ) → Bool
 is_part None start own = own == start
@@ -139,27 +131,45 @@ abbrev pub may_continue : (own : ℕ) → Action → Bool
 may_continue own (Continue place) = has_cell own place
 may_continue own _ = false
 
+-- whether a computed index may be that of another element, too
+abbrev pub is_open_at : code_index.Index → Option ℤ → Bool
+is_open_at i (Some z) = false
+is_open_at i None = int_lt (code_index.out-Index i).low (code_index.out-Index i).high
+
+abbrev pub is_open : Option code_index.Index → Bool
+is_open None = false
+is_open (Some i) = is_open_at i (written_index (code_index.out-Index i).at)
+
+-- whether it isn't known ahead of which element an item continues the queue
+abbrev pub is_computed : Action → Bool
+is_computed (Continue place) = is_open (slice_get (code_place.out-Place place).indices.items 0)
+is_computed _ = false
+
+-- by a computed index, or else surely
+abbrev pub continues_by : (computed : Bool) → (own : ℕ) → Action → Bool
+continues_by computed own a = may_continue own a && (if computed then is_computed a else not (is_computed a))
+
 abbrev pub has_number : List ℕ → ℕ → Bool
 has_number ns n = list_any (λ m. m == n) ns
 
-abbrev pub is_continuing : Tables → (system own : ℕ) → Item → Bool
-is_continuing r system own i = (routine_at r i.routine).system == system && may_continue own i.action
+abbrev pub is_continuing : Tables → (computed : Bool) → (system own : ℕ) → Item → Bool
+is_continuing r computed system own i = (routine_at r i.routine).system == system && continues_by computed own i.action
 
-abbrev pub with_entry : Tables → (system own : ℕ) → List ℕ → Item → List ℕ
-with_entry r system own found i = if is_continuing r system own i && not (has_number found i.routine) then found ++ i.routine ∷ [] else found
+abbrev pub with_entry : Tables → (computed : Bool) → (system own : ℕ) → List ℕ → Item → List ℕ
+with_entry r computed system own found i = if is_continuing r computed system own i && not (has_number found i.routine) then found ++ i.routine ∷ [] else found
 
 -- the routines of the first items
-abbrev pub entries_below : Tables → (system own items : ℕ) → List ℕ
-entries_below r system own zero = []
-entries_below r system own (suc n) = with_entry r system own (entries_below r system own n) (item_at r n)
+abbrev pub entries_below : Tables → (computed : Bool) → (system own items : ℕ) → List ℕ
+entries_below r computed system own zero = []
+entries_below r computed system own (suc n) = with_entry r computed system own (entries_below r computed system own n) (item_at r n)
 
-abbrev pub entries_in : Tables → Option Named → (cell : ℕ) → List ℕ
-entries_in r None cell = []
-entries_in r (Some c) cell = entries_below r c.system (cell - c.base) (item_count r)
+abbrev pub entries_in : Tables → (computed : Bool) → Option Named → (cell : ℕ) → List ℕ
+entries_in r computed None cell = []
+entries_in r computed (Some c) cell = entries_below r computed c.system (cell - c.base) (item_count r)
 
--- those that have a `continue` of the queue of a cell
-abbrev pub entries : Legend → Tables → (cell : ℕ) → List ℕ
-entries l r cell = entries_in r (owner l.components cell) cell
+-- those that have a `continue` of the queue of a cell, or may have one by a computed index
+abbrev pub entries : Legend → Tables → (computed : Bool) → (cell : ℕ) → List ℕ
+entries l r computed cell = entries_in r computed (owner l.components cell) cell
 
 -- ---- who could still come to such a `continue`, and waits
 
@@ -188,7 +198,16 @@ callers s p cell = map (caller_at s.machine) (those_below (length s.machine.thre
 -- ---- of each process that waits in a queue
 
 abbrev pub reason_of : Standstill → (process cell : ℕ) → Reason
-reason_of s p cell = record { process = p; queue = cell; since = since p 0 0 s.events; entries = entries s.legend s.tables cell; in_vain = in_vain (queue_at s.legend cell) [] 0 s.events; callers = callers s p cell }
+reason_of s p cell =
+    record {
+      process = p;
+      queue = cell;
+      since = since p 0 0 s.events;
+      entries = entries s.legend s.tables false cell;
+      perhaps = entries s.legend s.tables true cell;
+      in_vain = in_vain (queue_at s.legend cell) [] 0 s.events;
+      callers = callers s p cell;
+    }
 
 abbrev pub reason_by : Standstill → (process : ℕ) → Status → List Reason
 reason_by s p (status.Delayed cell) = reason_of s p cell ∷ []

@@ -1,5 +1,5 @@
 -- The text of a story: a table of its events, and lines below it.
-use Rattle.std.specs.Prelude.{ℕ, ◌&&◌, nat_lt, true, Bool, if◌then◌else◌, List, [], ◌∷◌, ◌++◌, Option, Some, None, map, option_map, codes, decimal}
+use Rattle.std.specs.Prelude.{ℕ, ◌+◌, ◌==◌, ◌&&◌, nat_lt, not, true, Bool, if◌then◌else◌, List, [], ◌∷◌, ◌++◌, Option, Some, None, length, map, option_map, codes, decimal}
 use Rattle.cp_legend.specs.Names.{Legend}
 use Rattle.cp_legend.specs.Written.{value_text}
 use Rattle.cp_run.specs.declared.outcome.RunEnd.{RunEnd}
@@ -72,12 +72,25 @@ stop_text l stop c (Some v) = violation_text l v
 abbrev pub stop_row : Legend → Option Decision → Halted → Option Cause → Option Violated → Row
 stop_row l choice stop cause violation = choice_text choice ∷ process_text l stop.process ∷ line_text stop.line ∷ stop_text l stop cause violation ∷ []
 
+-- the number of an event, where sentences below name events
+abbrev pub number_text : (named : Bool) → ℕ → List ℕ
+number_text named n = if named then decimal n else []
+
+-- events, the first of which has this number
+abbrev pub event_rows : Legend → (named : Bool) → ℕ → List StoryEvent → List Row
+event_rows l named n [] = []
+event_rows l named n (e ∷ es) = (number_text named n ∷ event_row l e) ∷ event_rows l named (n + 1) es
+
 abbrev pub stop_rows : Legend → Option Decision → Option Halted → Option Cause → Option Violated → List Row
 stop_rows l choice None cause violation = []
-stop_rows l choice (Some stop) cause violation = stop_row l choice stop cause violation ∷ []
+stop_rows l choice (Some stop) cause violation = ([] ∷ stop_row l choice stop cause violation) ∷ []
+
+-- the sentences on why nobody goes on name events
+abbrev pub names_events : Story → Bool
+names_events s = not (length s.reasons.items == 0)
 
 abbrev pub story_rows : Legend → Story → List Row
-story_rows l s = map (event_row l) s.events.items ++ stop_rows l (option_map decision_of s.last_choice) (option_map halted_seen s.stop) s.cause (option_map violation_seen s.violation)
+story_rows l s = event_rows l (names_events s) 1 s.events.items ++ stop_rows l (option_map decision_of s.last_choice) (option_map halted_seen s.stop) s.cause (option_map violation_seen s.violation)
 
 -- ---- lines below the table
 

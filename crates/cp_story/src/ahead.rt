@@ -1,15 +1,14 @@
 //! Which statements processes may come to, by what stands on their control stacks.
 
-ghost use Rattle.std.specs.Prelude.{◌≡◌, ◌<◌, ◌≤◌, ◌+◌, IfOk, OnOk, length, map, option_map, slice_get};
+ghost use Rattle.std.specs.Prelude.{◌≡◌, ◌<◌, ◌≤◌, ◌+◌, IfOk, length, slice_get};
 ghost use Rattle.std.specs.List.{list_any};
-ghost use Rattle.cp_legend.specs.Names.{component_seen, legend_seen};
+ghost use Rattle.cp_legend.specs.Names.{legend_seen};
 ghost use Rattle.cp_machine.specs.Machine.{machine_of};
-ghost use Rattle.cp_machine.specs.Stack.{top_first};
 ghost use Rattle.cp_story.specs.Ahead as spec;
 
 use cp_legend::Legend;
 use cp_machine::{Entry, State};
-use cp_slots::{Action, ComponentPlace, Resolved, ResolvedArm};
+use cp_slots::{Action, ComponentPlace, OrdinalExpression, Resolved, ResolvedArm};
 use std::alloc::{AllocError, Global};
 
 /// A statement, by its item, that a process may come to in a component.
@@ -256,11 +255,19 @@ fn push_called(
             low,
             high,
             stride,
-            ..
+            index,
         } => {
             let first = one.component.saturating_add(*first);
-            let count = usize::from(high.abs_diff(*low)) + 1;
-            push_elements(ahead, one.process, first, *stride, count, body)
+            match written_index(index) {
+                Some(value) => {
+                    let component = element_at(first, *low, *high, *stride, value);
+                    push_list_at(ahead, one.process, component, body)
+                }
+                None => {
+                    let count = usize::from(high.abs_diff(*low)) + 1;
+                    push_elements(ahead, one.process, first, *stride, count, body)
+                }
+            }
         }
         ComponentPlace::Parameter(slot) => {
             let component = bound_to(legend, state, one.component, *slot);
@@ -285,6 +292,77 @@ fn push_elements(
         push_list(ahead, process, component, body)?;
     }
     Ok(())
+}
+
+// Appends a list in a component, if there is one.
+fn push_list_at(
+    ahead: &mut Vec<Ahead>,
+    process: u8,
+    component: Option<usize>,
+    body: Option<usize>,
+) -> Result<(), AllocError>
+    ensures { IfOk result (λ _. ahead.new.items ≡ spec.with_list_at process ahead.old.items body component) }
+{
+    match component {
+        Some(component) => push_list(ahead, process, component, body),
+        None => Ok(()),
+    }
+}
+
+/// The value of an index that is written as a number or a constant, maybe with a minus. Any other is computed.
+pub fn written_index(index: &OrdinalExpression) -> Option<i32>
+    ensures { result ≡ spec.written_index index.now }
+{
+    match index {
+        OrdinalExpression::Number(value) => Some(i32::from(*value)),
+        OrdinalExpression::Negate(inner) => negated(inner),
+        OrdinalExpression::Load(_)
+        | OrdinalExpression::Absolute(_)
+        | OrdinalExpression::Arithmetic(_, _, _)
+        | OrdinalExpression::Not(_)
+        | OrdinalExpression::Successor(_, _)
+        | OrdinalExpression::Predecessor(_, _)
+        | OrdinalExpression::Character(_)
+        | OrdinalExpression::Logic(_, _, _)
+        | OrdinalExpression::Compare(_, _, _)
+        | OrdinalExpression::SameSet(_, _, _)
+        | OrdinalExpression::Member(_, _)
+        | OrdinalExpression::IsEmpty(_) => None,
+    }
+}
+
+// That of a number with a minus.
+fn negated(number: &OrdinalExpression) -> Option<i32>
+    ensures { result ≡ spec.negated number.now }
+{
+    match number {
+        OrdinalExpression::Number(value) => Some(-i32::from(*value)),
+        OrdinalExpression::Load(_)
+        | OrdinalExpression::Negate(_)
+        | OrdinalExpression::Absolute(_)
+        | OrdinalExpression::Arithmetic(_, _, _)
+        | OrdinalExpression::Not(_)
+        | OrdinalExpression::Successor(_, _)
+        | OrdinalExpression::Predecessor(_, _)
+        | OrdinalExpression::Character(_)
+        | OrdinalExpression::Logic(_, _, _)
+        | OrdinalExpression::Compare(_, _, _)
+        | OrdinalExpression::SameSet(_, _, _)
+        | OrdinalExpression::Member(_, _)
+        | OrdinalExpression::IsEmpty(_) => None,
+    }
+}
+
+/// Where the element of an index begins in an array, if it has one.
+pub fn element_at(first: usize, low: i16, high: i16, size: usize, index: i32) -> Option<usize>
+    ensures { result ≡ spec.element_at first low high size index }
+{
+    let low = i32::from(low);
+    if index < low || index > i32::from(high) {
+        return None;
+    }
+    let before = (index.abs_diff(low) as usize).saturating_mul(size);
+    Some(first.saturating_add(before))
 }
 
 // The component that a parameter of a component is bound to.

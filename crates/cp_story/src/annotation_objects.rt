@@ -1,6 +1,6 @@
 //! What is told of an annotation that is false, as JSON.
 
-ghost use Rattle.std.specs.Prelude.{◌≡◌, codes, option_map, string_bytes, IfOk, OnOk};
+ghost use Rattle.std.specs.Prelude.{◌≡◌, option_map, IfOk, OnOk};
 ghost use Rattle.serde_json.specs.View.{view};
 ghost use Rattle.cp_legend.specs.Names.{legend_seen};
 ghost use Rattle.cp_story.specs.Annotations.{violation_seen};

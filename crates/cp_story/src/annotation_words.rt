@@ -1,10 +1,9 @@
 //! What is told of an annotation that is false, in words.
 
-ghost use Rattle.std.specs.Prelude.{◌≡◌, ◌++◌, [], codes, map, option_map, string_bytes, IfOk, OnOk};
+ghost use Rattle.std.specs.Prelude.{◌≡◌, ◌++◌, map, option_map, string_bytes, IfOk, OnOk};
 ghost use Rattle.cp_legend.specs.Names.{legend_seen};
 ghost use Rattle.cp_story.specs.AnnotationText as spec;
 ghost use Rattle.cp_story.specs.Annotations.{violation_seen};
-ghost use Rattle.cp_story.specs.Joined.{joined};
 ghost use Rattle.cp_story.specs.Views.{given_of};
 
 use crate::annotation::{Annotation, Moment, Violation};

@@ -1,6 +1,6 @@
 //! What a run error is of, as JSON.
 
-ghost use Rattle.std.specs.Prelude.{◌≡◌, string_bytes, IfOk, OnOk};
+ghost use Rattle.std.specs.Prelude.{◌≡◌, IfOk, OnOk};
 ghost use Rattle.serde_json.specs.View.{view};
 ghost use Rattle.cp_legend.specs.Names.{legend_seen};
 ghost use Rattle.cp_story.specs.CauseText as spec;

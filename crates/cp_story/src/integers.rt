@@ -1,6 +1,6 @@
 //! Whether a number can only be an integer, and no value of an enumeration, a character or a truth value.
 
-ghost use Rattle.std.specs.Prelude.{◌≡◌, not, map};
+ghost use Rattle.std.specs.Prelude.{◌≡◌, map};
 ghost use Rattle.std.specs.List.{list_any};
 ghost use Rattle.cp_symbols.specs.Symbols.{field_symbol_seen, type_symbol_seen};
 ghost use Rattle.cp_legend.specs.Names.{legend_seen, routine_names_seen, variable_seen, variables_seen};

@@ -44,7 +44,8 @@ fn reason_values(
     Ok(Value::Array(items))
 }
 
-// A process by its number, since when it waits, which routines continue the queue, what was in vain, who could do so, and the sentence.
+// A process by its number, since when it waits, which routines continue the queue, what was in vain, who could do so, and the sentence; and which
+// routines perhaps continue the queue.
 #[tactic(auto, unfolding(crate::specs::ReasonText::reason_data))]
 fn reason_value(alloc: Global, legend: &Legend, reason: &WaitReason) -> Result<Value, AllocError>
     ensures { IfOk result (λ v. view v ≡ spec.reason_data (legend_seen legend.now) (reason_seen reason.now)) }
@@ -57,7 +58,23 @@ fn reason_value(alloc: Global, legend: &Legend, reason: &WaitReason) -> Result<V
     object.put("in_vain", event_numbers(alloc, &reason.in_vain)?)?;
     object.put("callers", caller_numbers(alloc, &reason.callers)?)?;
     object.text("text", text.as_str())?;
+    put_perhaps(alloc, legend, &mut object, &reason.perhaps)?;
     Ok(object.into_value())
+}
+
+// Adds those that continue an element of the array, if there are some.
+fn put_perhaps(
+    alloc: Global,
+    legend: &Legend,
+    object: &mut Object,
+    routines: &[usize],
+) -> Result<(), AllocError>
+    ensures { OnOk result (members_in object.new ≡ with_members (members_in object.old) (spec.perhaps_members (legend_seen legend.now) routines.now)) }
+{
+    if routines.is_empty() {
+        return Ok(());
+    }
+    object.put("perhaps", routine_names(alloc, legend, routines)?)
 }
 
 #[tactic(auto, using(crate::proofs::Arrays::number_step, crate::proofs::Arrays::number_none, crate::proofs::Arrays::view_more))]

@@ -1,6 +1,6 @@
 //! Why nobody goes on, in words.
 
-ghost use Rattle.std.specs.Prelude.{◌≡◌, ◌++◌, codes, decimal, string_bytes, IfOk, OnOk};
+ghost use Rattle.std.specs.Prelude.{◌≡◌, ◌++◌, decimal, string_bytes, IfOk, OnOk};
 ghost use Rattle.cp_legend.specs.Names.{legend_seen};
 ghost use Rattle.cp_run.specs.Table.{each};
 ghost use Rattle.cp_story.specs.ReasonText as spec;
@@ -37,7 +37,7 @@ fn push_since(legend: &Legend, text: &mut String, reason: &WaitReason) -> Result
     write!(text, " since event {since}: ")
 }
 
-/// Appends which routines continue the queue.
+/// Appends which routines continue the queue, and which perhaps do: `put continues q[2], take continues q[2] or another element`.
 pub fn push_continuing(
     alloc: Global,
     legend: &Legend,
@@ -46,9 +46,73 @@ pub fn push_continuing(
 ) -> Result<(), AllocError>
     ensures { OnOk result (string_bytes text.new ≡ string_bytes text.old ++ spec.continuing_text (legend_seen legend.now) (reason_seen reason.now)) }
 {
-    push_routines(legend, text, &reason.entries)?;
-    text.push_str(verb(reason.entries.len()))?;
-    push_cell_queue(alloc, legend, text, reason.queue)
+    push_surely(alloc, legend, text, reason)?;
+    push_perhaps(alloc, legend, text, reason)
+}
+
+// Which do, or that none does.
+fn push_surely(
+    alloc: Global,
+    legend: &Legend,
+    text: &mut String,
+    reason: &WaitReason,
+) -> Result<(), AllocError>
+    ensures { OnOk result (string_bytes text.new ≡ string_bytes text.old ++ spec.surely_text (legend_seen legend.now) (reason_seen reason.now)) }
+{
+    if reason.entries.is_empty() && !reason.perhaps.is_empty() {
+        Ok(())
+    } else {
+        push_continued(alloc, legend, text, &reason.entries, reason.queue)
+    }
+}
+
+fn push_perhaps(
+    alloc: Global,
+    legend: &Legend,
+    text: &mut String,
+    reason: &WaitReason,
+) -> Result<(), AllocError>
+    ensures { OnOk result (string_bytes text.new ≡ string_bytes text.old ++ spec.perhaps_text (legend_seen legend.now) (reason_seen reason.now)) }
+{
+    if reason.perhaps.is_empty() {
+        Ok(())
+    } else {
+        push_elements(alloc, legend, text, reason)
+    }
+}
+
+// Which do for an element of the array.
+fn push_elements(
+    alloc: Global,
+    legend: &Legend,
+    text: &mut String,
+    reason: &WaitReason,
+) -> Result<(), AllocError>
+    ensures { OnOk result (string_bytes text.new ≡ string_bytes text.old ++ spec.elements_text (legend_seen legend.now) (reason_seen reason.now)) }
+{
+    text.push_str(comma_before(reason))?;
+    push_continued(alloc, legend, text, &reason.perhaps, reason.queue)?;
+    text.push_str(" or another element")
+}
+
+fn comma_before(reason: &WaitReason) -> &'static str
+    ensures { result.now ≡ spec.comma_before (reason_seen reason.now) }
+{
+    if reason.entries.is_empty() { "" } else { ", " }
+}
+
+fn push_continued(
+    alloc: Global,
+    legend: &Legend,
+    text: &mut String,
+    routines: &[usize],
+    queue: usize,
+) -> Result<(), AllocError>
+    ensures { OnOk result (string_bytes text.new ≡ string_bytes text.old ++ spec.continued_text (legend_seen legend.now) routines.now queue) }
+{
+    push_routines(legend, text, routines)?;
+    text.push_str(verb(routines.len()))?;
+    push_cell_queue(alloc, legend, text, queue)
 }
 
 fn verb(routines: usize) -> &'static str
@@ -134,7 +198,8 @@ pub fn push_callers(
 fn nobody(reason: &WaitReason) -> &'static str
     ensures { result.now ≡ spec.nobody_text (reason_seen reason.now) }
 {
-    if reason.callers.is_empty() && !reason.entries.is_empty() {
+    let is_continued = !reason.entries.is_empty() || !reason.perhaps.is_empty();
+    if reason.callers.is_empty() && is_continued {
         "; nobody else who waits could do so"
     } else {
         ""

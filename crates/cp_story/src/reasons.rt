@@ -10,7 +10,7 @@ ghost use Rattle.cp_story.specs.Reasons as spec;
 ghost use Rattle.cp_story.specs.Reasons.{reason_seen, standstill_seen};
 ghost use Rattle.cp_story.specs.Views.{queue_seen, told_of, wait_of};
 
-use crate::ahead::{Ahead, item_count, statements_ahead};
+use crate::ahead::{Ahead, element_at, item_count, statements_ahead, written_index};
 use crate::event::{Happening, Queue, StoryEvent};
 use crate::observer::queue_of_cell;
 use crate::statuses::status_of;
@@ -18,7 +18,7 @@ use crate::story::Wait;
 use cp_legend::{Legend, LegendComponent};
 use cp_machine::{State, Status};
 use cp_run::{OutcomeKind, RunEnd};
-use cp_slots::{Action, Index, OrdinalExpression, Place, PlaceOrigin, Resolved};
+use cp_slots::{Action, Index, Place, PlaceOrigin, Resolved};
 use std::alloc::{AllocError, Global};
 
 /// A process that could still continue a queue, and waits itself.
@@ -40,6 +40,8 @@ pub struct WaitReason {
     pub since: usize,
     /// The routines that have a `continue` of the queue.
     pub entries: Vec<usize>,
+    /// Those that have one of an element of its array by a computed index, which may be the queue.
+    pub perhaps: Vec<usize>,
     /// The numbers of the events that continued the queue where nobody waited there.
     pub in_vain: Vec<usize>,
     /// Those who could still come to such a `continue`, and wait themselves.
@@ -177,7 +179,8 @@ fn reason_of(
         process,
         queue: cell,
         since: last_delay(standstill.events, process),
-        entries: entries_of(alloc, standstill.program, standstill.legend, cell)?,
+        entries: entries_of(alloc, standstill.program, standstill.legend, cell, false)?,
+        perhaps: entries_of(alloc, standstill.program, standstill.legend, cell, true)?,
         in_vain: lost_continues(alloc, standstill.events, &queue)?,
         callers: callers_of(alloc, standstill, process, cell)?,
     })
@@ -252,15 +255,16 @@ fn is_same(one: &Queue, other: &Queue) -> bool
     one.monitor == other.monitor && one.name.as_str() == other.name.as_str()
 }
 
-// The routines that have a `continue` of the queue of a cell.
+// The routines that have a `continue` of the queue of a cell, or may have one by a computed index.
 #[tactic(auto, using(crate::proofs::Reasoning::entries_more))]
 fn entries_of(
     alloc: Global,
     program: &Resolved,
     legend: &Legend,
     cell: usize,
+    computed: bool,
 ) -> Result<Vec<usize>, AllocError>
-    ensures { IfOk result (λ v. v.items ≡ spec.entries (legend_seen legend.now) program.now cell) }
+    ensures { IfOk result (λ v. v.items ≡ spec.entries (legend_seen legend.now) program.now computed cell) }
 {
     let mut entries = Vec::new(alloc);
     let Some(owner) = legend.owner(cell) else {
@@ -268,7 +272,7 @@ fn entries_of(
     };
     let own = cell.saturating_sub(owner.base);
     for at in 0..item_count(program) {
-        push_entry(program, owner.system, own, at, &mut entries)?;
+        push_entry(program, computed, owner.system, own, at, &mut entries)?;
     }
     Ok(entries)
 }
@@ -276,20 +280,49 @@ fn entries_of(
 // Appends the routine of an item, if that continues a cell of a system type, and the routine is not there.
 fn push_entry(
     program: &Resolved,
+    computed: bool,
     system: usize,
     own: usize,
     at: usize,
     entries: &mut Vec<usize>,
 ) -> Result<(), AllocError>
     requires { at < length program.now.items }
-    ensures { IfOk result (λ _. entries.new.items ≡ spec.with_entry program.now system own entries.old.items (item_at program.now at)) }
+    ensures { IfOk result (λ _. entries.new.items ≡ spec.with_entry program.now computed system own entries.old.items (item_at program.now at)) }
 {
     let item = program.item(at);
     let is_of_system = program.routine(item.routine).system == system;
-    if is_of_system && may_continue(&item.action, own) && !entries.contains(&item.routine) {
+    let continues = is_of_system && continues_by(&item.action, computed, own);
+    if continues && !entries.contains(&item.routine) {
         entries.push(item.routine)?;
     }
     Ok(())
+}
+
+// Whether an item continues a queue by a computed index, or else surely.
+fn continues_by(action: &Action, computed: bool, own: usize) -> bool
+    ensures { result ≡ spec.continues_by computed own action.now }
+{
+    may_continue(action, own) && is_computed(action) == computed
+}
+
+// Whether it isn't known ahead of which element an item continues the queue.
+fn is_computed(action: &Action) -> bool
+    ensures { result ≡ spec.is_computed action.now }
+{
+    match action {
+        Action::Continue(place) => is_open(place.indices.first()),
+        _ => false,
+    }
+}
+
+// Whether a computed index may be that of several elements.
+fn is_open(index: Option<&Index>) -> bool
+    ensures { result ≡ spec.is_open (option_copied index.entry) }
+{
+    match index {
+        Some(index) => written_index(&index.at).is_none() && index.low < index.high,
+        None => false,
+    }
 }
 
 // Whether an item continues the queue of a permanent cell of the component that is executed, or an element of its array.
@@ -327,37 +360,13 @@ fn is_part(index: Option<&Index>, start: usize, own: usize) -> bool
     }
 }
 
-// Whether a cell is the element of an index, or may be where the index is no number.
+// Whether a cell is the element of an index, or may be where the index is computed.
 fn is_element(index: &Index, start: usize, own: usize) -> bool
     ensures { result ≡ spec.is_element index.now start own }
 {
-    match written_index(index) {
-        Some(value) => {
-            let before = usize::from(value.abs_diff(index.low)).saturating_mul(index.size);
-            index.low <= value && value <= index.high && own == start.saturating_add(before)
-        }
+    match written_index(&index.at) {
+        Some(value) => element_at(start, index.low, index.high, index.size, value) == Some(own),
         None => start <= own && own < start.saturating_add(cells_of(index)),
-    }
-}
-
-fn written_index(index: &Index) -> Option<i16>
-    ensures { result ≡ spec.written_index index.now }
-{
-    match &index.at {
-        OrdinalExpression::Number(value) => Some(*value),
-        OrdinalExpression::Load(_)
-        | OrdinalExpression::Negate(_)
-        | OrdinalExpression::Absolute(_)
-        | OrdinalExpression::Arithmetic(_, _, _)
-        | OrdinalExpression::Not(_)
-        | OrdinalExpression::Successor(_, _)
-        | OrdinalExpression::Predecessor(_, _)
-        | OrdinalExpression::Character(_)
-        | OrdinalExpression::Logic(_, _, _)
-        | OrdinalExpression::Compare(_, _, _)
-        | OrdinalExpression::SameSet(_, _, _)
-        | OrdinalExpression::Member(_, _)
-        | OrdinalExpression::IsEmpty(_) => None,
     }
 }
 

@@ -8,20 +8,21 @@ ghost use Rattle.cp_run.specs.Slots.{slots};
 ghost use Rattle.cp_run.specs.Code.{answer_of};
 ghost use Rattle.cp_run.specs.Trace.{holders_in, step_lines, trace};
 ghost use Rattle.cp_story.specs.Story.{story_of, decision_in, telling, told_more, told_step};
-ghost use Rattle.cp_story.specs.Halted.{halted_seen, how_halted};
+ghost use Rattle.cp_story.specs.Halted.{changes_at_halt, halted_seen, how_halted};
 ghost use Rattle.cp_run.specs.Stop.{numbers_left};
 ghost use Rattle.cp_story.specs.Annotations.{violation_of_run, violation_seen};
 ghost use Rattle.cp_story.specs.Causes.{cause_of_run};
 ghost use Rattle.cp_story.specs.Reasons.{reason_seen, reasons_of_run};
 ghost use Rattle.cp_story.specs.Told.{lines_of};
-ghost use Rattle.cp_story.specs.Views.{past_of, decision_of, telling_of, told_of, wait_of};
+ghost use Rattle.cp_story.specs.Views.{changed_of, past_of, decision_of, telling_of, told_of, wait_of};
 ghost use Rattle.cp_story.specs.Waiting as waiting;
 ghost use Rattle.cp_story.specs.Waiting.{waiting_at, waits_at, waits_in, who_waits};
 
 use crate::aim::{Aim, NONE, aim_of};
 use crate::annotation::{Violation, violation_of_end};
 use crate::cause::{Cause, cause_of_end};
-use crate::event::{Choice, OpenCall, StoryEvent};
+use crate::changes::changes;
+use crate::event::{Change, Choice, OpenCall, StoryEvent};
 use crate::observer::Observer;
 use crate::reasons::{WaitReason, reasons_at};
 use crate::statuses::status_of;
@@ -49,6 +50,8 @@ pub struct Story {
     pub events: Vec<StoryEvent>,
     /// The last choice, where no event came after it.
     pub last_choice: Option<Choice>,
+    /// What changed in the monitors since the last event.
+    pub last_changes: Vec<Change>,
     pub waits: Vec<Wait>,
     pub end: RunEnd,
     /// How it stopped, where no event tells of it.
@@ -289,6 +292,7 @@ pub fn tell<S: Count>(
     ensures lines { IfOk result (λ s. lines_of s.events.items ≡ trace (slots job.now.program.now job.now.limits.discipline) choices job.now.limits.steps word.now) }
     ensures told { IfOk result (λ s. map told_of s.events.items ≡ story_of (legend_seen legend.now) job.now.program.now job.now.limits.discipline choices job.now.limits.steps word.now) }
     ensures choice { IfOk result (λ s. option_map decision_of s.last_choice ≡ (telling (legend_seen legend.now) job.now.program.now job.now.limits.discipline choices job.now.limits.steps word.now).past.choice) }
+    ensures changes { IfOk result (λ s. map changed_of s.last_changes.items ≡ changes_at_halt (legend_seen legend.now) job.now.program.now job.now.limits.discipline choices job.now.limits.steps word.now) }
     ensures waits { IfOk result (λ s. map wait_of s.waits.items ≡ who_waits (legend_seen legend.now) job.now.program.now job.now.limits.discipline choices job.now.limits.steps word.now) }
     ensures answer { IfOk result (λ s. answer_of s.end ≡ run (slots job.now.program.now job.now.limits.discipline) choices job.now.limits.steps word.now) }
     ensures stop { IfOk result (λ s. option_map halted_seen s.stop ≡ how_halted (legend_seen legend.now) job.now.program.now job.now.limits.discipline choices job.now.limits.steps word.now) }
@@ -320,9 +324,11 @@ pub fn tell<S: Count>(
     let cause = cause_of_end(job.program, &state, &end);
     let violation = violation_of_end(alloc, legend, job.program, &state, &end)?;
     let reasons = reasons_at(alloc, job.program, legend, &state, &end, &events, &waits)?;
+    let last_changes = changes(alloc, legend, &observer.permanents, &state.permanents)?;
     Ok(Story {
         events,
         last_choice: observer.choice,
+        last_changes,
         waits,
         end,
         stop,

@@ -9,7 +9,7 @@ ghost use Rattle.cp_story.specs.Columns.{row_seen};
 use std::alloc::{AllocError, Global};
 
 /// How many columns a table has.
-const COLUMNS: usize = 5;
+const COLUMNS: usize = 6;
 
 /// A line of a table.
 #[derive(Drop)]

@@ -1,6 +1,6 @@
 //! A story as lines of text.
 
-ghost use Rattle.std.specs.Prelude.{◌≡◌, ◌++◌, [], map, option_map, decimal, string_bytes, IfOk, OnOk};
+ghost use Rattle.std.specs.Prelude.{◌≡◌, ◌++◌, ◌∷◌, [], map, option_map, decimal, string_bytes, IfOk, OnOk};
 ghost use Rattle.cp_legend.specs.Names.{legend_seen};
 ghost use Rattle.cp_story.specs.Annotations.{violation_seen};
 ghost use Rattle.cp_story.specs.CauseText.{behind_colon};
@@ -27,7 +27,7 @@ use cp_legend::Legend;
 use cp_run::RunEnd;
 use std::alloc::{AllocError, Global};
 
-/// The lines of a story: one for each event, a heading before the one with which a round begins, one for each process that waits, one that says why a
+/// The lines of a story: one for each event, with its number where sentences name events, a heading before the one with which a round begins, one for each process that waits, one that says why a
 /// number can't be taken or that numbers are left, and `end`, the last line of the plain trace.
 pub fn text(
     alloc: Global,
@@ -58,7 +58,7 @@ fn push_table(
 ) -> Result<(), AllocError>
     ensures { OnOk result (string_bytes text.new ≡ string_bytes text.old ++ rows_text again (spec.story_rows (legend_seen legend.now) story.now)) }
 {
-    let mut rows = event_rows(alloc, legend, &story.events)?;
+    let mut rows = event_rows(alloc, legend, names_events(story), &story.events)?;
     if let Some(stop) = &story.stop {
         rows.push(stop_row(
             alloc,
@@ -72,19 +72,38 @@ fn push_table(
     push_rows(alloc, text, &rows, again)
 }
 
-#[tactic(auto, using(crate::proofs::Rows::map_step, crate::proofs::Rows::map_none, crate::proofs::Rows::row_more))]
+// Whether the sentences below name events by their numbers.
+fn names_events(story: &Story) -> bool
+    ensures { result ≡ spec.names_events story.now }
+{
+    !story.reasons.is_empty()
+}
+
+#[tactic(auto, using(crate::proofs::Rows::events_step, crate::proofs::Rows::events_none, crate::proofs::Rows::row_more))]
 fn event_rows(
     alloc: Global,
     legend: &Legend,
+    named: bool,
     events: &[StoryEvent],
 ) -> Result<Vec<TableRow>, AllocError>
-    ensures { IfOk result (λ v. map row_seen v.items ≡ map (spec.event_row (legend_seen legend.now)) events.now) }
+    ensures { IfOk result (λ v. map row_seen v.items ≡ spec.event_rows (legend_seen legend.now) named 1 events.now) }
 {
     let mut rows = Vec::new(alloc);
-    for event in events {
-        rows.push(event_row(alloc, legend, event)?)?;
+    for (place, event) in events.iter().enumerate() {
+        let number = number_text(alloc, named, place + 1)?;
+        rows.push(event_row(alloc, legend, number, event)?)?;
     }
     Ok(rows)
+}
+
+fn number_text(alloc: Global, named: bool, number: usize) -> Result<String, AllocError>
+    ensures { IfOk result (λ t. string_bytes t ≡ spec.number_text named number) }
+{
+    if named {
+        format!(in alloc; "{number}")
+    } else {
+        Ok(String::new(alloc))
+    }
 }
 
 #[tactic(auto, using(crate::proofs::Rows::each_step, crate::proofs::Rows::each_none))]
@@ -153,15 +172,20 @@ fn push_unused(alloc: Global, text: &mut String, left: usize) -> Result<(), Allo
     }
 }
 
-fn event_row(alloc: Global, legend: &Legend, event: &StoryEvent) -> Result<TableRow, AllocError>
-    ensures { IfOk result (λ r. row_seen r ≡ spec.event_row (legend_seen legend.now) event.now) }
+fn event_row(
+    alloc: Global,
+    legend: &Legend,
+    number: String,
+    event: &StoryEvent,
+) -> Result<TableRow, AllocError>
+    ensures { IfOk result (λ r. row_seen r ≡ string_bytes number ∷ spec.event_row (legend_seen legend.now) event.now) }
 {
     let choice = choice_text(alloc, &event.choice)?;
     let process = process_text(alloc, legend, event.plain.process)?;
     let line = line_text(alloc, event.line)?;
     let words = happening_words(alloc, legend, event)?;
     let changes = changes_text(alloc, legend, &event.changes)?;
-    let cells = vec![in alloc; choice, process, line, words, changes]?;
+    let cells = vec![in alloc; number, choice, process, line, words, changes]?;
     Ok(TableRow { cells })
 }
 
@@ -173,13 +197,14 @@ fn stop_row(
     cause: Option<Cause>,
     violation: &Option<Violation>,
 ) -> Result<TableRow, AllocError>
-    ensures { IfOk result (λ r. row_seen r ≡ spec.stop_row (legend_seen legend.now) (option_map decision_of choice.now) (halted_seen stop.now) cause (option_map violation_seen violation.now)) }
+    ensures { IfOk result (λ r. row_seen r ≡ [] ∷ spec.stop_row (legend_seen legend.now) (option_map decision_of choice.now) (halted_seen stop.now) cause (option_map violation_seen violation.now)) }
 {
     let choice = choice_text(alloc, choice)?;
     let process = process_text(alloc, legend, stop.process)?;
     let line = line_text(alloc, stop.line)?;
     let words = stop_words(alloc, legend, stop, cause, violation)?;
-    let cells = vec![in alloc; choice, process, line, words]?;
+    let number = String::new(alloc);
+    let cells = vec![in alloc; number, choice, process, line, words]?;
     Ok(TableRow { cells })
 }
 

@@ -2,7 +2,7 @@
 
 ghost use Rattle.std.specs.Prelude.{◌≡◌, ◌++◌, ◌&&◌, ◌==◌, [], OnOk, IfOk, flat_map, map, option_map, slice_get};
 ghost use Rattle.std.specs.List.{list_any};
-ghost use Rattle.cp_legend.specs.Names.{legend_seen, routine_names_seen, variable_seen};
+ghost use Rattle.cp_legend.specs.Names.{legend_seen, variable_seen};
 ghost use Rattle.cp_machine.specs.Machine.{machine_of, thread_of};
 ghost use Rattle.cp_story.specs.Annotations as spec;
 ghost use Rattle.cp_story.specs.Views.{given_of};

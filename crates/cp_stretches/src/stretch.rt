@@ -36,9 +36,9 @@ pub fn halt_of(turn: Turn) -> Option<Halt<OutcomeKind>>
     }
 }
 
-// A value more was displayed, or none.
+/// A value more was displayed, or none.
 #[inline(always)]
-fn add_shown(shown: &mut Vec<Shown>, value: Option<Shown>) -> Result<(), AllocError>
+pub fn add_shown(shown: &mut Vec<Shown>, value: Option<Shown>) -> Result<(), AllocError>
     ensures { IfOk result (λ _. shown.new.items ≡ shown.old.items ++ option_to_list value) }
 {
     match value {

@@ -1,5 +1,5 @@
-ghost use Rattle.std.specs.Prelude.{◌≡◌, ◌+◌, ◌<◌, ◌≤◌, [], All, length, map, IfOk, vec_len};
-ghost use Rattle.cp_board.specs.Seats.{IsSeatOf, IsDealt, seats_of};
+ghost use Rattle.std.specs.Prelude.{◌≡◌, ◌+◌, ◌<◌, ◌≤◌, map, IfOk};
+ghost use Rattle.cp_board.specs.Seats.{IsSeatOf};
 
 use crate::answers::{CallAnswer, ample_answer, are_right};
 use cp_board::{Board, BoardFault, Closed, Seat};

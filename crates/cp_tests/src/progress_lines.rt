@@ -4,7 +4,6 @@ use cp_progress::{ObserveProgress, ObserveWork, Progress, ProgressLine, WalkProg
 use std::alloc::Global;
 use std::cell::Cell;
 use std::io::{Error, ErrorKind, Result as IoResult, Write};
-use std::test::Fail;
 use std::time::{Clock, Duration};
 
 /// Shows a hundred milliseconds more each time that it is read.

@@ -2,7 +2,7 @@
 //!
 //! One has an opening, from its quote up to the end of the word `assert` or `invariant`; an inner text; and a closing.
 
-ghost use Rattle.std.specs.Prelude.{◌≡◌, ◌<◌, ◌≤◌, ◌+◌, ◌^◌, length, take, option_map, IfSome};
+ghost use Rattle.std.specs.Prelude.{◌≡◌, ◌<◌, ◌≤◌, ◌+◌, ◌^◌, length, option_map, IfSome};
 ghost use Rattle.cp_text.specs.Annotations as spec;
 
 use crate::piece::{Class, is_separator, run_len};

@@ -37,6 +37,10 @@ most_choices a = if is_merged a then 100 else 20
 abbrev pub usual_choices : (is_longest : Bool) → Analysis → ℕ
 usual_choices is_longest a = if is_longest then most_choices a else 8
 
+-- how many states there may be where the words don't say so
+abbrev pub usual_states : Analysis → ℕ
+usual_states a = if is_at_once a then 2000000 else 200000
+
 -- ---- the flags
 
 abbrev pub analysis_by : (rows merge ends waits at_once : Bool) → Option Analysis

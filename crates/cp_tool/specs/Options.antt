@@ -10,7 +10,7 @@ use Rattle.cp_machine.specs.declared.discipline.Gates.TheVariants.{First, Any}
 use Rattle.cp_machine.specs.declared.discipline.Signals.{Signals}
 use Rattle.cp_machine.specs.declared.discipline.Signals.TheVariants.{Return, Continue, Wait}
 use Rattle.cp_machine.specs.Discipline.{IsDiscipline}
-use Rattle.cp_tool.specs.Analysis.{analysis_for, most_choices, usual_choices}
+use Rattle.cp_tool.specs.Analysis.{analysis_for, most_choices, usual_choices, usual_states}
 use Rattle.cp_tool.specs.Command.{faults_for, rows_for}
 use Rattle.cp_tool.specs.Numbers.{IsChosen, Reads}
 use Rattle.cp_tool.specs.Words.{IsWord, spelled}
@@ -70,9 +70,9 @@ pub record HasOptions (flags : AnalysisFlags) (is_longest : Bool) (word : Option
   pub analysis : analysis_for flags ≡ Some o.analysis
   pub choices : IsChosen (usual_choices is_longest o.analysis) 0 (most_choices o.analysis) (first_of (codes "choices") rows) o.choices
   pub steps : IsChosen 1000 1 100000 (first_of (codes "steps") rows) o.steps
-  pub workers : IsChosen 2 1 16 (first_of (codes "workers") rows) o.workers
+  pub workers : IsChosen 1 1 16 (first_of (codes "workers") rows) o.workers
   pub cut : IsCut (first_of (codes "cut") rows) o.cut
-  pub states : IsChosen 200000 1 10000000 (first_of (codes "states") rows) o.states
+  pub states : IsChosen (usual_states o.analysis) 1 10000000 (first_of (codes "states") rows) o.states
   pub schedule : IsScheduled (most_choices o.analysis) word o.schedule
   pub named : IsNamed (first_of (codes "gates") rows) (first_of (codes "signals") rows) o.discipline
   pub suits : Suits o.analysis o.discipline

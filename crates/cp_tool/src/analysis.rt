@@ -1,7 +1,7 @@
 //! Which analysis of its schedules is asked for.
 ghost use Rattle.std.specs.Prelude.{◌≡◌, IfErr, IfOk, None, Some};
 ghost use Rattle.cp_tool.specs.Analysis as spec;
-ghost use Rattle.cp_tool.specs.Analysis.{analysis_for, most_choices};
+ghost use Rattle.cp_tool.specs.Analysis.{analysis_for, most_choices, usual_states};
 
 /// An analysis of the schedules of a program.
 #[derive(Clone, Copy)]
@@ -59,6 +59,17 @@ impl Analysis {
         ensures { result ≡ most_choices self }
     {
         if self.is_merged() { 100 } else { 20 }
+    }
+
+    /// How many states there may be where no word says how many.
+    pub fn usual_states(self) -> u32
+        ensures { result ≡ usual_states self }
+    {
+        if self.is_at_once() {
+            2_000_000
+        } else {
+            200_000
+        }
     }
 }
 

@@ -44,7 +44,7 @@ fn with_limits<'a>(alloc: Global, command: Command<'a>) -> Result<Command<'a>, A
         alloc,
         "workers",
         "N",
-        "Threads that explore, 1 to 16 [default: 2]",
+        "Threads that explore, 1 to 16 [default: 1]",
     ))?;
     let command = command.arg(option(
         alloc,
@@ -95,7 +95,7 @@ fn with_rules<'a>(alloc: Global, command: Command<'a>) -> Result<Command<'a>, Al
         alloc,
         "states",
         "N",
-        "States of a layer with --merge, in all with --ends, 1 to 10000000 [default: 200000]",
+        "States of a layer with --merge, in all with --ends, 1 to 10000000 [default: 200000, with --at-once 2000000]",
     ))?;
     let command = command.arg(option(
         alloc,

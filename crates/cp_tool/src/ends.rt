@@ -1,11 +1,11 @@
 //! From a program to the ends that are possible in schedules of any length.
 
-ghost use Rattle.std.specs.Prelude.{◌≡◌, ◌⊎◌, ℕ, Option, IfOk};
+ghost use Rattle.std.specs.Prelude.{◌≡◌, ℕ, Option, IfOk};
 ghost use Rattle.cp_ends.specs.Told.{IsDepth};
 ghost use Rattle.cp_ends.specs.Whole.{IsAnswer};
 ghost use Rattle.cp_tool.specs.Ends as spec;
 ghost use Rattle.cp_tool.specs.Analysis.{tells_waits};
-ghost use Rattle.cp_tool.specs.AtOnce.{IsAtOnceReport};
+ghost use Rattle.cp_tool.specs.AtOnce.{IsAtOnceReport, verdict_at_once};
 ghost use Rattle.cp_tool.specs.OfTables.{OfPrograms};
 ghost use Rattle.cp_tool.specs.Waits.{verdict_on};
 ghost use Rattle.cp_tool.specs.declared.options.Options.{Options};
@@ -94,6 +94,8 @@ fn at_once_answer<O: ObserveProgress>(
     observer: &mut O,
     job: &Job<'_>,
 ) -> Result<Answer, AllocError>
+    requires steps { job.now.limits.steps ≡ options.now.steps }
+    requires discipline { job.now.limits.discipline ≡ options.now.discipline }
     ensures { IfOk result (λ a. OfPrograms job.now.program.now (λ t. IsAtOnceReport options.now t job.now.program.now a.verdict a.text)) }
 {
     let found = search_at_once_with(alloc, job, options.states, observer)?;
@@ -104,7 +106,7 @@ fn at_once_answer<O: ObserveProgress>(
 }
 
 fn verdict_at_once(found: &FoundAtOnce) -> Verdict
-    ensures { (result ≡ Verdict.Reported) ⊎ (result ≡ Verdict.TooManyStates) }
+    ensures { result ≡ verdict_at_once found.now.is_whole }
 {
     if found.is_whole {
         Verdict::Reported

@@ -35,13 +35,14 @@ pub fn options_of(
 {
     let analysis = analysis_of(alloc, own.flags)?;
     check_rules(alloc, matches, analysis)?;
+    let usual_states = analysis.usual_states();
     Ok(Options {
         choices: choices_of(alloc, matches, analysis, own.is_longest)? as u8,
         steps: number_of(alloc, matches, "steps", 1_000, 1, 100_000)?,
-        workers: number_of(alloc, matches, "workers", 2, 1, 16)? as u8,
+        workers: number_of(alloc, matches, "workers", 1, 1, 16)? as u8,
         cut: cut_of(alloc, matches)?,
         analysis,
-        states: number_of(alloc, matches, "states", 200_000, 1, 10_000_000)?,
+        states: number_of(alloc, matches, "states", usual_states, 1, 10_000_000)?,
         schedule: schedule_of(alloc, own.schedule, analysis.most_choices())?,
         discipline: discipline_of(alloc, matches)?,
     })

@@ -29,7 +29,7 @@ fn is_read_as(alloc: Global, text: &str, again: &str) -> bool {
 }
 
 /// A text, and what is read from it, written again; or why it is refused.
-static READINGS: [(&str, &str); 20] = [
+static READINGS: [(&str, &str); 21] = [
     ("never all-waiting", "never all-waiting;"),
     ("some  run-error range", "some run-error range;"),
     (
@@ -96,6 +96,10 @@ static READINGS: [(&str, &str); 20] = [
     (
         "never finished with",
         "expected output, and, or, finished, all-waiting, run-error, shown, waiting, alone or spins, found \"with\"\n",
+    ),
+    (
+        "some run-error bogus",
+        "expected overflow, zero-divisor, range, no-case, queue-in-use, not-init, init-twice, assertion, invariant, output, and, or, finished, all-waiting, run-error, shown, waiting, alone or spins, found \"bogus\"\n",
     ),
     (
         "never finished output - 2",

@@ -182,7 +182,7 @@ fn has_word(options: &Options, numbers: &[u8]) -> bool {
 fn has_defaults(options: &Options) -> bool {
     let has_numbers = options.choices == 8
         && options.steps == 1_000
-        && options.workers == 2
+        && options.workers == 1
         && options.cut.is_none()
         && options.states == 200_000;
     let is_plain = matches!(options.analysis, Analysis::Table { rows: false });
@@ -209,7 +209,8 @@ fn has_values_of_ends(options: &Options) -> bool {
         None => false,
     };
     let is_asked = matches!(options.analysis, Analysis::Ends);
-    is_asked && options.choices == 100 && options.steps == 7 && is_word
+    let has_numbers = options.choices == 100 && options.steps == 7 && options.states == 200_000;
+    is_asked && has_numbers && is_word
 }
 
 fn has_values_of_waits(options: &Options) -> bool {
@@ -219,7 +220,7 @@ fn has_values_of_waits(options: &Options) -> bool {
 
 fn has_values_of_at_once(options: &Options) -> bool {
     let is_asked = matches!(options.analysis, Analysis::EndsAtOnce);
-    is_asked && options.discipline.signals == Signals::Return
+    is_asked && options.states == 2_000_000 && options.discipline.signals == Signals::Return
 }
 
 fn has_values_of_all(options: &Options) -> bool {
@@ -375,14 +376,14 @@ fn other_words_are_refused(rt: HostRuntime) {
 }
 
 /// What help says.
-static HELP_PARTS: [&str; 23] = [
+static HELP_PARTS: [&str; 24] = [
     "Usage: cpx [OPTIONS] < PROGRAM",
     "--choices <K>",
     "0 to 20, with --merge to 100 [default: 8]",
     "--steps <L>",
     "1 to 100000 [default: 1000]",
     "--workers <N>",
-    "1 to 16 [default: 2]",
+    "1 to 16 [default: 1]",
     "--cut <D>",
     "0 to 20 [default: by their number]",
     "--rows",
@@ -392,6 +393,7 @@ static HELP_PARTS: [&str; 23] = [
     "Which ends are possible, in schedules of any length",
     "--states <N>",
     "States of a layer with --merge, in all with --ends, 1 to 10000000",
+    "[default: 200000, with --at-once 2000000]",
     "--schedule <WORD>",
     "--gates <WHO>",
     "[default: first]",

@@ -1,6 +1,6 @@
 //! Reading the parts of a block: constants, types and variables.
 
-ghost use Rattle.std.specs.Prelude.{◌≡◌, map, option_map};
+ghost use Rattle.std.specs.Prelude.{map, option_map};
 ghost use Rattle.cp_tree.specs.Input.{Reads};
 ghost use Rattle.cp_tree.specs.ReadingDeclarations as spec;
 ghost use Rattle.cp_tree.specs.View.{constant_definition_view, type_definition_view, variable_group_view, part_view};

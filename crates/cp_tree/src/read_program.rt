@@ -1,6 +1,6 @@
 //! Reading system types and programs.
 
-ghost use Rattle.std.specs.Prelude.{◌≡◌, map, option_map};
+ghost use Rattle.std.specs.Prelude.{map, option_map};
 ghost use Rattle.cp_tree.specs.Input.{Reads};
 ghost use Rattle.cp_tree.specs.Reading as lists;
 ghost use Rattle.cp_tree.specs.ReadingDeclarations as spec;

@@ -1,6 +1,6 @@
 //! Reading bodies, parameters and routines.
 
-ghost use Rattle.std.specs.Prelude.{◌≡◌, if◌then◌else◌, map, option_map};
+ghost use Rattle.std.specs.Prelude.{if◌then◌else◌, map, option_map};
 ghost use Rattle.cp_tree.specs.Input.{Reads};
 ghost use Rattle.cp_tree.specs.Reading as lists;
 ghost use Rattle.cp_tree.specs.ReadingDeclarations as spec;

@@ -1,6 +1,6 @@
 //! Reading statements. A budget is how many more levels are allowed below.
 
-ghost use Rattle.std.specs.Prelude.{◌≡◌, map};
+ghost use Rattle.std.specs.Prelude.{map};
 ghost use Rattle.cp_tree.specs.Input.{Reads, advance};
 ghost use Rattle.cp_tree.specs.Reading as lists;
 ghost use Rattle.cp_tree.specs.ReadingStatements as spec;

@@ -1,6 +1,5 @@
 //! Reading types. A budget is how many more levels are allowed below.
 
-ghost use Rattle.std.specs.Prelude.{◌≡◌};
 ghost use Rattle.cp_tree.specs.Input.{Reads};
 ghost use Rattle.cp_tree.specs.Reading as lists;
 ghost use Rattle.cp_tree.specs.ReadingTypes as spec;

@@ -2,7 +2,7 @@
 
 ghost use Rattle.std.specs.Prelude.{◌≡◌, ◌+◌, ◌∷◌, ◌++◌, ℕ, List, [], Option, true, IfOk};
 ghost use Rattle.cp_slots.specs.Tables.{Tables};
-ghost use Rattle.cp_machine.specs.System.{Machine, machine_of, opening, IsStateOf};
+ghost use Rattle.cp_machine.specs.System.{machine_of, opening, IsStateOf};
 ghost use Rattle.cp_run.specs.Code.{node_of};
 ghost use Rattle.cp_run.specs.Run.{may};
 ghost use Rattle.cp_run.specs.Slots.{slots};

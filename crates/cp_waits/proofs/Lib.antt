@@ -10,11 +10,13 @@ pub mod Saying
 pub mod Schedules
 pub mod Seeing
 pub mod Sets
+pub mod Shown
 pub mod Standing
 pub mod Standstills
 pub mod Told
 pub mod Trapped
 pub mod Uncut
+pub mod Unserved
 pub mod Visiting
 pub mod Ways
 mod Words

@@ -8,14 +8,17 @@ use Rattle.cp_endless_laws.specs.WaitsForEver.{MayLinger, NeverWaitsForEver}
 use Rattle.cp_endless_laws.proofs.waiting.Lassos.{lassos, lingers}
 use Rattle.cp_ends.specs.Holds.{AreStates, IsWordOf, origin_at}
 use Rattle.cp_ends.specs.declared.states.States.{States}
+use Rattle.cp_waits.specs.Lines as of_graph
+use Rattle.cp_waits.specs.declared.passing.Keeping.{Keeping}
 use Rattle.cp_waits.specs.declared.passing.Keeping.TheVariants as keeping
 use Rattle.cp_waits.specs.declared.waiting.How.{How}
 use Rattle.cp_waits.specs.declared.waiting.How.TheVariants.{Throughout, ForGood, InItsCall}
 use Rattle.cp_waits.specs.declared.waiting.Waiting.{Waiting}
 use Rattle.cp_waits.specs.declared.waiting.Waits.{Waits}
 use Rattle.cp_waits.specs.declared.waiting.Waits.TheVariants.{Known, NotSettled}
-use Rattle.cp_waits.specs.Lines.{AreLines, HasNoLine, HasRanks, IsShown, NeverWaits, SayWhoWaits, ShowsRound, ShowsStandstill, StandsStillNever}
-use Rattle.cp_waits.specs.MayWait.{AreLasso, AreLingeringLasso, AreStandstill, AreWaits, HasLine, MayWait, ShowWaiting, StandsStillAfter, TellWaits, WaitsForGood}
+use Rattle.cp_waits.specs.Lines.{AreLines, HasNoLine, HasRanks, IsShown, IsUnservedOn, NeverWaits, SayWhoWaits, ShowsRound, ShowsStandstill, StandsStillNever}
+use Rattle.cp_waits.specs.MayWait.{AreLasso, AreLingeringLasso, AreStandstill, AreWaits, HasLine, IsUnserved, MayBeOpen, MayWait, ShowWaiting, StandsStillAfter, TellWaits, WaitsForGood}
+use Rattle.cp_waits.proofs.Runs.{doing, keeper}
 use Rattle.cp_endless_laws.proofs.waiting.Example.{none_in as none_there}
 
 -- ---- lists of lines
@@ -66,7 +69,8 @@ module _ (sys : System Machine) (inside waiting : Machine → ℕ → Bool) (ste
     (never_waits : (q : ℕ) → q < sys.processes → HasRanks g (keeping.Waiting q) → NeverWaitsForEver sys waiting q steps)
     (stands_never : (q : ℕ) → q < sys.processes → StandsStillNever g q → (word : List ℕ) → StandsStillAfter sys waiting q steps word → ⊥)
     (never_lingers : (q : ℕ) → q < sys.processes → HasRanks g (keeping.Inside q) → MayLinger sys inside waiting q steps → ⊥)
-    (for_good : (q : ℕ) → q < sys.processes → HasTraps g (keeping.Waiting q) → WaitsForGood sys waiting q steps) where
+    (for_good : (q : ℕ) → q < sys.processes → HasTraps g (keeping.Waiting q) → WaitsForGood sys waiting q steps)
+    (unserved_on : (k : Keeping) (p : ℕ) → keeper k < sys.processes → p < sys.processes → IsUnserved sys (doing inside waiting k) (keeper k) p steps → IsUnservedOn g k p) where
   waits_never : (q : ℕ) → q < sys.processes → NeverWaits g q → MayWait sys waiting q steps → ⊥
   waits_never q less never (inl x) = never_waits q less never.ranks x.word x.state x.endless x.fair x.since x.waits
   waits_never q less never (inr x) = stands_never q less never.moves x.0 x.1
@@ -125,6 +129,11 @@ module _ (sys : System Machine) (inside waiting : Machine → ℕ → Bool) (ste
           (λ (none : HasNoLine g q). absurd (nobody_else q less none may))
           (line_or_none g st g.processes lines h q (subst (λ n. q < n) (sym processes) less))
 
+  left_open : (q : ℕ) → q < sys.processes → of_graph.MayBeOpen g q → MayBeOpen sys inside waiting q steps
+  left_open q less (inl x) = let w = stands_still x.0 q x.1 less x.2 in inl (w.0, w.2)
+  left_open q less (inr (inl nobody)) = inr (inl (λ p below unserved. nobody p (subst (λ n. p < n) (sym processes) below) (unserved_on (keeping.Waiting q) p less below unserved)))
+  left_open q less (inr (inr nobody)) = inr (inr (λ p below unserved. nobody p (subst (λ n. p < n) (sym processes) below) (unserved_on (keeping.Inside q) p less below unserved)))
+
   pub tell_waits : (waits : Waits) → SayWhoWaits g st waits → TellWaits sys inside waiting steps waits
   tell_waits (Known lines) h = are_waits lines.items h
-  tell_waits (NotSettled q) h = tt
+  tell_waits (NotSettled q) h = let less = subst (λ n. q < n) processes h.0 in (less, left_open q less h.2)

@@ -37,8 +37,8 @@ use Rattle.cp_ends.proofs.Searching.Lists.{contains_at, pair_at, place_of}
 use Rattle.cp_ends.proofs.named.Keys.{key_same, key_self}
 use Rattle.cp_ends.proofs.named.Kinds.{are_settled}
 use Rattle.cp_waits.specs.Graphs.{HasGraph, IsSlotGraphOf}
-use Rattle.cp_waits.specs.MayWait.{AreWaits, HasLine, ShowWaiting, TellWaits, WaitsForGood}
-use Rattle.cp_waits.specs.Named.{AreWaitsOnNames, LinesMeaningLaw, LingersBy, ShowOnNames, TellOfAll, TellOnNames, WaitsBy}
+use Rattle.cp_waits.specs.MayWait.{AreWaits, HasLine, MayBeOpen, ShowWaiting, TellWaits, WaitsForGood}
+use Rattle.cp_waits.specs.Named.{AreWaitsOnNames, LinesMeaningLaw, LingersBy, MayBeOpenOnNames, ShowOnNames, TellOfAll, TellOnNames, WaitsBy}
 use Rattle.cp_waits.specs.declared.waiting.How.{How}
 use Rattle.cp_waits.specs.declared.waiting.How.TheVariants.{Throughout, ForGood, InItsCall}
 use Rattle.cp_waits.specs.declared.waiting.Waiting.{Waiting}
@@ -53,6 +53,7 @@ use Rattle.cp_waits.proofs.Schedules.{lingers_by, waits_by}
 use Rattle.cp_waits.proofs.Standstills.{stands_never, stands_still}
 use Rattle.cp_waits.proofs.Trapped.{for_good}
 use Rattle.cp_waits.proofs.Uncut.{may_stand, stands_after}
+use Rattle.cp_waits.proofs.Unserved.{unserved_back, unserved_on}
 
 -- ---- on slots
 
@@ -95,6 +96,7 @@ module _ (r : Tables) (discipline : slot_discipline.Discipline) (steps most : �
       (stands_never sys in_call_on_slots waits_on_slots steps f.states g reached graph.all_stills known)
       (λ q less ranks. never_lingers sys in_call_on_slots waits_on_slots steps f.states g graph.processes edges choices same_key key_same key_self apart closed q less ranks)
       (λ q less traps. for_good sys in_call_on_slots waits_on_slots steps f.states g graph.processes graph.count edges choices same_key key_same key_self apart closed q less traps)
+      (unserved_on sys in_call_on_slots waits_on_slots steps f.states g edges reached)
       waits h
 
 -- ---- on names
@@ -173,9 +175,14 @@ module _ (t : Tree) (r : Tables) (g : Discipline) (read : IsRead t.program) (ok 
           sorted = h.sorted;
         }
 
+  left_open : (q : ℕ) → MayBeOpen b in_call_on_slots waits_on_slots q steps → MayBeOpenOnNames t g steps q
+  left_open q (inl x) = inl (x.0, means.waits.still_back x.0 q (may_stand b steps waits_on_slots q x.0 x.1))
+  left_open q (inr (inl nobody)) = inr (inl (λ p less unserved. nobody p (subst (λ n. p < n) (sym alike.processes) less) (unserved_back b a steps (λ m s. R s m) (λ m s p. V s m p) alike waits_on_slots waits_on_names q p (waits_alike q) less unserved)))
+  left_open q (inr (inr nobody)) = inr (inr (λ p less unserved. nobody p (subst (λ n. p < n) (sym alike.processes) less) (unserved_back b a steps (λ m s. R s m) (λ m s p. V s m p) alike in_call_on_slots in_call_on_names q p (inside_alike q) less unserved)))
+
   pub tell_named : (ends : List (End × List ℕ)) → AreFirsts (EndsSo b steps) ends → (waits : Waits) → TellWaits b in_call_on_slots waits_on_slots steps waits → TellOnNames t g steps ends waits
   tell_named ends all_ends (Known lines) h = are_named ends all_ends lines.items h
-  tell_named ends all_ends (NotSettled q) h = tt
+  tell_named ends all_ends (NotSettled q) h = (subst (λ n. q < n) alike.processes h.0, left_open q h.1)
 
 -- whatever the gates
 pub tell_on_names : (t : Tree) (r : Tables) (discipline : slot_discipline.Discipline) → IsRead t.program → IsAccepted t → plain r ≡ laid t → (steps : ℕ) (ends : List (End × List ℕ)) → AreFirsts (EndsSo (silent_slots r discipline) steps) ends →

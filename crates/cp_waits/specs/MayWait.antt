@@ -1,13 +1,17 @@
 -- What the lines say of a machine: who may wait for ever in schedules of any length, and in which one.
-use Rattle.std.specs.Prelude.{◌≡◌, ◌⊎◌, ◌↔◌, ◌<◌, ℕ, suc, List, [], ◌∷◌, Bool, Contains}
+use Rattle.std.specs.Prelude.{◌≡◌, ◌⊎◌, ◌↔◌, ◌<◌, ℕ, suc, List, [], ◌∷◌, Bool, true, Contains}
 use Rattle.std.specs.List.{AllPairs}
+use Rattle.cp_run.specs.Run.{Choosing, chosen, may}
 use Rattle.cp_run.specs.System.{System}
+use Rattle.cp_endless_laws.specs.Fair.{IsServed}
 use Rattle.cp_endless_laws.specs.Lasso.{HasLasso, HasLingeringLasso}
+use Rattle.cp_endless_laws.specs.Moments.{moments}
+use Rattle.cp_endless_laws.specs.Reachable.{LeadsTo}
 use Rattle.cp_endless_laws.specs.Repeats.{Repeats}
 use Rattle.cp_endless_laws.specs.Rounds.{SetsOut}
 use Rattle.cp_endless_laws.specs.Standstill.{IsStandstill}
 use Rattle.cp_endless_laws.specs.Traps.{IsStuck}
-use Rattle.cp_endless_laws.specs.WaitsForEver.{MayWaitForEver, MayLinger}
+use Rattle.cp_endless_laws.specs.WaitsForEver.{MayWaitForEver, MayLinger, WaitsIn}
 use Rattle.cp_waits.specs.declared.waiting.How.{How}
 use Rattle.cp_waits.specs.declared.waiting.How.TheVariants.{Throughout, ForGood, InItsCall}
 use Rattle.cp_waits.specs.declared.waiting.Waiting.{Waiting}
@@ -31,6 +35,22 @@ MayWait sys waiting q steps = MayWaitForEver sys waiting q steps ⊎ ((word : Li
 -- In each fair schedule in which it waits for ever the process comes to a state from which on it waits, whatever is chosen.
 abbrev pub WaitsForGood : {S : Type 0} → System S → (S → ℕ → Bool) → ℕ → ℕ → Type 0
 WaitsForGood sys waiting q steps = (x : MayWaitForEver sys waiting q steps) → (n : ℕ) × IsStuck sys waiting q steps (x.state n)
+
+-- ---- left open
+
+-- On no choice in a reachable state that leads on to a choice, and along which process q does so all the time, is p served.
+abbrev pub IsUnserved : {S : Type 0} → System S → (does : S → ℕ → Bool) → (q p steps : ℕ) → Type 0
+IsUnserved {S} sys does q p steps =
+    (word : List ℕ) (s t : S) (number : ℕ) → LeadsTo sys steps word (Choosing s) → may sys s number ≡ true → chosen sys steps s number ≡ Choosing t → WaitsIn sys does q steps s number → IsServed sys p (moments sys steps s number) → ⊥
+
+-- there is no such process
+abbrev pub LeavesNobody : {S : Type 0} → System S → (does : S → ℕ → Bool) → (q steps : ℕ) → Type 0
+LeavesNobody sys does q steps = (p : ℕ) → p < sys.processes → IsUnserved sys does q p steps → ⊥
+
+-- Only of such a process it may be left open whether it waits for ever: it waits in a stretch that is seen to repeat; or nobody is left unserved while it
+-- waits, or while it is inside.
+abbrev pub MayBeOpen : {S : Type 0} → System S → (inside waiting : S → ℕ → Bool) → (q steps : ℕ) → Type 0
+MayBeOpen sys inside waiting q steps = ((word : List ℕ) × StandsStillAfter sys waiting q steps word) ⊎ (LeavesNobody sys waiting q steps ⊎ LeavesNobody sys inside q steps)
 
 -- ---- what a line shows
 
@@ -66,7 +86,7 @@ pub record AreWaits {S : Type 0} (sys : System S) (inside waiting : S → ℕ �
   pub exactly : (q : ℕ) → q < sys.processes → HasLine lines q ↔ (MayWait sys waiting q steps ⊎ MayLinger sys inside waiting q steps)
   pub sorted : AllPairs (λ a b. a.process < b.process) lines
 
--- where it is not settled nothing is said
+-- or of a process it is left open
 abbrev pub TellWaits : {S : Type 0} → System S → (S → ℕ → Bool) → (S → ℕ → Bool) → ℕ → Waits → Type 0
 TellWaits sys inside waiting steps (Known lines) = AreWaits sys inside waiting steps lines.items
-TellWaits sys inside waiting steps (NotSettled q) = Unit {0}
+TellWaits sys inside waiting steps (NotSettled q) = (q < sys.processes) × MayBeOpen sys inside waiting q steps

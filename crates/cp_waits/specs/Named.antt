@@ -19,7 +19,7 @@ use Rattle.cp_ends.specs.declared.end.End.{End}
 use Rattle.cp_ends.specs.declared.found.Found.{Found}
 use Rattle.cp_waits.specs.Graphs.{IsSlotGraphOf}
 use Rattle.cp_waits.specs.Lines.{SayWhoWaits}
-use Rattle.cp_waits.specs.MayWait.{HasLine, TellWaits, WaitsForGood}
+use Rattle.cp_waits.specs.MayWait.{HasLine, LeavesNobody, TellWaits, WaitsForGood}
 use Rattle.cp_waits.specs.declared.graph.Graph.{Graph}
 use Rattle.cp_waits.specs.declared.waiting.How.{How}
 use Rattle.cp_waits.specs.declared.waiting.How.TheVariants.{Throughout, ForGood, InItsCall}
@@ -70,10 +70,15 @@ pub record AreWaitsOnNames (t : Tree) (g : Discipline) (steps : ℕ) (ends : Lis
   pub stands : HasNoCut ends → (q : ℕ) (word : List ℕ) → q < (silent_named t g).processes → MayStandStill (silent_named t g) waits_on_names q steps word → HasLine lines q
   pub sorted : AllPairs (λ a b. a.process < b.process) lines
 
--- where it is not settled nothing is said
+-- Only of such a process it may be left open whether it waits for ever: it waits in a stretch that goes on for ever without a choice; or nobody is left unserved
+-- while it waits, or while it is in its call.
+abbrev pub MayBeOpenOnNames : Tree → Discipline → ℕ → ℕ → Type 0
+MayBeOpenOnNames t g steps q =
+    ((word : List ℕ) × MayStandStill (silent_named t g) waits_on_names q steps word) ⊎ (LeavesNobody (silent_named t g) waits_on_names q steps ⊎ LeavesNobody (silent_named t g) in_call_on_names q steps)
+
 abbrev pub TellOnNames : Tree → Discipline → ℕ → List (End × List ℕ) → Waits → Type 0
 TellOnNames t g steps ends (Known lines) = AreWaitsOnNames t g steps ends lines.items
-TellOnNames t g steps ends (NotSettled q) = Unit {0}
+TellOnNames t g steps ends (NotSettled q) = (q < (silent_named t g).processes) × MayBeOpenOnNames t g steps q
 
 -- ---- of all states
 

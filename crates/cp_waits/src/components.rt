@@ -1,6 +1,6 @@
 //! Strongly connected components: the states between which a process can go on doing something for ever.
 
-ghost use Rattle.std.specs.Prelude.{◌≡◌};
+ghost use Rattle.std.specs.Prelude.{◌≡◌, ℕ, IfOk, Some};
 ghost use Rattle.cp_waits.specs.Ranks.{rank_in, passed_over_in};
 ghost use Rattle.cp_waits.specs.Traps.{is_trap_in};
 
@@ -85,6 +85,26 @@ pub fn parts_of(
 }
 
 impl EdgeComponents {
+    /// All states are in one component, and this process is passed over in it.
+    pub fn passing_over(alloc: Global, process: u8) -> Result<EdgeComponents, AllocError>
+        ensures one { IfOk result (λ parts. (i : ℕ) → rank_in parts i ≡ 0) }
+        ensures passed_over { IfOk result (λ parts. passed_over_in parts 0 ≡ Some process) }
+    {
+        let mut parts = Vec::new(alloc);
+        parts.push(EdgeComponent {
+            least: 0,
+            served: Set::nobody(),
+            wait_once: Set::nobody(),
+            passed_over: Some(process),
+            has_edge: false,
+            is_trap: false,
+        })?;
+        Ok(EdgeComponents {
+            of: Vec::new(alloc),
+            parts,
+        })
+    }
+
     /// The number of the component of a state.
     pub fn number_of(&self, state: usize) -> u32
         ensures { result ≡ rank_in self.now state }

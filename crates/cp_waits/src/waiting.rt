@@ -1,7 +1,10 @@
 //! Who may wait for ever while others go on.
 
-ghost use Rattle.std.specs.Prelude.{◌≡◌, true, Contains, IfOk, IfSome, MatchOption};
-ghost use Rattle.cp_waits.specs.Lines.{SayWhoWaits, IsAnswer, ShowsRound, StandsStillNever, NeverWaits};
+ghost use Rattle.std.specs.Prelude.{◌≡◌, ℕ, true, Contains, IfOk, IfSome, MatchOption};
+ghost use Rattle.std.specs.Bool.{MatchBool};
+ghost use Rattle.cp_ends.specs.declared.states.States.{States};
+ghost use Rattle.cp_waits.specs.declared.graph.Graph.{Graph};
+ghost use Rattle.cp_waits.specs.Lines.{SayWhoWaits, HasRanks, IsAnswer, IsLine, LeavesNobodyOn, MayBeOpen, ShowsRound, StandsStillNever, NeverWaits};
 ghost use Rattle.cp_waits.specs.Sets.{has};
 
 use crate::components::{EdgeComponent, EdgeComponents, parts_of};
@@ -41,7 +44,7 @@ pub struct Waiting {
 #[derive(Drop)]
 pub enum Waits {
     Known(Vec<Waiting>),
-    /// Neither a round of this process was found nor a reason why there is none.
+    /// Of the first such process neither a way to wait for ever was found nor a reason why there is none.
     NotSettled(u8),
 }
 
@@ -86,90 +89,14 @@ fn answer_of(
 {
     let keeping = Keeping::Waiting(process);
     let parts = parts_of(alloc, graph, keeping)?;
-    let fair = fair_part(graph, &parts, keeping);
-    let still = standstill_of(graph, process);
-    if let Some(fair) = fair
-        && (!fair.is_trap || still.is_none())
-    {
-        return round_of(alloc, graph, states, &parts, process, fair);
-    }
-    match still {
-        Some(still) => standing_still(alloc, graph, states, &parts, process, &still),
-        None => {
-            if !are_ranks(graph, &parts, keeping) {
-                return Ok(WaitFinding::NotSettled);
-            }
-            answer_in_call(alloc, graph, states, process)
-        }
+    match standstill_of(graph, process) {
+        Some(still) => answer_with(alloc, graph, states, &parts, process, &still),
+        None => answer_without(alloc, graph, states, &parts, process),
     }
 }
 
-// The round of a process that waits in all of it.
-fn round_of(
-    alloc: Global,
-    graph: &Graph,
-    states: &States,
-    parts: &EdgeComponents,
-    process: u8,
-    fair: Fair,
-) -> Result<WaitFinding, AllocError>
-    ensures { IfOk result (λ answer. IsAnswer graph.now states.now process answer) }
-{
-    if fair.is_trap {
-        return round_for_good(alloc, graph, states, parts, process, fair);
-    }
-    let keeping = Keeping::Waiting(process);
-    Ok(
-        match lasso(
-            alloc,
-            graph,
-            states,
-            parts,
-            keeping,
-            fair,
-            process,
-            How::Throughout,
-        )? {
-            Some(waiting) => WaitFinding::Yes(waiting),
-            None => WaitFinding::NotSettled,
-        },
-    )
-}
-
-// The same where no choice makes it ready any more.
-fn round_for_good(
-    alloc: Global,
-    graph: &Graph,
-    states: &States,
-    parts: &EdgeComponents,
-    process: u8,
-    fair: Fair,
-) -> Result<WaitFinding, AllocError>
-    ensures { IfOk result (λ answer. IsAnswer graph.now states.now process answer) }
-{
-    let keeping = Keeping::Waiting(process);
-    if !are_traps(graph, parts, keeping) {
-        return Ok(WaitFinding::NotSettled);
-    }
-    Ok(
-        match lasso(
-            alloc,
-            graph,
-            states,
-            parts,
-            keeping,
-            fair,
-            process,
-            How::ForGood,
-        )? {
-            Some(waiting) => WaitFinding::Yes(waiting),
-            None => WaitFinding::NotSettled,
-        },
-    )
-}
-
-// A stretch in which a process waits goes on for ever without a choice.
-fn standing_still(
+// Of a process that waits in a stretch that goes on for ever without a choice.
+fn answer_with(
     alloc: Global,
     graph: &Graph,
     states: &States,
@@ -181,10 +108,142 @@ fn standing_still(
     requires waits { has still.now.again.wait process ≡ true }
     ensures { IfOk result (λ answer. IsAnswer graph.now states.now process answer) }
 {
-    if !are_traps(graph, parts, Keeping::Waiting(process)) {
-        return Ok(WaitFinding::NotSettled);
+    if let Some(fair) = fair_part(graph, parts, Keeping::Waiting(process))
+        && !fair.is_trap
+    {
+        let found = round_of(alloc, graph, states, parts, process, fair)?;
+        return Ok(found_or_open(found));
     }
-    Ok(WaitFinding::Yes(Waiting {
+    let found = standing_still(alloc, graph, states, parts, process, still)?;
+    Ok(found_or_open(found))
+}
+
+fn found_or_open(found: Option<Waiting>) -> WaitFinding
+    ensures { (g : Graph) (states : States) (q : ℕ) → IfSome found (IsLine g states q) → MayBeOpen g q → IsAnswer g states q result }
+{
+    match found {
+        Some(waiting) => WaitFinding::Yes(waiting),
+        None => WaitFinding::NotSettled,
+    }
+}
+
+// Of a process that waits in no such stretch.
+fn answer_without(
+    alloc: Global,
+    graph: &Graph,
+    states: &States,
+    parts: &EdgeComponents,
+    process: u8,
+) -> Result<WaitFinding, AllocError>
+    requires { StandsStillNever graph.now process }
+    ensures { IfOk result (λ answer. IsAnswer graph.now states.now process answer) }
+{
+    let keeping = Keeping::Waiting(process);
+    if let Some(fair) = fair_part(graph, parts, keeping)
+        && let Some(waiting) = round_of(alloc, graph, states, parts, process, fair)?
+    {
+        return Ok(WaitFinding::Yes(waiting));
+    }
+    let never = never_keeps(alloc, graph, parts, keeping)?;
+    if never {
+        answer_in_call(alloc, graph, states, process)
+    } else {
+        Ok(WaitFinding::NotSettled)
+    }
+}
+
+// Whether the process surely does not keep doing this for ever. If not, nobody is left unserved while it does.
+fn never_keeps(
+    alloc: Global,
+    graph: &Graph,
+    parts: &EdgeComponents,
+    keeping: Keeping,
+) -> Result<bool, AllocError>
+    ensures { IfOk result (λ never. MatchBool never (HasRanks graph.now keeping) (LeavesNobodyOn graph.now keeping)) }
+{
+    if are_ranks(graph, parts, keeping) {
+        return Ok(true);
+    }
+    for process in 0..graph.processes {
+        let alone = EdgeComponents::passing_over(alloc, process)?;
+        if are_ranks(graph, &alone, keeping) {
+            return Ok(true);
+        }
+    }
+    Ok(false)
+}
+
+// The round of a process that waits in all of it.
+fn round_of(
+    alloc: Global,
+    graph: &Graph,
+    states: &States,
+    parts: &EdgeComponents,
+    process: u8,
+    fair: Fair,
+) -> Result<Option<Waiting>, AllocError>
+    ensures { IfOk result (λ found. IfSome found (IsLine graph.now states.now process)) }
+{
+    if fair.is_trap {
+        return round_for_good(alloc, graph, states, parts, process, fair);
+    }
+    let keeping = Keeping::Waiting(process);
+    lasso(
+        alloc,
+        graph,
+        states,
+        parts,
+        keeping,
+        fair,
+        process,
+        How::Throughout,
+    )
+}
+
+// The same where no choice makes it ready any more.
+fn round_for_good(
+    alloc: Global,
+    graph: &Graph,
+    states: &States,
+    parts: &EdgeComponents,
+    process: u8,
+    fair: Fair,
+) -> Result<Option<Waiting>, AllocError>
+    ensures { IfOk result (λ found. IfSome found (IsLine graph.now states.now process)) }
+{
+    let keeping = Keeping::Waiting(process);
+    if !are_traps(graph, parts, keeping) {
+        return Ok(None);
+    }
+    lasso(
+        alloc,
+        graph,
+        states,
+        parts,
+        keeping,
+        fair,
+        process,
+        How::ForGood,
+    )
+}
+
+// A stretch in which a process waits goes on for ever without a choice.
+fn standing_still(
+    alloc: Global,
+    graph: &Graph,
+    states: &States,
+    parts: &EdgeComponents,
+    process: u8,
+    still: &Standstill,
+) -> Result<Option<Waiting>, AllocError>
+    requires known { Contains graph.now.standstills.items still.now }
+    requires waits { has still.now.again.wait process ≡ true }
+    ensures { IfOk result (λ found. IfSome found (IsLine graph.now states.now process)) }
+{
+    if !are_traps(graph, parts, Keeping::Waiting(process)) {
+        return Ok(None);
+    }
+    Ok(Some(Waiting {
         process,
         first: states.word(alloc, still.origin)?,
         again: Vec::new(alloc),
@@ -205,26 +264,40 @@ fn answer_in_call(
 {
     let keeping = Keeping::Inside(process);
     let parts = parts_of(alloc, graph, keeping)?;
-    let Some(fair) = fair_part(graph, &parts, keeping) else {
-        if are_ranks(graph, &parts, keeping) {
-            return Ok(WaitFinding::No);
-        }
-        return Ok(WaitFinding::NotSettled);
-    };
-    Ok(
-        match lasso(
-            alloc,
-            graph,
-            states,
-            &parts,
-            keeping,
-            fair,
-            process,
-            How::InItsCall,
-        )? {
-            Some(waiting) => WaitFinding::Yes(waiting),
-            None => WaitFinding::NotSettled,
-        },
+    if let Some(fair) = fair_part(graph, &parts, keeping)
+        && let Some(waiting) = lingering(alloc, graph, states, &parts, process, fair)?
+    {
+        return Ok(WaitFinding::Yes(waiting));
+    }
+    let never = never_keeps(alloc, graph, &parts, keeping)?;
+    if never {
+        Ok(WaitFinding::No)
+    } else {
+        Ok(WaitFinding::NotSettled)
+    }
+}
+
+// The round of a process that never comes out of its call in it.
+fn lingering(
+    alloc: Global,
+    graph: &Graph,
+    states: &States,
+    parts: &EdgeComponents,
+    process: u8,
+    fair: Fair,
+) -> Result<Option<Waiting>, AllocError>
+    requires { NeverWaits graph.now process }
+    ensures { IfOk result (λ found. IfSome found (IsLine graph.now states.now process)) }
+{
+    lasso(
+        alloc,
+        graph,
+        states,
+        parts,
+        Keeping::Inside(process),
+        fair,
+        process,
+        How::InItsCall,
     )
 }
 

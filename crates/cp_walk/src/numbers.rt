@@ -1,6 +1,6 @@
 //! Outcomes as lists of numbers, which are the same where the outcomes are. No list is made of them.
 
-ghost use Rattle.std.specs.Prelude.{◌≡◌, ℕ, List, ◌++◌, ◌∷◌, [], ◌&&◌, nat_eq, fold, flat_map};
+ghost use Rattle.std.specs.Prelude.{◌≡◌, ℕ, List, ◌++◌, ◌&&◌, nat_eq, fold, flat_map};
 ghost use Rattle.std.specs.Hash as fed;
 ghost use lib.Pointwise.{pointwise};
 ghost use Rattle.cp_run.specs.Table.{each};

@@ -1,6 +1,6 @@
 //! Rows of a node like one that was walked.
 
-ghost use Rattle.std.specs.Prelude.{◌≡◌, ◌<◌, ◌≤◌, ◌+◌, ◌-◌, ◌++◌, ℕ, List, length, map, drop, IfOk, IfErr};
+ghost use Rattle.std.specs.Prelude.{◌≡◌, ◌<◌, ◌≤◌, ◌+◌, ◌-◌, ◌++◌, length, map, drop, IfOk, IfErr};
 ghost use Rattle.cp_machine.specs.System.{machine_of, output_of};
 ghost use Rattle.cp_walk.specs.Rows.{line_of, IsTooMany};
 ghost use Rattle.cp_walk.specs.Walked.{begun, within_span};

@@ -1,6 +1,6 @@
 //! The texts of numbers, words and outcomes.
 
-ghost use Rattle.std.specs.Prelude.{◌≡◌, ◌++◌, ◌∷◌, [], ◌==◌, IfOk, string_bytes, decimal, codes};
+ghost use Rattle.std.specs.Prelude.{◌≡◌, ◌++◌, IfOk, string_bytes, decimal};
 ghost use Rattle.std.specs.Fmt.{signed_decimal};
 ghost use Rattle.cp_natural.specs.Decimal.{number_text};
 ghost use Rattle.cp_walk.specs.Text.{word_text, char_text, shown_text, output_text, error_text, kind_text, outcome_text};

@@ -1,6 +1,6 @@
 //! The text of a trace.
 
-ghost use Rattle.std.specs.Prelude.{◌≡◌, ◌≤◌, ◌++◌, IfOk, string_bytes, length, decimal};
+ghost use Rattle.std.specs.Prelude.{◌≡◌, ◌++◌, IfOk, string_bytes, length, decimal};
 ghost use Rattle.cp_run.specs.Code.{answer_of};
 ghost use Rattle.cp_run.specs.Table.{each};
 ghost use Rattle.cp_walk.specs.Rows.{UsedWithin};

@@ -1,8 +1,6 @@
 //! One worker: it draws, passes the gate, collects rows and notes them.
 
-ghost use Rattle.std.specs.Prelude.{◌≡◌, ◌<◌, ℕ, List, [], length, take, IfOk, IfErr};
-ghost use Rattle.cp_board.specs.Views.{view};
-ghost use Rattle.cp_board.specs.Seats.{IsSeatOf, view_of, tasks_of};
+ghost use Rattle.std.specs.Prelude.{◌≡◌, ◌<◌, ℕ, List, length, take, IfOk, IfErr};
 ghost use Rattle.cp_walk.specs.declared.row.Row.{Row};
 
 use crate::fault::ExploreFault;

@@ -1,5 +1,5 @@
 //! The workers run on threads, and their parts are put together.
-ghost use Rattle.std.specs.Prelude.{◌≡◌, ◌<◌, ◌≤◌, [], length, All, IfOk, IsOk};
+ghost use Rattle.std.specs.Prelude.{◌≡◌, ◌<◌, ◌≤◌, length, All, IfOk, IsOk};
 ghost use Rattle.cp_walk.specs.Tables.{table_of};
 ghost use Rattle.cp_walk.specs.Ends.{HasWorked, IsFresh};
 

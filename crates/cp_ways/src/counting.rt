@@ -1,6 +1,6 @@
 //! Ways on are counted from state to state, and remembered.
 
-ghost use Rattle.std.specs.Prelude.{◌≡◌, ◌⊎◌, ◌+◌, ◌^◌, ◌<◌, ◌≤◌, [], All, drop, length, nat_eq, true, IfOk, IfSome};
+ghost use Rattle.std.specs.Prelude.{◌≡◌, ◌⊎◌, ◌+◌, ◌^◌, ◌<◌, ◌≤◌, [], drop, length, nat_eq, true, IfOk, IfSome};
 ghost use Rattle.indexmap.specs.IndexMap.{insert_entry};
 ghost use lib.Pointwise.{pointwise};
 ghost use Rattle.cp_machine.specs.System.{Machine, machine_of, output_of, IsStateOf};

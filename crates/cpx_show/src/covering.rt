@@ -1,6 +1,6 @@
 //! What no schedule comes to, after the outcomes.
 
-ghost use Rattle.std.specs.Prelude.{◌≡◌, true, IfOk, string_bytes};
+ghost use Rattle.std.specs.Prelude.{true, IfOk, string_bytes};
 ghost use Rattle.cpx_show.specs.Summaries.{HasCover, IsCovered};
 
 use crate::inquiry::Inquiry;

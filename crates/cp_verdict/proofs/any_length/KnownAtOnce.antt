@@ -1,6 +1,6 @@
 -- What a search that makes kernel calls at once found is what is known.
 use Rattle.std.proofs.Common.{◌≡◌, ◌∙◌, ◌+◌, ◌<◌, ◌≤◌, ℕ, Bool, true, false, not, ◌||◌, List, [], ◌∷◌, ◌++◌, length, map, take, get_or, refl, sym, ap, subst}
-use Rattle.std.specs.Prelude.{All, None, is_none, nat_lt, string_bytes}
+use Rattle.std.specs.Prelude.{All, Option, None, Some, is_none, nat_lt, string_bytes}
 use Rattle.std.specs.List.{list_all, list_any}
 use Rattle.std.proofs.lemmas.List.{length-map, map-append, take_all, take_more}
 use Rattle.std.proofs.lemmas.List.Elements.{All-append, All-cons, All-get_or, All-nil}
@@ -17,8 +17,8 @@ use Rattle.cp_at_once.specs.Whole.{IsAnswer}
 use Rattle.cp_at_once.specs.declared.found.FoundAtOnce.{FoundAtOnce}
 use Rattle.cp_at_once.specs.declared.found.EndAtOnce.{EndAtOnce}
 use Rattle.cp_at_once.specs.declared.found.ValueAtOnce.{ValueAtOnce}
-use Rattle.cp_verdict.specs.endless.AtOnce.{IsKnownAtOnce, knows_end, knows_value}
-use Rattle.cp_verdict.proofs.any_length.Judgements.{both, none_is}
+use Rattle.cp_verdict.specs.endless.AtOnce.{HasMore, IsKnownAtOnce, knows_end, knows_value}
+use Rattle.cp_verdict.proofs.any_length.Judgements.{both}
 
 -- ---- one more
 
@@ -134,15 +134,15 @@ module _ (found : FoundAtOnce) (k : KnownEnds) (ends : map (λ e. e.end) k.ends.
       ap (λ b. b || nat_lt MOST_VALUES (length found.values.items)) (sym (any_map (λ (x : ValueAtOnce). x.value) (λ x. ends_tests.value x v) found.values.items) ∙ ap (list_any (λ x. ends_tests.value x v)) (sym values) ∙ any_map (λ (x : KnownValue). x.value) (λ x. ends_tests.value x v) k.values.items) ∙
       ap (λ n. list_any (λ (x : KnownValue). ends_tests.value x.value v) k.values.items || nat_lt MOST_VALUES n) (sym (length-map found.values.items (λ (x : ValueAtOnce). x.value)) ∙ sym (ap length values) ∙ length-map k.values.items (λ (x : KnownValue). x.value))
 
-  pub known_all : (r : Tables) (steps most : ℕ) → IsAnswer r by_the_book steps most found → (k.looked ≡ None → found.is_whole ≡ true) → is_whole k ≡ true →
+  pub known_all : (r : Tables) (steps most : ℕ) → IsAnswer r by_the_book steps most found → is_whole k ≡ true →
       (t : Tree) → LeavesNone t (λ kind. found_spec.knows_end found (Over kind) ≡ true) (λ q. found_spec.knows_end found (Alone q) ≡ true) (λ q. found_spec.knows_end found (Spins q) ≡ true) (λ v. found_spec.knows_value found v ≡ true) →
       LeavesNone t (λ kind. knows_end k (Over kind) ≡ true) (λ q. knows_end k (Alone q) ≡ true) (λ q. knows_end k (Spins q) ≡ true) (λ v. knows_value k v ≡ true)
-  known_all r steps most a looked whole t h =
+  known_all r steps most a whole t h =
       more_known t (λ kind. found_spec.knows_end found (Over kind) ≡ true) (λ kind. knows_end k (Over kind) ≡ true) (λ q. found_spec.knows_end found (Alone q) ≡ true) (λ q. knows_end k (Alone q) ≡ true) (λ q. found_spec.knows_end found (Spins q) ≡ true) (λ q. knows_end k (Spins q) ≡ true) (λ v. found_spec.knows_value found v ≡ true) (λ v. knows_value k v ≡ true)
       (λ x is. sym (same_end (Over x)) ∙ is) (λ q is. sym (same_end (Alone q)) ∙ is) (λ q is. sym (same_end (Spins q)) ∙ is) (λ v is. sym (same_value v) ∙ is) h
 
-  pub all_known : (r : Tables) (steps most : ℕ) → IsAnswer r by_the_book steps most found → (k.looked ≡ None → found.is_whole ≡ true) →
-      IsKnownWords r steps k → HasTexts r.names k.values.items → IsKnownAtOnce r steps k
+  pub all_known : (r : Tables) (steps most : ℕ) → IsAnswer r by_the_book steps most found → is_none k.looked ≡ found.is_whole →
+      IsKnownWords r steps k → HasTexts r.names k.values.items → IsKnownAtOnce r steps most k
   all_known r steps most a looked w texts =
       record {
         ends = w.0;
@@ -150,5 +150,10 @@ module _ (found : FoundAtOnce) (k : KnownEnds) (ends : map (λ e. e.end) k.ends.
         texts = texts;
         all = λ whole t read ok same.
             (let b = both (is_none k.looked) (list_all (λ (e : KnownEnd). not (is_cut e.end)) k.ends.items) whole in
-            known_all r steps most a looked whole t ((a.whole (looked (none_is k.looked b.0)) refl (same_end (Over StepLimit) ∙ no_limit k.ends.items b.1)).meaning t read ok same));
+            known_all r steps most a whole t ((a.whole (sym looked ∙ b.0) refl (same_end (Over StepLimit) ∙ no_limit k.ends.items b.1)).meaning t read ok same));
+        more = has_more k.looked looked;
       }
+    where
+      has_more : (l : Option ℕ) → is_none l ≡ found.is_whole → HasMore r steps most l
+      has_more None is = tt
+      has_more (Some d) is = a.too_many (sym is)

@@ -118,7 +118,7 @@ few_values false n most h le = let more = ltb-true most n h in let few = leb-tru
 
 -- ---- true of the names
 
-module _ (ps : Processes) (t : Tree) (r : Tables) (read : IsRead t.program) (ok : IsAccepted t) (same : plain r ≡ laid t) (steps : ℕ) (k : KnownEnds) (h : IsKnownAtOnce r steps k) where
+module _ (ps : Processes) (t : Tree) (r : Tables) (read : IsRead t.program) (ok : IsAccepted t) (same : plain r ≡ laid t) (steps most : ℕ) (k : KnownEnds) (h : IsKnownAtOnce r steps most k) where
   abbrev b : Behaviour
   b = at_any_limit t
 
@@ -273,12 +273,12 @@ never_named discipline es asks = by (is_of_the_book discipline && not (ask_waits
     by false y e = refl
     by true false e = absurd (cc)
 
-pub marked_at_once : {E : Type 0} (r : Tables) (ps : Processes) (discipline : Discipline) (steps : ℕ) (es : List Expectation) (k : KnownEnds) (v : EndsVerdict) → can_be_at_once discipline es ≡ true → IsKnownAtOnce r steps k → AreJudged (IsJudgedByAny (with_tables r ps) k) es v →
-    (told : Result MarkedEnds E) → IfOk told (λ m. m.mark ≡ mark_of v k.looked) → IfOk told (λ m. IsMarkAtOnce r ps steps es m.mark)
-marked_at_once r ps discipline steps es k v can h any told is =
+pub marked_at_once : {E : Type 0} (r : Tables) (ps : Processes) (discipline : Discipline) (steps most : ℕ) (es : List Expectation) (k : KnownEnds) (v : EndsVerdict) → can_be_at_once discipline es ≡ true → IsKnownAtOnce r steps most k → AreJudged (IsJudgedByAny (with_tables r ps) k) es v →
+    (told : Result MarkedEnds E) → IfOk told (λ m. m.mark ≡ mark_of v k.looked) → IfOk told (λ m. IsMarkAtOnce r ps steps most es m.mark)
+marked_at_once r ps discipline steps most es k v can h any told is =
     let alone = not_second (is_of_the_book discipline && not (ask_waits es)) (name_who es) can in
     let j = judged_each (IsJudgedByAny (with_tables r ps) k) (IsJudgedBy (with_tables r ps) k) es (λ e x c g. g (unnamed es alone.1 e c)) v any in
-    IfOk-weaker told (λ m. m.mark ≡ mark_of v k.looked) (λ m. IsMarkAtOnce r ps steps es m.mark)
+    IfOk-weaker told (λ m. m.mark ≡ mark_of v k.looked) (λ m. IsMarkAtOnce r ps steps most es m.mark)
     (λ m same_mark.
     record {
       known = k;
@@ -286,7 +286,7 @@ marked_at_once r ps discipline steps es k v can h any told is =
       verdict = v;
       is = same_mark;
       judged = j;
-      meaning = λ t read ok same. subst (IsTrueMark (with_tables r ps) (at_any_limit t) es) (sym same_mark) (true_mark ps t r read ok same steps k h es (not_second (is_of_the_book discipline) (ask_waits es) alone.0).1 v j);
+      meaning = λ t read ok same. subst (IsTrueMark (with_tables r ps) (at_any_limit t) es) (sym same_mark) (true_mark ps t r read ok same steps most k h es (not_second (is_of_the_book discipline) (ask_waits es) alone.0).1 v j);
     })
     is
 
@@ -299,20 +299,20 @@ module _ {E : Type 0} (r : Tables) (ps : Processes) (discipline : Discipline) (s
   pub other : (again : EndsMark) → IfOk told (λ m. m.mark ≡ again) → IfOk told (λ m. (m.mark ≡ before) ⊎ (m.mark ≡ again))
   other again h = IfOk-weaker told (λ m. m.mark ≡ again) (λ m. (m.mark ≡ before) ⊎ (m.mark ≡ again)) (λ m is. inr is) h
 
-  pub settles_more : (again : EndsMark) → can_be_at_once discipline es ≡ true → IsMarkAtOnce r ps steps es again → IfOk told (λ m. (m.mark ≡ before) ⊎ (m.mark ≡ again)) → IfOk told (λ m. IsAgain r ps discipline steps es before m.mark)
-  settles_more again can x h = IfOk-weaker told (λ m. (m.mark ≡ before) ⊎ (m.mark ≡ again)) (λ m. IsAgain r ps discipline steps es before m.mark) (λ m y. by_one m.mark y) h
+  pub settles_more : (most : ℕ) (again : EndsMark) → can_be_at_once discipline es ≡ true → IsMarkAtOnce r ps steps most es again → IfOk told (λ m. (m.mark ≡ before) ⊎ (m.mark ≡ again)) → IfOk told (λ m. IsAgain r ps discipline steps most es before m.mark)
+  settles_more most again can x h = IfOk-weaker told (λ m. (m.mark ≡ before) ⊎ (m.mark ≡ again)) (λ m. IsAgain r ps discipline steps most es before m.mark) (λ m y. by_one m.mark y) h
     where
-      by_one : (m : EndsMark) → (m ≡ before) ⊎ (m ≡ again) → IsAgain r ps discipline steps es before m
+      by_one : (m : EndsMark) → (m ≡ before) ⊎ (m ≡ again) → IsAgain r ps discipline steps most es before m
       by_one m (inl is) = inl is
-      by_one m (inr is) = inr (of_the_book discipline es can, subst (IsMarkAtOnce r ps steps es) (sym is) x)
+      by_one m (inr is) = inr (of_the_book discipline es can, subst (IsMarkAtOnce r ps steps most es) (sym is) x)
 
   module _ (most : ℕ) (is : IsMarkOf r ps discipline steps most es before) (meant : IsMeantMark r ps discipline steps es before) (many : before ≡ TooMany) where
-    by_turns : (m : EndsMark) → IsAgain r ps discipline steps es before m → IsMarkInTurn r ps discipline steps most es m
+    by_turns : (m : EndsMark) → IsAgain r ps discipline steps most es before m → IsMarkInTurn r ps discipline steps most es m
     by_turns m (inl e) = inl (subst (IsMarkOf r ps discipline steps most es) (sym e) is, subst (IsMeantMark r ps discipline steps es) (sym e) meant)
     by_turns m (inr x) = inr (subst (IsMarkOf r ps discipline steps most es) many is, x.0, x.1)
 
-    pub in_turn : IfOk told (λ m. IsAgain r ps discipline steps es before m.mark) → IfOk told (λ m. IsMarkInTurn r ps discipline steps most es m.mark)
-    in_turn h = IfOk-weaker told (λ m. IsAgain r ps discipline steps es before m.mark) (λ m. IsMarkInTurn r ps discipline steps most es m.mark) (λ m x. by_turns m.mark x) h
+    pub in_turn : IfOk told (λ m. IsAgain r ps discipline steps most es before m.mark) → IfOk told (λ m. IsMarkInTurn r ps discipline steps most es m.mark)
+    in_turn h = IfOk-weaker told (λ m. IsAgain r ps discipline steps most es before m.mark) (λ m. IsMarkInTurn r ps discipline steps most es m.mark) (λ m x. by_turns m.mark x) h
 
 -- ---- by all states
 

@@ -1,5 +1,5 @@
 -- What a search that makes kernel calls at once lets one know, and the marks by it.
-use Rattle.std.specs.Prelude.{◌≡◌, ◌⊎◌, ◌&&◌, ◌||◌, ℕ, List, Bool, true, false, not, map, nat_lt, All, length}
+use Rattle.std.specs.Prelude.{◌≡◌, ◌⊎◌, ◌&&◌, ◌||◌, ℕ, List, Bool, true, false, not, map, nat_lt, Option, None, Some, All, length}
 use Rattle.std.specs.List.{list_any}
 use Rattle.cp_tree.specs.Syntax.{Tree}
 use Rattle.cp_slots.specs.Tables.{Tables}
@@ -18,6 +18,7 @@ use Rattle.cp_ends.specs.Whole.{OfItsPrograms}
 use Rattle.cp_ends.specs.declared.end.End.{End}
 use Rattle.cp_ends.specs.declared.end.End.TheVariants.{Over, Alone, Spins}
 use Rattle.cp_ends.specs.declared.found.TheConstants.{MOST_VALUES}
+use Rattle.cp_at_once.specs.Whole.{HasTooMany}
 use Rattle.cp_at_once_laws.specs.OnSlots.{LeavesNone, by_the_book}
 use Rattle.cp_at_once_laws.specs.Quiet.{names}
 use Rattle.cp_at_once_laws.specs.Whole.{IsAloneBy, SpinsBy}
@@ -60,12 +61,18 @@ knows_end k end = list_any (λ e. ends_tests.end e.end end) k.ends.items
 abbrev pub knows_value : KnownEnds → Shown → Bool
 knows_value k v = list_any (λ x. ends_tests.value x.value v) k.values.items || nat_lt MOST_VALUES (length k.values.items)
 
+-- only where there are too many states is not all gone through
+abbrev pub HasMore : Tables → (steps most : ℕ) → (looked : Option ℕ) → Type 0
+HasMore r steps most None = Unit {0}
+HasMore r steps most (Some d) = HasTooMany r by_the_book steps most
+
 -- Each end and each value is so by its word; and where all is gone through and no stretch was cut, no other is possible with any limit of steps.
-pub record IsKnownAtOnce (r : Tables) (steps : ℕ) (k : KnownEnds) : Type 0 where
+pub record IsKnownAtOnce (r : Tables) (steps most : ℕ) (k : KnownEnds) : Type 0 where
   pub ends : All (λ x. EndsSo (silent_slots r by_the_book) steps x.0 x.1) (map end_pair k.ends.items)
   pub values : All (λ x. ShowsSo (slots r by_the_book) without_output steps x.0 x.1) (map value_pair k.values.items)
   pub texts : HasTexts r.names k.values.items
   pub all : is_whole k ≡ true → OfItsPrograms r (λ t. LeavesNone t (λ kind. knows_end k (Over kind) ≡ true) (λ q. knows_end k (Alone q) ≡ true) (λ q. knows_end k (Spins q) ≡ true) (λ v. knows_value k v ≡ true))
+  pub more : HasMore r steps most k.looked
 
 -- ---- marks
 
@@ -74,22 +81,22 @@ abbrev pub can_be_at_once : Discipline → List Expectation → Bool
 can_be_at_once discipline es = (is_of_the_book discipline && not (ask_waits es)) && not (name_who es)
 
 -- The mark is that of a verdict by what is known, and it is true of the program's own names, whatever the limit of steps.
-pub record IsMarkAtOnce (r : Tables) (ps : Processes) (steps : ℕ) (es : List Expectation) (m : EndsMark) : Type 0 where
+pub record IsMarkAtOnce (r : Tables) (ps : Processes) (steps most : ℕ) (es : List Expectation) (m : EndsMark) : Type 0 where
   pub known : KnownEnds
-  pub is_known : IsKnownAtOnce r steps known
+  pub is_known : IsKnownAtOnce r steps most known
   pub verdict : EndsVerdict
   pub is : m ≡ mark_of verdict known.looked
   pub judged : AreJudged (IsJudgedBy (with_tables r ps) known) es verdict
   pub meaning : OfItsPrograms r (λ t. IsTrueMark (with_tables r ps) (at_any_limit t) es m)
 
 -- the mark stands, or there are too many states and kernel calls at once settle more
-abbrev pub IsAgain : Tables → Processes → Discipline → ℕ → List Expectation → (before after : EndsMark) → Type 0
-IsAgain r ps discipline steps es before after = (after ≡ before) ⊎ ((discipline ≡ by_the_book) × IsMarkAtOnce r ps steps es after)
+abbrev pub IsAgain : Tables → Processes → Discipline → (steps most : ℕ) → List Expectation → (before after : EndsMark) → Type 0
+IsAgain r ps discipline steps most es before after = (after ≡ before) ⊎ ((discipline ≡ by_the_book) × IsMarkAtOnce r ps steps most es after)
 
 -- It is the mark by all states; or there are too many of them, and it is the mark by kernel calls at once.
 abbrev pub IsMarkInTurn : Tables → Processes → Discipline → (steps most : ℕ) → List Expectation → EndsMark → Type 0
 IsMarkInTurn r ps discipline steps most es m =
-    (IsMarkOf r ps discipline steps most es m × IsMeantMark r ps discipline steps es m) ⊎ (IsMarkOf r ps discipline steps most es TooMany × (discipline ≡ by_the_book) × IsMarkAtOnce r ps steps es m)
+    (IsMarkOf r ps discipline steps most es m × IsMeantMark r ps discipline steps es m) ⊎ (IsMarkOf r ps discipline steps most es TooMany × (discipline ≡ by_the_book) × IsMarkAtOnce r ps steps most es m)
 
 -- The same where nobody is named; else it is the mark by all states with who waits at their ends. And it is true of the program on its own names.
 abbrev pub IsEndsMark : Tables → Processes → Discipline → (steps most : ℕ) → List Expectation → EndsMark → Type 0

@@ -146,7 +146,7 @@ last_text most true = codes "too many states: there may be " ++ decimal most ++ 
 -- what is known: by all states, or by kernel calls at once
 abbrev pub IsKnownBy : (at_once : Bool) → Tables → Discipline → (steps most : ℕ) → List Expectation → KnownEnds → Type 0
 IsKnownBy false r discipline steps most es k = IsKnown r discipline steps most k × (name_who es ≡ true → KnowsWho r discipline steps k)
-IsKnownBy true r discipline steps most es k = (discipline ≡ by_the_book) × IsKnownAtOnce r steps k
+IsKnownBy true r discipline steps most es k = (discipline ≡ by_the_book) × IsKnownAtOnce r steps most k
 
 -- what that says of an expectation
 abbrev pub IsJudgedAs : (at_once : Bool) → Tables → Processes → Discipline → (steps : ℕ) → KnownEnds → Expectation → EndsJudgement → Type 0

@@ -45,7 +45,7 @@ fn mark_again<O: ObserveProgress>(
     observer: &mut O,
 ) -> Result<MarkedEnds, AllocError>
     ensures same { spec.can_be_at_once subject.entry.limits.discipline list.now ≡ false → IfOk result (λ m. m.mark ≡ marked.mark) }
-    ensures again { IfOk result (λ m. spec.IsAgain subject.entry.program.now (processes_of subject.entry.legend.now) subject.entry.limits.discipline subject.entry.limits.steps list.now marked.mark m.mark) }
+    ensures again { IfOk result (λ m. spec.IsAgain subject.entry.program.now (processes_of subject.entry.legend.now) subject.entry.limits.discipline subject.entry.limits.steps subject.entry.most list.now marked.mark m.mark) }
     ensures said { IsSaidAlone false subject.entry.program.now (processes_of subject.entry.legend.now) subject.entry.limits.discipline subject.entry.limits.steps subject.entry.most list.now marked → IfOk result (IsSaid subject.entry.program.now (processes_of subject.entry.legend.now) subject.entry.limits.discipline subject.entry.limits.steps subject.entry.most list.now) }
 {
     if can_be_at_once(subject.limits.discipline, list) {
@@ -93,7 +93,7 @@ pub fn mark_at_once<O: ObserveProgress>(
     list: &[Expectation],
     observer: &mut O,
 ) -> Result<MarkedEnds, AllocError>
-    ensures mark { spec.can_be_at_once subject.entry.limits.discipline list.now ≡ true → IfOk result (λ m. spec.IsMarkAtOnce subject.entry.program.now (processes_of subject.entry.legend.now) subject.entry.limits.steps list.now m.mark) }
+    ensures mark { spec.can_be_at_once subject.entry.limits.discipline list.now ≡ true → IfOk result (λ m. spec.IsMarkAtOnce subject.entry.program.now (processes_of subject.entry.legend.now) subject.entry.limits.steps subject.entry.most list.now m.mark) }
     ensures states { 1 ≤ subject.entry.most → spec.can_be_at_once subject.entry.limits.discipline list.now ≡ false → IfOk result (λ m. spec.IsEndsMark subject.entry.program.now (processes_of subject.entry.legend.now) subject.entry.limits.discipline subject.entry.limits.steps subject.entry.most list.now m.mark) }
     ensures said { 1 ≤ subject.entry.most → IfOk result (IsSaid subject.entry.program.now (processes_of subject.entry.legend.now) subject.entry.limits.discipline subject.entry.limits.steps subject.entry.most list.now) }
 {
@@ -111,7 +111,7 @@ fn search_at_once<O: ObserveProgress>(
     list: &[Expectation],
     observer: &mut O,
 ) -> Result<MarkedEnds, AllocError>
-    ensures mark { spec.can_be_at_once subject.entry.limits.discipline list.now ≡ true → IfOk result (λ m. spec.IsMarkAtOnce subject.entry.program.now (processes_of subject.entry.legend.now) subject.entry.limits.steps list.now m.mark) }
+    ensures mark { spec.can_be_at_once subject.entry.limits.discipline list.now ≡ true → IfOk result (λ m. spec.IsMarkAtOnce subject.entry.program.now (processes_of subject.entry.legend.now) subject.entry.limits.steps subject.entry.most list.now m.mark) }
     ensures said { spec.can_be_at_once subject.entry.limits.discipline list.now ≡ true → IfOk result (IsSaidAlone true subject.entry.program.now (processes_of subject.entry.legend.now) subject.entry.limits.discipline subject.entry.limits.steps subject.entry.most list.now) }
 {
     let MarkSubject {

@@ -1,6 +1,6 @@
 //! What a search that makes kernel calls at once lets one know.
 
-ghost use Rattle.std.specs.Prelude.{◌≡◌, ℕ, List, All, IfOk, None, map, true};
+ghost use Rattle.std.specs.Prelude.{◌≡◌, ℕ, List, All, IfOk, is_none, map};
 ghost use Rattle.cp_endless_laws.specs.Silent.{silent_slots, without_output};
 ghost use Rattle.cp_ends.specs.Ends.{EndsSo, ShowsSo};
 ghost use Rattle.cp_run.specs.Slots.{slots};
@@ -24,7 +24,7 @@ pub fn knowledge_at_once(
     program: &Resolved,
     found: &FoundAtOnce,
 ) -> Result<KnownEnds, AllocError>
-    ensures { IfOk result (λ k. (steps most : ℕ) → IsAnswer program.now by_the_book steps most found.now → spec.IsKnownAtOnce program.now steps k) }
+    ensures { IfOk result (λ k. (steps most : ℕ) → IsAnswer program.now by_the_book steps most found.now → spec.IsKnownAtOnce program.now steps most k) }
 {
     let ends = known_ends(alloc, found)?;
     let values = known_values(alloc, program, found)?;
@@ -39,7 +39,7 @@ pub fn knowledge_at_once(
 
 /// Where there were too many states, the schedules of no choice were looked at.
 fn numbers_looked_at(found: &FoundAtOnce) -> Option<usize>
-    ensures { result ≡ None → found.now.is_whole ≡ true }
+    ensures { is_none result ≡ found.now.is_whole }
 {
     if found.is_whole { None } else { Some(0) }
 }

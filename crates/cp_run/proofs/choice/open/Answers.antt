@@ -1,5 +1,4 @@
 use Rattle.cp_run.proofs.Words.{true, ◌∙◌, ap, sym, machine_of, node_of}
-use Rattle.cp_run.proofs.Tracing.{counted}
 use Rattle.cp_run.proofs.choice.open.Goals as goal
 
 pub returns : goal.returns
@@ -9,5 +8,5 @@ returns g c =
       node = moved.node ∙ ap (λ h. node_of h (machine_of c.observe_opening.new.state)) (sym c.halt_at.ensures);
       own = moved.own;
       steps = moved.steps;
-      calls = counted true g.C.Count.counts _ _ c.tick.ensures;
+      calls = c.tick.ensures;
     }

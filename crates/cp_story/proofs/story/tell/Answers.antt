@@ -1,4 +1,4 @@
-use Rattle.std.proofs.Common.{◌∙◌, ap, map, refl}
+use Rattle.std.proofs.Common.{◌∙◌, List, ℤ, ap, map, refl}
 use Rattle.cp_run.specs.Code.{answer_of}
 use Rattle.cp_legend.specs.Names.{legend_seen}
 use Rattle.cp_machine.specs.Machine.{Machine, machine_of}
@@ -7,6 +7,7 @@ use Rattle.cp_run.specs.Slots.{slots}
 use Rattle.cp_run.specs.Stop.{last_state, numbers_left}
 use Rattle.cp_story.specs.Annotations.{violation_of_end}
 use Rattle.cp_story.specs.Causes.{cause_of_end}
+use Rattle.cp_story.specs.Changes.{changes_in}
 use Rattle.cp_story.specs.Halted.{halted_at}
 use Rattle.cp_story.specs.Story.{Telling}
 use Rattle.cp_story.specs.Told.{lines_of}
@@ -39,6 +40,11 @@ returns g c =
       lines = whole.lines;
       told = ap (λ (t : Telling). t.events) whole.told;
       choice = ap (λ (t : Telling). t.past.choice) whole.told;
+      changes = c.in_ok-last_changes.ensures
+          ∙ ap (λ (cells : List ℤ). changes_in l cells c.deref-5.result.now) c.deref-4.ensures.value
+          ∙ ap (changes_in l past.cells) c.deref-5.ensures.value
+          ∙ ap (λ (m : Machine). changes_in l past.cells m.permanents) ran.stop
+          ∙ ap (λ (t : Telling). changes_in l t.past.cells last.permanents) whole.told;
       waits = waits;
       answer = ran.answer;
       stop = c.in_ok-stop.ensures

@@ -1,5 +1,10 @@
-use Rattle.cp_waits.specs.Ranks.{rank_in, passed_over_in}
+use Rattle.std.proofs.Common.{inr}
+use Rattle.cp_waits.specs.declared.passing.Keeping.TheVariants as keeping
+use Rattle.cp_waits.proofs.Shown.{nobody_of, ranks_of}
 use Rattle.cp_waits.proofs.waiting.answer_in_call.Goals as goal
 
-pub returns-then-are_ranks : goal.returns-then-are_ranks
-returns-then-are_ranks c = (c.requires, (rank_in c.in_ok-parts.parts, passed_over_in c.in_ok-parts.parts, c.are_ranks.ensures.0 c.if-are_ranks.true))
+pub returns-then-never : goal.returns-then-never
+returns-then-never c = (c.requires, ranks_of c.args.graph.now (keeping.Inside c.args.process) c.in_ok-never.never c.in_ok-never.ensures c.if-never.true)
+
+pub returns-2 : goal.returns-2
+returns-2 c = inr (inr (nobody_of c.args.graph.now (keeping.Inside c.args.process) c.in_ok-never.never c.in_ok-never.ensures c.if-never.false))

@@ -1,4 +1,4 @@
-use Rattle.std.proofs.Common.{inl, inr, suc, subst, sym, ap, ◌∙◌, add-one}
+use Rattle.std.proofs.Common.{arith, inl, inr, suc, subst, sym, ap, ◌∙◌, add-one}
 use Rattle.cp_waits.specs.Lines.{AreLines, IsAnswer, IsLine, HasNoLine}
 use Rattle.cp_waits.proofs.waiting.who_waits.Goals as goal
 use Rattle.cp_waits.proofs.waiting.who_waits.Goals.{in-Yes+in_ok-push-in-Yes, in-No}
@@ -19,3 +19,9 @@ loop-process-preserved c =
           inl (subst (λ l. AreLines g states n l) (sym (ap (λ l. l.items) w.list-is)) c.loop-process.invariant, none))
     ] in
     subst (λ m. AreLines g states m c.match-branch-2.list.items) (sym (add-one n)) next
+
+pub returns-in-NotSettled : goal.returns-in-NotSettled
+returns-in-NotSettled c =
+    let g = c.args.graph.now in
+    let states = c.args.states.now in
+    (omega arith, (c.loop-process.list.items, c.loop-process.invariant), subst (λ a. IsAnswer g states c.loop-process.process a) c.in-NotSettled.is c.in_ok-waiting.ensures)

@@ -1,3 +1,5 @@
+use Rattle.cp_run.proofs.Tracing.{counted}
+use Rattle.std.specs.Prelude.{true}
 use Rattle.cp_walk.proofs.Words.{◌∙◌, ap, sym, arith, subst, ◌<◌, ◌-◌, length, map, machine_of, node_of, slots, table, walk, line_of, IsTooMany, beginnings}
 use Rattle.cp_walk.proofs.Words.{words_in}
 use Rattle.cp_walk.proofs.Counted.{rows_words}
@@ -30,6 +32,6 @@ returns-clause-calls g c =
     let sys = slots c.args.job.now.program.now limits.discipline in
     let lines = whole_walk sys limits.choices limits.steps (limits.choices - 0) (node_of c.open-halt.result (machine_of c.open-halt.new.state)) (omega arith) c.open-halt.ensures.node ∙ sym (returns-clause-table g c) in
     let words = ap (λ ls. beginnings (words_in ls)) lines ∙ ap beginnings (rows_words c.new.result) in
-    let opening = c.open-halt.ensures.calls in
+    let opening = counted true g.C.Count.counts _ _ c.open-halt.ensures.calls in
     let walked = c.in_ok-rows.ensures.calls in
     omega (arith, words, opening, walked)

@@ -1,6 +1,6 @@
 use Rattle.std.proofs.Common.{◌∷◌, [], length, length-append, refl, ap, arith, sym, subst}
 use Rattle.cp_at_once.proofs.Words.{◌≡◌, ◌+◌, ℕ, true, Machine, may, slots, slot_graph, goal_at, ok_to, HasLeg, OriginAtOnce}
-use Rattle.cp_at_once.specs.ByRows.{Goes}
+use Rattle.cp_ends.specs.ByRows.{Goes}
 use Rattle.cp_ends.specs.Rows.{IsRowFor}
 use Rattle.cp_ends.proofs.Rowwise.{some_of}
 use Rattle.std.specs.declared.alloc.Global.{Global}
@@ -88,7 +88,7 @@ loop-made-preserved c =
           let there = both.1 in
           let o : OriginAtOnce = record { state = l.origin.state; numbers = c.push.new.self } in
           let going = at_leg r gr Leg job.most c.args.self.now.found states l.self.found noted.found a (goal_at l.arrival k) l.self.told.values.items l.origin l.made g n k (ap (λ v. goal_at v k) c.in-Choice.is) p both.0.1 both.0.0 (omega arith)
-          o (goal_at c.in_ok-arrival.arrival there.after) last.told.values.items (word_longer g.more l.origin o p g.word g.is_word refl c.push.ensures.items) there.goal there.told in (
+          o (goal_at c.in_ok-arrival.arrival there.after) last.told.values.items (word_longer g.more l.origin o p g.word g.is_word refl c.push.ensures.items) there.goal there.shown in (
             there.after,
             there.is,
             going_stored r gr Leg job.most c.args.self.now.found states next.found a _ _ o (l.made + 1) last.found.kept.store last.found c.in_ok-arrival.ensures.found c.in_ok-arrival.ensures.store

@@ -7,7 +7,8 @@ use Rattle.cp_ends.specs.Rows.{IsRowFor}
 use Rattle.cp_ends.specs.declared.end.End.{End}
 use Rattle.cp_ends.proofs.GoingOn.{ok_to}
 use Rattle.cp_ends.proofs.Rowwise.{some_of, written_long, written_over}
-use Rattle.cp_at_once.specs.ByRows.{Goes, KeepStore}
+use Rattle.cp_ends.specs.ByRows.{Goes}
+use Rattle.cp_at_once.specs.ByRows.{KeepStore}
 use Rattle.cp_at_once.proofs.Going.{halts_so}
 use Rattle.cp_at_once.proofs.Staying.{stays_on}
 use Rattle.cp_at_once.proofs.search.SearchAtOnce.go.Goals as goal

@@ -68,5 +68,5 @@ returns-clause-goes c = λ m is may.
       after = machine_of c.choose.new.state;
       is = λ due. row_stands r c.find_row.new.self.found.kept.store c.choose.new.state c.find_row.new.self.row.items c.choose.ensures.own c.in_ok-halt.ensures.quiet (c.in_ok-halt.ensures.ruled due ∙ ap (λ (k : Machine). k.discipline) same ∙ is.it.ruled ∙ c.requires.room.ruled ∙ sym c.in_ok-find_row.ensures.room.ruled) c.in_ok-find_row.ensures.row;
       goal = c.in_ok-halt.ensures.goal ∙ ap (λ k. (next_arrival (slots r discipline) without_output same_key steps k p).goal) same;
-      told = c.find_row.ensures.told ∙ c.in_ok-halt.ensures.shown ∙ ap (λ l. l ++ (next_arrival (slots r discipline) without_output same_key steps before p).shown) c.clear.ensures.items ∙ ap (λ k. (next_arrival (slots r discipline) without_output same_key steps k p).shown) same;
+      shown = c.find_row.ensures.told ∙ c.in_ok-halt.ensures.shown ∙ ap (λ l. l ++ (next_arrival (slots r discipline) without_output same_key steps before p).shown) c.clear.ensures.items ∙ ap (λ k. (next_arrival (slots r discipline) without_output same_key steps k p).shown) same;
     })

@@ -52,7 +52,7 @@ returns-clause-within c =
     record {
       row_is = stays.rows c.args.row.now m (c.in_ok-arrival.ensures.store.rows c.args.row.now m here.row_is);
       within = within_more r gr Leg job.most mid h at m done p within is_room room
-          (choice_taken r gr Leg job.most mid h at m done p within may c.choice.result c.choice.ensures.state c.choice.ensures.numbers _ _ goes.goal goes.told is_room (λ states word a held is arrives to shown. on states word a goes.after held is arrives goes.is to shown));
+          (choice_taken r gr Leg job.most mid h at m done p within may c.choice.result c.choice.ensures.state c.choice.ensures.numbers _ _ goes.goal goes.shown is_room (λ states word a held is arrives to shown. on states word a goes.after held is arrives goes.is to shown));
     }))
 
 pub returns-clause-stops : goal.returns-clause-stops
@@ -75,4 +75,4 @@ returns-clause-stops c =
     let goes = c.in_ok-arrival.ensures.goes m (subst (λ l. IsRowFor r old.kept.store l m) (sym c.copy_from_slice.ensures.items) here.row_is) may in
     let within = subst (λ (f : FoundAtOnce). Within r gr Leg job.most 8 f at m done) (sym c.in_ok-arrival.ensures.found) (within_else r gr Leg job.most old at m done here.within mid.kept.store c.in_ok-arrival.ensures.store) in
     stops_here r gr Leg job.most mid h at m done p within is_room full
-    (choice_taken r gr Leg job.most mid h at m done p within may c.choice.result c.choice.ensures.state c.choice.ensures.numbers _ _ goes.goal goes.told is_room (λ states word a held is arrives to shown. on states word a goes.after held is arrives goes.is to shown))))
+    (choice_taken r gr Leg job.most mid h at m done p within may c.choice.result c.choice.ensures.state c.choice.ensures.numbers _ _ goes.goal goes.shown is_room (λ states word a held is arrives to shown. on states word a goes.after held is arrives goes.is to shown))))

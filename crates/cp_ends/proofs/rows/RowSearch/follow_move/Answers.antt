@@ -50,11 +50,14 @@ returns-in-Some-2-clause-goes g c = λ made m is may_be look.
     let leads = one_leg_leads r discipline old.cache.store kept.cache.store old.cache.table kept.cache.table steps m p [] told.values.items c.args.from.now.row.items new sound stands may_be it in
     let steps_may : IsToStep r m p = record { sound = sound; kept = stands.kept; ready = may_be_ready (slots r discipline) m p it.free may_be; free = it.free } in
     let seen = one_leg_seen r discipline (λ w. g.P.Sight.sees w r discipline) (λ w. g.met.P.Sight.alike w r discipline) kept.cache.store kept.cache.table steps m p [] told.values.items new told.seen (m ∷ []) steps_may it (c.see_step.ensures.sees r discipline m look) in
-    let goes = goes_so r discipline g.P.Sight.sees steps m p Choice kept new told (c.make_move.ensures.ruled ∙ c.requires.room.ruled) leads c.see_step.ensures.again seen in
+    let told_so = goes_so r discipline g.P.Sight.sees steps m p Choice kept new told (c.make_move.ensures.ruled ∙ c.requires.room.ruled) leads c.see_step.ensures.again seen in
+    let goes = told_so.goes in
     record {
-      after = goes.after;
-      is = λ due. record { it = (goes.is due).it; row = record { row = new; halved = some_of _ next _ c.in-Some-2.is c.in_ok-next.ensures.halved; is = (goes.is due).is } };
-      goal = goes.goal;
-      shown = goes.shown;
-      seen = goes.seen;
+      goes = record {
+        after = goes.after;
+        is = λ due. record { it = (goes.is due).it; row = record { row = new; halved = some_of _ next _ c.in-Some-2.is c.in_ok-next.ensures.halved; is = (goes.is due).is } };
+        goal = goes.goal;
+        shown = goes.shown;
+      };
+      seen = told_so.seen;
     })

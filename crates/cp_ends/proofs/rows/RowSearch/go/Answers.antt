@@ -93,8 +93,9 @@ returns-in-Ended-clause-goes g c = λ m is may look.
     let steps = c.args.job.now.run.limits.steps in
     let quiet = silent_slots r discipline in
     let p = c.args.process in
-    let to = c.in_ok-halt.ensures.goes m (c.in_ok-follow_move.ensures.kept.rows c.args.from.now.row.items m is) may look in
-    record { after = to.after; is = λ due. absurd (not_due c.in-Ended.end due); goal = ap (λ h. goal_at h to.after) (sym c.in-Ended.is) ∙ to.goal; shown = to.shown; seen = subst (λ (h : Halt End). ComesTo quiet (λ w. g.P.Sight.sees w r discipline) steps (choice_leg quiet steps m p) (m ∷ []) c.go_by_legs.new.self.told.seen (with_round c.go_by_legs.new.self.told.again h) to.after) c.in-Ended.is to.seen })
+    let told = c.in_ok-halt.ensures.goes m (c.in_ok-follow_move.ensures.kept.rows c.args.from.now.row.items m is) may look in
+    let to = told.goes in
+    record { goes = record { after = to.after; is = λ due. absurd (not_due c.in-Ended.end due); goal = ap (λ h. goal_at h to.after) (sym c.in-Ended.is) ∙ to.goal; shown = to.shown }; seen = subst (λ (h : Halt End). ComesTo quiet (λ w. g.P.Sight.sees w r discipline) steps (choice_leg quiet steps m p) (m ∷ []) c.go_by_legs.new.self.told.seen (with_round c.go_by_legs.new.self.told.again h) to.after) c.in-Ended.is told.seen })
   where
     not_due : (e : End) → Ended e ≡ Choice → ⊥
     not_due e h = cc
@@ -106,17 +107,20 @@ returns-in_ok-self-in-Choice-clause-goes g c = λ m is may look.
     let steps = c.args.job.now.run.limits.steps in
     let quiet = silent_slots r discipline in
     let p = c.args.process in
-    let to = c.in_ok-halt.ensures.goes m (c.in_ok-follow_move.ensures.kept.rows c.args.from.now.row.items m is) may look in
+    let told = c.in_ok-halt.ensures.goes m (c.in_ok-follow_move.ensures.kept.rows c.args.from.now.row.items m is) may look in
+    let to = told.goes in
     let row = c.go_by_legs.new.self.row.items in
     let mid = c.learn.new.self in
     let new = c.halve.new.self in
     let halved = c.in_ok-self-in-Choice.field-0 in
     record {
-      after = to.after;
-      is = λ due. stated_by r mid new row halved.numbers to.after c.halve.ensures.cache c.halve.ensures.ruled (subst (IsHalved new halved.numbers) c.deref.ensures.value c.in_ok-self-in-Choice.ensures.halved) (c.learn.ensures.rows r row to.after (to.is c.in-Choice.is));
-      goal = ap (λ h. goal_at h to.after) (sym c.in-Choice.is) ∙ to.goal;
-      shown = to.shown;
-      seen = subst (λ (h : Halt End). ComesTo quiet (λ w. g.P.Sight.sees w r discipline) steps (choice_leg quiet steps m p) (m ∷ []) c.go_by_legs.new.self.told.seen (with_round c.go_by_legs.new.self.told.again h) to.after) c.in-Choice.is to.seen;
+      goes = record {
+        after = to.after;
+        is = λ due. stated_by r mid new row halved.numbers to.after c.halve.ensures.cache c.halve.ensures.ruled (subst (IsHalved new halved.numbers) c.deref.ensures.value c.in_ok-self-in-Choice.ensures.halved) (c.learn.ensures.rows r row to.after (to.is c.in-Choice.is));
+        goal = ap (λ h. goal_at h to.after) (sym c.in-Choice.is) ∙ to.goal;
+        shown = to.shown;
+      };
+      seen = subst (λ (h : Halt End). ComesTo quiet (λ w. g.P.Sight.sees w r discipline) steps (choice_leg quiet steps m p) (m ∷ []) c.go_by_legs.new.self.told.seen (with_round c.go_by_legs.new.self.told.again h) to.after) c.in-Choice.is told.seen;
     })
 
 pub returns-then-branch-clause-goes : goal.returns-then-branch-clause-goes

@@ -1,7 +1,7 @@
 use Rattle.cp_ends.proofs.Vocabulary.{◌∙◌, ap, length, subst, sym, Shown, List}
 use Rattle.cp_run.specs.declared.outcome.Halt.{Halt}
 use Rattle.cp_stretches.specs.Stretching.{LeadsTo}
-use Rattle.cp_ends.specs.ByRows.{Goes, KeepFound}
+use Rattle.cp_ends.specs.ByRows.{GoesAsTold, KeepFound}
 use Rattle.cp_ends.specs.Halves.{width_of}
 use Rattle.cp_ends.specs.Rows.{IsRowFor}
 use Rattle.cp_ends.specs.declared.end.End.{End}
@@ -48,8 +48,8 @@ returns-in-Some-clause-goes g c = λ m is may look.
     let leads = subst (λ (l : List Shown). LeadsTo r discipline kept.cache.store kept.cache.table steps m p l halt new told.values.items) c.clear.ensures.items before in
     let goes = goes_so r discipline g.P.Sight.sees steps m p halt kept new told (c.see_choice.ensures.ruled ∙ c.requires.room.ruled) leads c.in_ok-halt.ensures.again seen in
     let long = leads.stands.stands.long ∙ ap width_of c.see_choice.ensures.table ∙ sym c.requires.here.3.is.long ∙ sym (ap length (c.copy_from_slice.ensures.items ∙ c.as_slice.ensures.value)) ∙ sym row.ok.0 in
-    let ends = subst (λ (h : Halt End). Goes g.P.Sight.sees r discipline steps m p h (IsRowFor r kept new) told) (sym c.ended.ensures) goes in
-    subst (λ l. Goes g.P.Sight.sees r discipline steps m p c.ended.result (IsRowFor r kept l) told) (sym (written_over row.items new row.len long)) ends)
+    let ends = subst (λ (h : Halt End). GoesAsTold g.P.Sight.sees r discipline steps m p h (IsRowFor r kept new) told) (sym c.ended.ensures) goes in
+    subst (λ l. GoesAsTold g.P.Sight.sees r discipline steps m p c.ended.result (IsRowFor r kept l) told) (sym (written_over row.items new row.len long)) ends)
 
 pub go_slowly-requires-clause-room : goal.go_slowly-requires-clause-room
 go_slowly-requires-clause-room g c =

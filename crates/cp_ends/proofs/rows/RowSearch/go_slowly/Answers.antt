@@ -60,10 +60,12 @@ returns-clause-goes g c = λ m is may.
     let same = c.stand.ensures.state m (subst (StandsFor r c.args.job.now.run.limits.discipline kept.cache.store kept.cache.table m) (sym c.as_slice.ensures.value) (subst (λ (d : Discipline). StandsFor r d kept.cache.store kept.cache.table m c.args.from.now.row.items) c.requires.room.ruled (stands_for r kept c.args.from.now.row.items m is))) in
     let before = machine_of c.stand.new.standing.state in
     record {
-      after = machine_of c.choose.new.state;
-      is = λ due. row_stands r c.find_row.new.self.found c.choose.new.state c.find_row.new.self.row.items _ refl c.choose.ensures.own c.in_ok-halt.ensures.quiet (c.in_ok-halt.ensures.ruled due ∙ ap (λ (k : Machine). k.discipline) same ∙ is.it.ruled ∙ c.requires.room.ruled ∙ sym c.in_ok-find_row.ensures.room.ruled) c.in_ok-find_row.ensures.row;
-      goal = c.in_ok-halt.ensures.goal ∙ ap (λ k. (next_arrival (slots r discipline) without_output same_key steps k p).goal) same;
-      shown = ap (λ (t : Told g.row.P.Denot). t.values.items) c.find_row.ensures.told ∙ c.in_ok-halt.ensures.shown ∙ ap (λ l. l ++ (next_arrival (slots r discipline) without_output same_key steps before p).shown) c.clear.ensures.items ∙ ap (λ k. (next_arrival (slots r discipline) without_output same_key steps k p).shown) same;
+      goes = record {
+        after = machine_of c.choose.new.state;
+        is = λ due. row_stands r c.find_row.new.self.found c.choose.new.state c.find_row.new.self.row.items _ refl c.choose.ensures.own c.in_ok-halt.ensures.quiet (c.in_ok-halt.ensures.ruled due ∙ ap (λ (k : Machine). k.discipline) same ∙ is.it.ruled ∙ c.requires.room.ruled ∙ sym c.in_ok-find_row.ensures.room.ruled) c.in_ok-find_row.ensures.row;
+        goal = c.in_ok-halt.ensures.goal ∙ ap (λ k. (next_arrival (slots r discipline) without_output same_key steps k p).goal) same;
+        shown = ap (λ (t : Told g.row.P.Denot). t.values.items) c.find_row.ensures.told ∙ c.in_ok-halt.ensures.shown ∙ ap (λ l. l ++ (next_arrival (slots r discipline) without_output same_key steps before p).shown) c.clear.ensures.items ∙ ap (λ k. (next_arrival (slots r discipline) without_output same_key steps k p).shown) same;
+      };
       seen = subst (λ (t : Told g.row.P.Denot). TellsOf g.P.Sight.sees r discipline steps m p t c.in_ok-halt.halt (machine_of c.choose.new.state)) (sym c.find_row.ensures.told)
           (subst (λ (k : Machine). TellsOf g.P.Sight.sees r discipline steps k p c.choose.new.told c.in_ok-halt.halt (machine_of c.choose.new.state)) same c.in_ok-halt.ensures.leg);
     })

@@ -81,9 +81,9 @@ returns-clause-told g c = λ m here may.
     let arrived = c.in_ok-arrived.arrived in
     let halts = c.in_ok-arrived.ensures.halt in
     record {
-      last = goes.after;
-      seen = subst (λ (h : Halt End). TellsOf g.P.Sight.sees r discipline steps m p mid.told h goes.after) (sym halts) goes.seen;
+      last = goes.goes.after;
+      seen = subst (λ (h : Halt End). TellsOf g.P.Sight.sees r discipline steps m p mid.told h goes.goes.after) (sym halts) goes.seen;
       number = λ number x at_number is.
           (let due : c.in_ok-halt.halt ≡ Choice = sym halts ∙ ap halt_of at_number in
-          number_so r gr job.most old.found c.arrive_at.new.self at m p here.within number goes.after x is (ap (λ (h : Halt End). goal_at h goes.after) (sym due) ∙ goes.goal) (subst (Takes r gr job.most old.found c.arrive_at.new.self at m p here.within) at_number takes));
+          number_so r gr job.most old.found c.arrive_at.new.self at m p here.within number goes.goes.after x is (ap (λ (h : Halt End). goal_at h goes.goes.after) (sym due) ∙ goes.goes.goal) (subst (Takes r gr job.most old.found c.arrive_at.new.self at m p here.within) at_number takes));
     })

@@ -2,8 +2,8 @@ use Rattle.std.proofs.Common.{◌≡◌, ◌∙◌, ◌<◌, ap, arith, length, 
 use Rattle.std.specs.Prelude.{slice_index_or}
 use Rattle.std.proofs.lemmas.List.{get_or-set_other}
 use Rattle.cp_machine.specs.Machine.{thread_at}
-use Rattle.cp_states.specs.Taking.{AreTaken, HasRoomFor}
-use Rattle.cp_states.proofs.Taking.{still_old, taken_next, taken_none}
+use Rattle.cp_parts.specs.Taking.{AreTaken, HasRoomFor}
+use Rattle.cp_parts.proofs.Threads.{still_old, taken_next, taken_none}
 use Rattle.cp_parts.proofs.Making.{thread_there}
 use Rattle.cp_parts.proofs.store.PartStore.take_processes.Goals as goal
 

@@ -3,7 +3,7 @@ use Rattle.std.specs.Prelude.{slice_index_or}
 use Rattle.cp_slots.specs.Tables.{Tables}
 use Rattle.cp_machine.specs.declared.process.ProcessState.{ProcessState}
 use Rattle.cp_machine.specs.Machine.{Machine, thread_at, thread_of}
-use Rattle.cp_states.specs.Taking.{AreTaken}
+use Rattle.cp_parts.specs.Taking.{AreTaken}
 use Rattle.cp_parts.specs.Taken.{CanTake}
 use Rattle.cp_parts.proofs.store.PartStore.take_processes.Given as goal
 

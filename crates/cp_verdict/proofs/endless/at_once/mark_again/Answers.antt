@@ -10,7 +10,7 @@ returns-in_ok-again-clause-same g c = λ cannot. (let said = c.can_be_at_once.en
 pub returns-in_ok-again-clause-again : goal.returns-in_ok-again-clause-again
 returns-in_ok-again-clause-again g c =
     let can = sym c.can_be_at_once.ensures ∙ c.if-can_be_at_once.true in
-    settles_more c.args.subject.program.now (processes_of c.args.subject.legend.now) c.args.subject.limits.discipline c.args.subject.limits.steps c.args.list.now c.args.marked.mark c.tell_again.result c.in_ok-again.again.mark can (c.in_ok-again.ensures.mark can) c.tell_again.ensures.mark
+    settles_more c.args.subject.program.now (processes_of c.args.subject.legend.now) c.args.subject.limits.discipline c.args.subject.limits.steps c.args.list.now c.args.marked.mark c.tell_again.result c.args.subject.most c.in_ok-again.again.mark can (c.in_ok-again.ensures.mark can) c.tell_again.ensures.mark
 
 pub returns-in_ok-again-clause-said : goal.returns-in_ok-again-clause-said
 returns-in_ok-again-clause-said g c = λ before.

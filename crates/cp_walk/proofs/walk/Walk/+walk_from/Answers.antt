@@ -4,6 +4,7 @@ use Rattle.std.specs.Prelude.{IfSome}
 use Rattle.cp_run.specs.declared.outcome.Halt.TheVariants.{Choice}
 use Rattle.cp_walk.proofs.Words.{Outcome, length-append, length-map, ChoiceLimit, machine_of, IsStateOf, node_of, slots, Choosing, those_below, may, chosen}
 use Rattle.cp_walk.proofs.Words.{beginnings, words_in, line_of, IsTooMany, behind, walk, IsDue}
+use Rattle.cp_run.proofs.Tracing.{counted}
 use Rattle.cp_walk.specs.Walked.{begun, within_span, AreWalked, IsWalked}
 use Rattle.cp_walk.specs.Walking.{HasRoom, HasWalked}
 use Rattle.cp_walk.specs.declared.memo.Span.{Span}
@@ -242,7 +243,7 @@ walk_child-returns g t c =
       };
       word = c.pop.ensures.rest ∙ ap (λ (w : List ℕ). take (length w - 1) w) (c.in_ok-walk_once.ensures.word ∙ c.push.ensures.items) ∙ popped word c.args.process;
       many = tt;
-      calls = omega (arith, same, c.choose-halt.ensures.calls, c.in_ok-walk_once.ensures.calls);
+      calls = omega (arith, same, counted true g.C.Count.counts _ _ c.choose-halt.ensures.calls, c.in_ok-walk_once.ensures.calls);
     }
 
 pub walk_child-returns-in_err-walk_once : goal.walk_child-returns-in_err-walk_once

@@ -1,6 +1,0 @@
-use Rattle.std.proofs.Common.{◌≡◌, map, take}
-use Rattle.cp_machine.specs.Machine.{monitor_of}
-use Rattle.cp_states.proofs.guards.copies_of_guards.Given as goal
-
-abbrev pub invariant-loop-guard : goal.invariant-loop-guard
-invariant-loop-guard l = map monitor_of l.guards.items ≡ map monitor_of (take l.guard-index l.from)

@@ -1,0 +1,3 @@
+begin
+  for abs := 1 to true do
+end.

@@ -1,0 +1,4 @@
+function f: integer; begin end;
+begin
+  f := true
+end.

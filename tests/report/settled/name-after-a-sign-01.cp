@@ -1,0 +1,3 @@
+const c = -
+  x;
+begin end.

@@ -1,0 +1,4 @@
+type t = integer;
+const c = -
+  t;
+begin end.

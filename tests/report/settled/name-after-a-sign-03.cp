@@ -1,0 +1,3 @@
+const b = true; c = -
+  b;
+begin end.

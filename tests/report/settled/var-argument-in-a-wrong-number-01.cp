@@ -1,0 +1,3 @@
+procedure p(var a: integer); begin end;
+begin p(
+  succ, 1) end.
