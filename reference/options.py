@@ -60,8 +60,9 @@ def read(words):
 def value_of(name, value):
     if name in NUMBERS:
         low, high = NUMBERS[name]
-        if re.fullmatch(r"\+?[0-9]+", value) and low <= int(value) <= max(high, MOST_CHOICES if name == "--choices" else high):
-            return int(value)
+        digits = re.fullmatch(r"\+?0*([0-9]{1,8})", value)          # Python reads no number of 5,000 digits
+        if digits and low <= int(digits[1]) <= (MOST_CHOICES if name == "--choices" else high):
+            return int(digits[1])
     elif name in NAMED:
         if value in NAMED[name]:
             return value
@@ -87,4 +88,5 @@ def meant(given, file):
     choices, schedule = given.get("--choices", MOST_CHOICES if "--ends" in flags else 8), given.get("--schedule")
     if choices > most or schedule and len(schedule) > most:
         raise Refused(f"more than {most} choices")
-    return Options(choices, given.get("--steps", 1000), given.get("--states", 200_000), gates, signals, flags, schedule, file)
+    states = given.get("--states", 2_000_000 if "--at-once" in flags else 200_000)
+    return Options(choices, given.get("--steps", 1000), states, gates, signals, flags, schedule, file)

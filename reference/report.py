@@ -1,5 +1,5 @@
 """The text of answers: docs/REPORT.md, A report to A trace."""
-from schedules import MOST_ROWS, STEP_LIMIT, TooMany, layers, outcomes, rows, trace
+from schedules import STEP_LIMIT, outcomes
 
 MOST_VALUES = 1000
 RUN_ERRORS = ["overflow", "zero-divisor", "range", "no-case", "queue-in-use", "not-init", "init-twice", "assertion", "invariant"]
@@ -64,16 +64,21 @@ def waits_text(lines):
                                      for process, (first, again, how) in lines.items()]]
 
 
+def end_order(item):
+    """Calls at once: the order of ends."""
+    kind, *rest = item[0].split()
+    name, process, line = (rest[0], int(rest[2]), int(rest[4])) if kind == "run-error" else ("overflow", int(rest[-1]) if rest else 0, 0)
+    return ENDS.index(kind), process, line, RUN_ERRORS.index(name)
+
+
+def value_order(item):
+    """Calls at once: the order of values."""
+    base, number = item[0]
+    return BASES.index(base.name), base.token, number
+
+
 def at_once_text(found):
     """Calls at once."""
-    def end_order(item):
-        kind, *rest = item[0].split()
-        name, process, line = (rest[0], int(rest[2]), int(rest[4])) if kind == "run-error" else ("overflow", int(rest[-1]) if rest else 0, 0)
-        return ENDS.index(kind), process, line, RUN_ERRORS.index(name)
-
-    def value_order(item):
-        base, number = item[0]
-        return BASES.index(base.name), base.token, number
     head = f"states {len(found.words)} at once" if found.choices is None else "too many states"
     return [head, *found_text(sorted(found.ends.items(), key=end_order), sorted(found.values.items(), key=value_order), "by"),
             *([f"not settled: {STEP_LIMIT}"] if STEP_LIMIT in found.ends else [])]

@@ -8,7 +8,7 @@ from collections import ChainMap
 from typing import Optional, Union
 import tree
 from tree import (Array, Base, Binary, BOOLEAN, CHAR, Constant, Expression, Group, Index, INTEGER, Node, Ordinal, Parenthesised, Queue, QUEUE,
-                  Record, Refusal, Routine, Set, SetOf, Standard, Statement, System, Type, Unary, Use, Variable)
+                  Record, Refusal, Routine, Set, SetOf, Standard, System, Type, Unary, Use, Variable)
 
 TYPES = (Ordinal, Set, Array, Record, Queue, System)
 MOST_CELLS = 8192                    # of a type, and of all components

@@ -123,9 +123,10 @@ class Graph:
         found.node, found.end = None, kind
         if kind in (CHOICE, GATE_CHOICE):
             frozen = s.frozen()
-            found.node, found.end = self.numbers.setdefault(frozen, len(self.states)), None
-            if found.node == len(self.states):
+            if frozen not in self.numbers:               # (the state first: who stops here leaves no number without one)
                 self.states.append(frozen)
+                self.numbers[frozen] = len(self.states) - 1
+            found.node, found.end = self.numbers[frozen], None
 
 
 def with_output(output, found):

@@ -121,9 +121,9 @@ def compare(path, sign):
 def main(words):
     if words == ["sums"]:
         print(" ".join(f"{name}={sum_of(name)}" for name in programs()))
-    elif words[:1] == ["record"] and len(words) <= 2:
+    elif words[:1] == ["record"] and len(words) <= 2 and all("=" in it for it in " ".join(words[1:]).split()):
         return record_all(dict(it.split("=", 1) for it in " ".join(words[1:]).split()))
-    elif words[:1] == ["compare"] and len(words) == 3:
+    elif words[:1] == ["compare"] and len(words) == 3 and Path(words[1]).is_file():
         compare(Path(words[1]), words[2])
     else:
         print(__doc__, file=sys.stderr)

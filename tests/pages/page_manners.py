@@ -4,7 +4,7 @@ import re
 import time
 import zlib
 
-from page_data import Play, limited, played, prospects_of
+from page_data import Play, limited, prospects_of
 
 # A writer works alone for long, after its reader has ended.
 STRETCH = b"""type shelf = monitor; var n: integer;

@@ -36,7 +36,7 @@ def below(crate):
 
 
 class Page:
-    """A page that says an edit: its pairs of texts, each with its file. A control has a line 'control: WHY'."""
+    """A page that says an edit: its pairs of texts, each with its file. A control begins with 'control: WHY'."""
 
     def __init__(self, path, text):
         self.path, self.crate, self.name = path, path.parent.parent, f"{path.parent.parent.name}/{path.stem}"

@@ -61,4 +61,4 @@ def faults(records):
         for name in edits:
             by = records[name].by.split("::")[-1] if name in records else "crate"
             if by != "crate" and not name.startswith("cp_meaning/") and by not in functions:
-                yield f"{DOCUMENT.name}:{number}: {name} is refused by {by}, which stands not there"
+                yield f"{DOCUMENT.name}:{number}: {name} is refused by {by}, which is not named there"

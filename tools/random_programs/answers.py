@@ -3,8 +3,6 @@ import json
 import subprocess
 
 SECONDS = 20
-# Statuses with which an answer is compared: reported, refused, too many, fails, not settled.
-ANSWERED = (0, 1, 5, 6, 7)
 
 
 class Differs(Exception):

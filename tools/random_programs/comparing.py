@@ -40,7 +40,7 @@ def compare(question, source, meaning, programs):
 
 def refusal(question, source, meaning, programs):
     lines, status = programs.lines(["--choices", "0", "--steps", "1"], source)
-    want_same("refused", lines[0] if status == 1 else None, meaning.refused)
+    want_same("refused", " ".join(lines) if status == 1 else None, meaning.refused)
     told, status = programs.object(["refusal", "--json"], source)
     want_same("accepted", told.get("accepted"), meaning.refused is None)
     want_same("status of a refusal", status, 0 if meaning.refused is None else 1)
@@ -105,26 +105,23 @@ def at_once(question, source, meaning, programs):
     ends, values = set(plain.ends), {report.value_text(value) for value in plain.values}
     led = [LED_TO.fullmatch(line).groups() for line in told if line.startswith("by ")]
     told_ends, told_values = {what for _, shows, what in led if not shows}, {what for _, shows, what in led if shows}
-    is_settled = status == 0 and "step-limit" not in told_ends
+    # (what is kept is some of the states that --ends alone keeps, so these are not too many either)
+    want_same("status", status, 0)
+    is_settled = "step-limit" not in told_ends
     want_same("ends that are not possible", sorted(told_ends - ends - {"step-limit"}), [])
     want_same("values that are not possible", sorted(told_values - values), [])
     if is_settled:
         want_same("ends", sorted(told_ends), sorted(ends - {"step-limit"}))
         if len(values) < MOST_VALUES:
             want_same("values", sorted(told_values), sorted(values))
-    want_same("not settled", "not settled: step-limit" in told, "step-limit" in told_ends and status == 0)
+    want_same("not settled", "not settled: step-limit" in told, not is_settled)
     for word, shows, what in led:
         followed = meaning.follow([it for it in question.words if it != "--at-once"], numbers(word))
         led_to = None if followed is None else {report.value_text(it) for one in followed for it in one.shown} if shows else {followed[-1].end}
         if led_to is None or what not in led_to and not (not shows and what.split()[0] in ("alone", "spins") and led_to == {"step-limit"}):
             raise Differs(f"what {word} leads to", what, sorted(map(str, led_to or [])))
-    check_order(told, meaning)
-
-
-def check_order(told, meaning):
-    """The lines are those of the reference's report of the same ends, in its order."""
-    kinds = [line.split()[2] for line in told if line.startswith("by ") and " shows " not in line]
-    want_same("order of ends", [report.ENDS.index(kind) for kind in kinds], sorted(report.ENDS.index(kind) for kind in kinds))
+    order = [report.end_order((what, word)) for word, shows, what in led if not shows]
+    want_same("order of ends", order, sorted(order))
 
 
 # -- outcomes in JSON, with simplest schedules and causes

@@ -2,7 +2,7 @@
 from random_programs.chooser import Chooser
 from random_programs.declarations import Declarations, written
 from random_programs.expressions import Expressions
-from random_programs.kinds import BOOLEAN, INTEGER, Here, Ordinal, Place, Routine, System
+from random_programs.kinds import INTEGER, Here, Ordinal, Place, Routine, System
 from random_programs.small_worlds import SmallWorld
 from random_programs.statements import Statements
 from random_programs.tokens import laid_out, strewn, tokens_of

@@ -1,6 +1,6 @@
 #!/usr/bin/env node
 // drive.mjs PAGE [FOLDER]: opens the page in headless chromium with the network off, and goes through what a student does, by mouse and keys. With a FOLDER it leaves a picture
-// of each view at each size there. The status is 1 where anything is not as it should be. CPX_DRIVE_SHORT=1 makes fewer edits.
+// of each view at each size there. The status is 1 where anything is not as it should be. CPX_DRIVE_SHORT=1 makes fewer edits, at fewer sizes.
 import { mkdirSync, mkdtempSync, readFileSync, rmSync, writeFileSync } from "node:fs";
 import { tmpdir } from "node:os";
 import { join, resolve } from "node:path";
@@ -144,7 +144,7 @@ async function refuses(tab) {
   check("a hint in another colour", (await count(tab, ".CodeMirror .hint")) > 0 && (await count(tab, ".CodeMirror .fault")) === 0);
 }
 
-async function keepsDrafts(browser, tab) {
+async function keepsDrafts(tab) {
   await choose(tab, "lost-update");
   await write(tab, `${examples["lost-update"]}\n"mine"`);
   await shown(tab);
@@ -196,7 +196,6 @@ async function shares(browser, tab) {
 
 async function stops(tab) {
   await choose(tab, "philosophers-five-butler");
-  await tab.value("document.body.dataset.busy ?? ''");
   check("what runs by itself has a limit, and says that it was reached", (await textOf(tab, "#panel .message")).includes("takes longer than the 5 seconds"));
   await tab.click("#panel .message button");
   await tab.until("!document.getElementById('progress').hidden && /choices done/.test(document.getElementById('progress-text').textContent)");
@@ -301,8 +300,9 @@ async function opensFiles(tab) {
   check("a file is dropped", (await source(tab)) === "begin display(8) end.");
   await tab.call("Page.setDownloadBehavior", { behavior: "allow", downloadPath: work });
   await tab.click("#save-file");
-  await sleep(600);
-  check("and saved", (() => { try { return readFileSync(join(work, "dropped.cp"), "utf8") === "begin display(8) end."; } catch { return false; } })());
+  const saved = () => { try { return readFileSync(join(work, "dropped.cp"), "utf8"); } catch { return ""; } };
+  for (let tries = 0; tries < 200 && !saved(); tries++) await sleep(50);
+  check("and saved", saved() === "begin display(8) end.");
 }
 
 // The module as the page has it, with other bytes.
@@ -444,7 +444,7 @@ try {
   await opensFiles(first);
   await keepsHostileTextAsText(first);
   await worksByKeysAlone(first);
-  await keepsDrafts(browser, first);
+  await keepsDrafts(first);
   await shares(browser, first);
   await showsWhatIsGiven(browser);
   await stops(first);
