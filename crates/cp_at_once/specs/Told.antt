@@ -36,8 +36,8 @@ tells_end ends e = list_any (λ x. ends_tests.end x.0 e) ends
 abbrev pub tells_value : ValuesWithWords → Shown → Bool
 tells_value values v = list_any (λ x. ends_tests.value x.0 v) values || nat_lt MOST_VALUES (length values)
 
--- The states, each once, the ends and the values are led to by their words. If each state was expanded and no stretch was cut, no other end and no
--- other value is possible, on the program's own names; if not each was, words lead to more states than may be kept.
+-- The states, each once, the ends and the values are led to by their words. If each state was expanded under the book's discipline and no stretch was cut,
+-- no other end and no other value is possible, on the program's own names; if not each was, words lead to more states than may be kept.
 pub record AreFindings (r : Tables) (discipline : Discipline) (steps most : ℕ) (f : SlotFindings) (whole : Bool) : Type 0 where
   pub few : length f.states ≤ most
   pub apart : AllPairs (λ x y. x.0 ≢ y.0) f.states

@@ -22,7 +22,7 @@ use cp_walk::text::{push_count, push_output, push_word};
 use cp_walk::{Report, Text};
 use std::alloc::{AllocError, Global};
 
-/// The report of a search: how many states are kept, or that there are too many; then ends and values in their order, each with a word that leads there.
+/// The report of a search: how many states are kept, or that there are too many; then the ends and the values, each with a word that leads there.
 pub fn at_once_report(
     alloc: Global,
     program: &Resolved,

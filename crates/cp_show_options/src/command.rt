@@ -131,6 +131,13 @@ const LAYER_STATES: OptionWords = OptionWords::Valued(
     "States that a layer may have, 1 to 10000000 [default: 200000]",
 );
 
+// The same of schedules of any length too, as an expectation may be of them.
+const LAYER_OR_ENDS_STATES: OptionWords = OptionWords::Valued(
+    "states",
+    "N",
+    "States that a layer may have, or that there may be in all with --ends, 1 to 10000000 [default: 200000, with --at-once 2000000]",
+);
+
 // The same of one schedule, which may be one of any length.
 const LAYER_OR_ALL_STATES: OptionWords = OptionWords::Valued(
     "states",
@@ -267,7 +274,7 @@ static PARTS: [PartWords; 7] = [
         name: "mark",
         about: "Says whether what is expected of all schedules holds: never TOPIC, some TOPIC, only TOPIC..",
         usage: "cpx_show mark [OPTIONS] [EXPECTATION..] < PROGRAM",
-        options: &[MARKING, LIMITS, &[LAYER_STATES]],
+        options: &[MARKING, LIMITS, &[LAYER_OR_ENDS_STATES]],
         notes: EXPECTATIONS,
     },
 ];

@@ -27,8 +27,8 @@ use cp_legend::Legend;
 use cp_run::RunEnd;
 use std::alloc::{AllocError, Global};
 
-/// The lines of a story: one for each event, with its number where sentences name events, a heading before the one with which a round begins, one for each process that waits, one that says why a
-/// number can't be taken or that numbers are left, and `end`, the last line of the plain trace.
+/// The lines of a story: one for each event, with its number where sentences name events, and a heading before the one with which a round begins; one for each process
+/// that waits; one that says why a number can't be taken, or that numbers are left; and `end`, the last line of the plain trace.
 pub fn text(
     alloc: Global,
     legend: &Legend,

@@ -71,7 +71,7 @@ LeavesNobodyOn g keeping = (p : ℕ) → p < g.processes → IsUnservedOn g keep
 abbrev pub StandsStill : Graph → ℕ → Type 0
 StandsStill g q = (still : Standstill) × Contains g.standstills.items still × (has still.again.wait q ≡ true)
 
--- Only of such a process it may be left open whether it waits for ever: it waits in a stretch without a choice; or nobody is left unserved while it waits, or
+-- Only of such a process it may be left open whether it waits for ever: it waits in a stretch that goes on for ever without a choice; or nobody is left unserved while it waits, or
 -- while it is in its call.
 abbrev pub MayBeOpen : Graph → ℕ → Type 0
 MayBeOpen g q = StandsStill g q ⊎ (LeavesNobodyOn g (keeping.Waiting q) ⊎ LeavesNobodyOn g (keeping.Inside q))

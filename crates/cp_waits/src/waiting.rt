@@ -44,7 +44,7 @@ pub struct Waiting {
 #[derive(Drop)]
 pub enum Waits {
     Known(Vec<Waiting>),
-    /// Of the first such process neither a way to wait for ever was found nor a reason why there is none.
+    /// The first process of which neither a way to wait for ever was found nor a reason why there is none.
     NotSettled(u8),
 }
 

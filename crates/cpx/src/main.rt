@@ -139,6 +139,7 @@ fn explore_streams<X: Threads + Sync, O: ObserveWork, A: Ledger, B: Ledger>(
 }
 
 /// The status of answering what a source has, as the words ask whose options these are: what is written is the answer by these options, and nothing else.
+// The words are there for the contract alone.
 fn exploration_status<X: Threads + Sync, O: ObserveWork, R: Source, W: Sink>(
     rt: &X,
     alloc: Global,

@@ -37,7 +37,7 @@ pub fn knowledge_at_once(
     })
 }
 
-/// Where there were too many states, the schedules of no choice were looked at.
+/// None exactly where each state was expanded; else it is said that the schedules without a choice were looked at.
 fn numbers_looked_at(found: &FoundAtOnce) -> Option<usize>
     ensures { is_none result ≡ found.now.is_whole }
 {
