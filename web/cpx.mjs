@@ -33,10 +33,10 @@ function open(file, words) {
     if (process.stdin.isTTY && !isAsked) process.stderr.write(`${COMMAND}: reads the program from the keyboard, up to Control-D (or name a file: ${COMMAND} .. program.cp)\n`);
     return 0;
   }
-  const found = statSync(file, { throwIfNoEntry: false });
-  if (!found) refuse(`there is no file ${file}`, 2);
-  if (found.isDirectory()) refuse(`${file} is a folder`, 2);
   try {
+    const found = statSync(file, { throwIfNoEntry: false });
+    if (!found) refuse(`there is no file ${file}`, 2);
+    if (found.isDirectory()) refuse(`${file} is a folder`, 2);
     accessSync(file, constants.R_OK);
     return openSync(file, "r");
   } catch {
@@ -117,7 +117,8 @@ async function main() {
   const given = process.argv.slice(2), lacking = missing();
   if (lacking) refuse(`this node (${process.version}) lacks ${lacking}: node 18 or a later one has it`, 127);
   const file = given[0] === "--module" ? given.splice(0, 2)[1] : PAGE;
-  const module = await moduleIn(file ?? "").catch((it) => refuse(`there is no module to run in ${file}: ${it.message}`, 127));
+  if (!file) refuse("--module needs a file: a page, or a module that ends in .wasm", 2);
+  const module = await moduleIn(file).catch((it) => refuse(`there is no module to run in ${file}: ${it.message}`, 127));
   let asked;
   try {
     asked = readWords(given, (words) => helpOf(module, words));

@@ -1,4 +1,4 @@
-// program.js: runs the compiled program, anew for each command. The page's worker, node and an editor's extension share it. It imports nothing: without the words
+// program.js: runs the compiled program, anew for each command. The page's worker and node share it. It imports nothing: without the words
 // `export` its text may stand in a script or in a worker.
 
 /**
@@ -76,7 +76,7 @@ export function run(module, words, { read, write, isTerminal = false }) {
  */
 function faultOf(it) {
   const text = String(it);
-  return it instanceof RangeError || text.includes("out of bounds") || text.includes("recursion") ? TOO_DEEP : `The explorer was stopped by a fault of the machine: ${text}.`;
+  return it instanceof RangeError || /out of bounds|recursion/i.test(text) ? TOO_DEEP : `The explorer was stopped by a fault of the machine: ${text}.`;
 }
 
 /**

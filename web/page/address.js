@@ -9,11 +9,12 @@ import { safe } from "./options.js";
 const MOST_BYTES = 1 << 20;
 
 /**
- * The part behind #, without it.
+ * The part behind #, without it. It fails where the program is too long to be read from an address.
  * @param {Shared} shared
  */
 export async function packed(shared) {
   const bytes = new TextEncoder().encode(JSON.stringify({ cpx: 1, ...shared }));
+  if (bytes.length > MOST_BYTES) throw new Error("too long");
   const small = new Uint8Array(await new Response(new Blob([bytes]).stream().pipeThrough(new CompressionStream("deflate-raw"))).arrayBuffer());
   let letters = "";
   for (const byte of small) letters += String.fromCharCode(byte);
@@ -55,7 +56,7 @@ async function inflated(bytes) {
  */
 export function shared(given) {
   if (typeof given?.source !== "string") throw new Error("no program");
-  const name = typeof given.name === "string" ? given.name.replace(/[^\w .-]/g, "").slice(0, 60) : "";
+  const name = typeof given.name === "string" ? given.name.replace(/[^\p{L}\p{M}\p{N}_ .-]/gu, "").slice(0, 60) : "";
   return { name: name || "program", source: given.source, options: safe(given.options), view: typeof given.view === "string" ? given.view : "", schedule: scheduleOf(given.schedule) };
 }
 

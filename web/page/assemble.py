@@ -16,8 +16,8 @@ DECLARED = re.compile(r"^(?:export )?(?:async )?(?:const|let|function|class) (\w
 
 def page_of(program, about):
     """The bytes of the page. `program` is the module with gzip, in base64; `about` has the version, the checksum of the sources, and whether the module is proved."""
-    scripts = {"EDITOR": editor_file("codemirror.js"), "APP": f'"use strict";\n(() => {{\n{bundled(PAGE / "main.js")}}})();\n'}
-    styles = {"EDITOR_STYLE": editor_file("codemirror.css"), "STYLE": (PAGE / "style.css").read_text()}
+    scripts = {"EDITOR": licensed("codemirror.js"), "APP": f'"use strict";\n(() => {{\n{bundled(PAGE / "main.js")}}})();\n'}
+    styles = {"EDITOR_STYLE": licensed("codemirror.css"), "STYLE": (PAGE / "style.css").read_text()}
     parts = {
         **scripts,
         **styles,
@@ -47,6 +47,11 @@ def examples():
 def inert(value):
     """JSON that neither ends nor begins anything in the page."""
     return json.dumps(value, ensure_ascii=True).replace("<", "\\u003c").replace("&", "\\u0026")
+
+
+def licensed(name):
+    """A file of the editor library behind its licence, which asks to go with each copy."""
+    return f"/*\n{editor_file('LICENSE')}*/\n{editor_file(name)}"
 
 
 def editor_file(name):

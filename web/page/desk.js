@@ -7,7 +7,6 @@ import { namedIn, read } from "./options.js";
 import { EMPTY, examples } from "./programs.js";
 import { spelled } from "./words.js";
 
-/** @typedef {import("./types.js").Program} Program */
 /** @typedef {import("./address.js").Shared} Shared */
 /** @typedef {{ source: string, original: string, key: string, name: string, options: import("./types.js").Options, view: string, schedule: import("./types.js").Schedule | null }} Opening */
 
@@ -21,20 +20,19 @@ export class Desk {
     this.key = "";
     this.name = "";
     this.original = "";
-    this.isFromAddress = false;
     this.canKeep = true;
   }
 
   /** What is to be seen first: what the page or its address holds, or else what was open last. */
   async begin() {
-    const given = dataOf("given");
     if (location.hash.length > 1) await this.fromAddress();
-    else if (given) this.fromOutside(shared(given), "page");
-    else this.openLast();
+    else this.openUsual();
   }
 
-  openLast() {
-    this.open(this.known(lastProgram()) ? lastProgram() : FIRST);
+  openUsual() {
+    const given = dataOf("given");
+    if (given) this.fromOutside(shared(given), "page");
+    else this.open(this.known(lastProgram()) ? lastProgram() : FIRST);
   }
 
   async fromAddress() {
@@ -42,7 +40,7 @@ export class Desk {
       const it = await unpacked(location.hash);
       if (it) this.fromOutside(it, "address");
     } catch {
-      if (!this.key) this.openLast();
+      if (!this.key) this.openUsual();
       notice("The part of this address behind # holds no program that can be read. Perhaps it was cut when it was copied. What is shown below is not of it.", "bad");
     }
   }
@@ -52,11 +50,10 @@ export class Desk {
    * @param {string} from
    */
   fromOutside(it, from) {
-    const key = `${from}:${checksum(it.source)}`;
-    this.isFromAddress = from === "address";
+    dismissNotices();
+    const { key, taken } = keyFor(`${from}:${checksum(it.source)}`, it.source);
     this.set({ ...it, key, original: it.source });
-    const draft = draftOf(key);
-    if (draft && draft.source !== it.source) notice(`You have changed this program before. Your draft is kept beside it.`, "plain", doing("Open the draft", () => this.open(key)));
+    if (taken) notice("You have changed this program before. Your draft is kept beside it.", "plain", doing("Open the draft", () => this.open(taken)));
   }
 
   /**
@@ -79,7 +76,18 @@ export class Desk {
     const { options, isEndless } = namedIn(source);
     this.set({ key, name: draft?.name ?? example?.name ?? "program", source, original: example?.source ?? source, options: draft?.options ?? options, view: isEndless ? "ends" : "", schedule: null });
     lastProgram(key);
-    if (draft && example && draft.source !== example.source) notice(`This is your draft of ${example.name}.`, "plain", doing("Back to the original", () => { dropDraft(key); this.open(key); }));
+    if (draft && example && draft.source !== example.source) notice(`This is your draft of ${example.name}.`, "plain", doing("Back to the original", () => this.backToOriginal(key)));
+  }
+
+  /**
+   * Opens an example anew without its draft, which can be taken back.
+   * @param {string} key
+   */
+  backToOriginal(key) {
+    const draft = draftOf(key);
+    dropDraft(key);
+    this.open(key);
+    if (draft) notice("Your draft was thrown away.", "plain", doing("Take it back", () => { keepDraft(key, draft); this.open(key); }));
   }
 
   /**
@@ -91,11 +99,10 @@ export class Desk {
   begins(name, source, from) {
     dismissNotices();
     this.leaveAddress();
-    const key = `${from}:${name}`;
-    const draft = draftOf(key);
+    const { key, taken } = keyFor(`${from}:${name}`, source);
     const { options, isEndless } = namedIn(source);
     this.set({ key, name, source, original: source, options, view: isEndless ? "ends" : "", schedule: null });
-    if (draft && draft.source !== source) notice(`You have a draft of another text of ${name}.cp.`, "plain", doing("Open the draft", () => this.open(key)));
+    if (taken) notice(`You have a draft of another text of ${name}.cp.`, "plain", doing("Open the draft", () => this.open(taken)));
     else if (!keepDraft(key, { name, source, options, at: Date.now() })) this.saysNothingKept();
   }
 
@@ -137,14 +144,18 @@ export class Desk {
   // The address as it was stays one step back in the history.
   leaveAddress() {
     if (location.hash.length > 1) history.pushState(null, "", location.href.split("#")[0]);
-    this.isFromAddress = false;
   }
 
   /** @param {Shared} it */
   async share(it) {
-    const part = `#${await packed(it)}`;
-    history.replaceState(null, "", part);
-    this.isFromAddress = true;
+    let part = "#";
+    try {
+      part += await packed(it);
+      history.replaceState(null, "", part);
+    } catch {
+      notice("This program is too long for an address. Save it as a file.", "bad");
+      return;
+    }
     const isFile = location.protocol === "file:";
     const text = isFile ? part : location.href;
     const means = isFile ? "It is the part of the address behind #, of " : "It is an address of ";
@@ -160,6 +171,21 @@ export class Desk {
       dialog("Share", make("p", { textContent: `Copy this text. ${rest}` }), area);
       area.select();
     }
+  }
+}
+
+/**
+ * The key of a program that comes from outside: one under which no draft of another text is kept, so that what is typed replaces none; and the last key that such a draft has taken.
+ * @param {string} base
+ * @param {string} source
+ */
+function keyFor(base, source) {
+  let key = base, taken = "";
+  for (let number = 2; ; number++) {
+    const draft = draftOf(key);
+    if (!draft || draft.source === source) return { key, taken };
+    taken = key;
+    key = `${base}.${number}`;
   }
 }
 

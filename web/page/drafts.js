@@ -1,4 +1,6 @@
 // drafts.js: what was typed, one draft for each program, kept by the browser until it is taken back.
+import { safe } from "./options.js";
+
 /** @typedef {import("./types.js").Options} Options */
 /** @typedef {{ name: string, source: string, options: Options, at: number }} Draft */
 
@@ -11,7 +13,7 @@ const BEFORE = "cpx.draft.", CURRENT = "cpx.current";
 export function draftOf(key) {
   try {
     const draft = JSON.parse(localStorage.getItem(BEFORE + key) ?? "null");
-    return draft && typeof draft.source === "string" && typeof draft.name === "string" ? draft : null;
+    return draft && typeof draft.source === "string" && typeof draft.name === "string" ? { ...draft, options: safe(draft.options) } : null;
   } catch {
     return null;
   }

@@ -10,6 +10,7 @@ import { concurrentPascal } from "./language.js";
  * @property {(text: string) => void} setValue
  * @property {() => void} clearHistory
  * @property {() => number} lineCount
+ * @property {(line: number) => string | undefined} getLine
  * @property {(name: string, value: unknown) => void} setOption
  * @property {(name: string, does: (...given: any[]) => void) => void} on
  * @property {() => void} focus
@@ -21,8 +22,8 @@ import { concurrentPascal } from "./language.js";
  * @property {(text: string) => void} replaceSelection
  * @property {() => boolean} somethingSelected
  * @property {(name: string) => void} execCommand
- * @property {(line: number, where: string, name: string) => void} addLineClass
- * @property {(line: number, where: string, name: string) => void} removeLineClass
+ * @property {(line: number, where: string, name: string) => object} addLineClass Answers the line itself, which keeps its class where lines are put before it.
+ * @property {(line: object, where: string, name: string) => void} removeLineClass
  * @property {(from: Place, to: Place, how: object) => { clear: () => void }} markText
  * @property {(line: number, gutter: string, element: HTMLElement | null) => void} setGutterMarker
  * @property {(gutter: string) => void} clearGutter
@@ -63,7 +64,7 @@ export class Editor {
     this.code.on("change", (_, change) => { if (change.origin !== "setValue") changed(); });
     /** @type {{ clear: () => void }[]} */
     this.marks = [];
-    /** @type {number | null} */
+    /** @type {object | null} */
     this.pointed = null;
     this.signs();
   }
@@ -101,7 +102,9 @@ export class Editor {
       for (const mark of this.marks) mark.clear();
       this.code.clearGutter("signs");
       this.marks = places.map(({ line, column, length, kind, sentence }) => {
-        const from = { line: line - 1, ch: Math.max(column - 1, 0) };
+        // What is missing at the end of a line is underlined at its last sign.
+        const last = (this.code.getLine(line - 1)?.length ?? 0) - 1;
+        const from = { line: line - 1, ch: Math.max(Math.min(column - 1, last), 0) };
         this.code.setGutterMarker(line - 1, "signs", make("span", { className: `sign ${kind}`, title: sentence, role: "img", "aria-label": `${kind === "fault" ? "refused" : "hint"}: ${sentence}` }));
         return this.code.markText(from, { line: from.line, ch: from.ch + Math.max(length, 1) }, { className: kind, title: sentence });
       });
@@ -114,10 +117,8 @@ export class Editor {
    */
   point(line) {
     if (this.pointed !== null) this.code.removeLineClass(this.pointed, "background", "here");
-    this.pointed = line === null ? null : line - 1;
-    if (this.pointed === null) return;
-    this.code.addLineClass(this.pointed, "background", "here");
-    this.code.scrollIntoView({ line: this.pointed, ch: 0 }, 80);
+    this.pointed = line === null ? null : this.code.addLineClass(line - 1, "background", "here");
+    if (line !== null) this.code.scrollIntoView({ line: line - 1, ch: 0 }, 80);
   }
 
   /**

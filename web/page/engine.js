@@ -29,6 +29,7 @@ export class Engine {
     this.asked = new Map();
     this.address = URL.createObjectURL(new Blob([byId("worker").textContent ?? ""], { type: "text/javascript" }));
     this.runs = 0;
+    this.isBroken = false;
     this.worker = this.begin();
   }
 
@@ -37,6 +38,7 @@ export class Engine {
     worker.onmessage = ({ data }) => this.hear(data);
     worker.onerror = (event) => {
       event.preventDefault();
+      this.isBroken = true;
       this.end({ status: 127, fault: NO_WORKER });
     };
     worker.postMessage({ module: this.module });
@@ -64,6 +66,7 @@ export class Engine {
    * @returns {Promise<Answer>}
    */
   run(words, source, tell) {
+    if (this.isBroken) this.renew();
     return new Promise((done) => {
       const id = this.next++;
       this.runs++;
@@ -79,6 +82,7 @@ export class Engine {
   renew() {
     this.worker.terminate();
     this.runs = 0;
+    this.isBroken = false;
     this.worker = this.begin();
   }
 

@@ -21,10 +21,16 @@ export class Explorer {
   /**
    * @param {string[]} words
    * @param {string} source
+   * @param {number} [limit] In milliseconds; 0 is none.
    * @returns {Promise<Answer>}
    */
-  async look(words, source) {
-    return this.known(words, source) ?? this.keep(words, source, await this.quick.run(words, source));
+  async look(words, source, limit = 0) {
+    const known = this.known(words, source);
+    if (known) return known;
+    const timer = limit ? setTimeout(() => this.quick.stop(TOO_LONG), limit) : 0;
+    const answer = await this.quick.run(words, source);
+    clearTimeout(timer);
+    return this.keep(words, source, answer);
   }
 
   /**

@@ -29,7 +29,7 @@ async function open(file, { opened, refused }) {
     return;
   }
   try {
-    opened(file.name.replace(/\.(cp|txt)$/i, "").replace(/[^\w .-]/g, "").slice(0, 60) || "program", new TextDecoder("utf-8", { fatal: true }).decode(await file.arrayBuffer()).replace(/\r\n?/g, "\n"));
+    opened(file.name.replace(/\.(cp|txt)$/i, "").replace(/[^\p{L}\p{M}\p{N}_ .-]/gu, "").slice(0, 60) || "program", new TextDecoder("utf-8", { fatal: true }).decode(await file.arrayBuffer()).replace(/\r\n?/g, "\n"));
   } catch {
     refused(`${file.name} can't be read as a text.`);
   }

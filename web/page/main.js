@@ -94,9 +94,9 @@ class Page {
    */
   async glance(words) {
     begin(`${words[0]} ..`);
-    const answer = await this.explorer.look(words, this.editor.text);
+    const answer = await this.explorer.look(words, this.editor.text, this.isPatient ? 0 : PATIENCE);
     this.settle();
-    this.isTooLong = false;
+    this.isTooLong = answer.status === 124;
     return answer;
   }
 
@@ -104,9 +104,17 @@ class Page {
     if (!this.explorer.isBusy) end();
   }
 
-  /** Ends what runs because one asked for it. */
+  /** Ends what runs because one asked for it. What waits for a pause in typing still comes. */
   stop() {
-    if (this.explorer.isBusy) say("stopped");
+    if (!this.explorer.isBusy) return;
+    say("stopped");
+    this.giveUp();
+  }
+
+  /** Ends what runs, since it is about another text or other options: nothing of it is shown any more. */
+  abandon() {
+    this.turn++;
+    byId("panel").removeAttribute("aria-busy");
     this.giveUp();
   }
 
@@ -122,7 +130,7 @@ class Page {
    * @param {import("./desk.js").Opening} opening
    */
   shown(opening) {
-    this.giveUp();
+    this.abandon();
     closeMenus();
     write(opening.options);
     this.laid = opening.schedule;
@@ -134,7 +142,7 @@ class Page {
 
   changed() {
     this.desk.changed(this.editor.text);
-    this.giveUp();
+    this.abandon();
     this.laid = null;
     this.editor.point(null);
     document.body.dataset.stale = "yes";
@@ -150,25 +158,29 @@ class Page {
     say("changed: Run answers anew");
   }
 
-  /** Looks where the program is refused, and what is likely to be wrong; whether it is accepted. */
+  /** Looks where the program is refused, and what is likely to be wrong. Answers whether a view may follow: not if the text is another one by now, or if it was stopped. */
   async look() {
-    const source = this.editor.text;
+    const source = this.editor.text, turn = this.turn;
     const answer = await this.explorer.look(["refusal", "--json", ...wordsOf(read(), "refusal")], source);
     this.settle();
-    if (source !== this.editor.text || answer.status === 130) return false;
+    if (source !== this.editor.text) return false;
+    if (answer.status === 130) {
+      if (turn === this.turn) this.showStopped();
+      return false;
+    }
     try {
       this.refusal = JSON.parse(answer.out);
     } catch {
       this.refusal = null;
       byId("panel").replaceChildren(messageCard("No answer", faultOfAnswer(answer)));
-      return false;
+      return true;
     }
     const refusal = /** @type {Refusal} */ (this.refusal);
     showProblems(refusal, (line, column) => this.visit(line, column));
     const fault = refusal.accepted ? [] : [{ line: refusal.line ?? 1, column: refusal.column ?? 1, length: refusal.length ?? 1, kind: /** @type {const} */ ("fault"), sentence: refusal.sentence ?? "" }];
     this.editor.underline([...fault, ...(refusal.hints ?? []).map((hint) => ({ ...hint, kind: /** @type {const} */ ("hint") }))]);
     byId("tab-source").classList.toggle("has-fault", !refusal.accepted);
-    return refusal.accepted;
+    return true;
   }
 
   /**
@@ -180,7 +192,7 @@ class Page {
     document.body.dataset.stale = "yes";
     this.isPatient = isAsked;
     if (isAsked && this.view === "source") this.view = "outcomes";
-    void this.look().then(() => this.turnTo(this.view));
+    void this.look().then((follows) => { if (follows) this.turnTo(this.view); });
   }
 
   /**
@@ -207,7 +219,7 @@ class Page {
   async refresh() {
     const turn = ++this.turn, panel = byId("panel");
     panel.setAttribute("aria-busy", "true");
-    const content = await this.content();
+    const content = await this.content().catch(() => [messageCard("No answer", "The answer can't be read: it was cut off, perhaps since there is not enough memory. Try smaller --choices.")]);
     if (turn !== this.turn) return;
     panel.removeAttribute("aria-busy");
     delete document.body.dataset.stale;
@@ -241,7 +253,7 @@ class Page {
   async table(words, view) {
     const answer = await this.ask(words);
     if (answer.status === 130 || answer.status === 124) return [this.unanswered()];
-    if (!answer.out) return [messageCard("No answer", faultOfAnswer(answer))];
+    if (!answer.out || answer.fault) return [messageCard("No answer", faultOfAnswer(answer))];
     const content = view(this.context, JSON.parse(answer.out));
     const total = content.find((it) => it instanceof HTMLElement && it.className === "total")?.textContent ?? words[0];
     say(`${total}, in ${timeOf(answer.milliseconds)}`);
@@ -263,6 +275,12 @@ class Page {
     } catch {
       // Where there is no outcome the empty schedule is laid out.
     }
+  }
+
+  showStopped() {
+    this.isTooLong = false;
+    delete document.body.dataset.stale;
+    byId("panel").replaceChildren(this.unanswered());
   }
 
   /** What stands where an answer was given up. */
@@ -317,7 +335,7 @@ class Page {
     button("stop").onclick = button("progress-stop").onclick = () => this.stop();
     button("save-file").onclick = () => { download(current(), `${this.desk.name}.cp`, "text/plain"); say(`saved as ${this.desk.name}.cp`); };
     button("share").onclick = () => { closeMenus(); void this.desk.share({ name: this.desk.name, source: current(), options: read(), view: this.view, schedule: this.laid }); };
-    listen(() => { this.laid = null; if (current() !== this.desk.original) this.desk.changed(current()); this.run(false); }, current);
+    listen(() => { this.abandon(); this.laid = null; this.desk.changed(current()); this.run(false); }, current);
     listenForFiles({ opened: (name, source) => this.desk.begins(name, source, "file"), refused: (sentence) => notice(sentence, "bad") });
     listenForKeys({ run: () => this.run(true), stop: () => this.stop(), nextProblem: () => this.nextProblem(), focusProgram: () => this.focusProgram(), focusAnswers: () => this.focusAnswers() });
     const drop = (/** @type {string} */ key) => {
@@ -332,6 +350,7 @@ class Page {
     button("open-options").onclick = () => { closeMenus(); /** @type {HTMLButtonElement} */ (document.querySelector("#options > button")).click(); };
     button("wide").onclick = () => this.widen();
     makeTabs((view) => this.open(view));
+    /** @type {HTMLAnchorElement} */ (document.querySelector(".skip")).onclick = (event) => { event.preventDefault(); this.focusAnswers(); };
     addEventListener("hashchange", () => { if (location.hash.length > 1) void this.desk.fromAddress(); });
     const print = () => { byId("printed-program").textContent = `${this.desk.name}.cp\n\n${current().split("\n").map((line, place) => `${String(place + 1).padStart(4)}  ${line}`).join("\n")}`; };
     addEventListener("beforeprint", print);

@@ -13,7 +13,12 @@ export function menu(id, opening = () => {}) {
   const whole = byId(id), panel = byId(`${id}-panel`);
   const opener = /** @type {HTMLButtonElement} */ (whole.querySelector("button[aria-controls]"));
   const set = (/** @type {boolean} */ isOpen) => opener.setAttribute("aria-expanded", String(isOpen));
-  const close = () => { if (opener.getAttribute("aria-expanded") === "true") set(false); };
+  const close = () => {
+    if (opener.getAttribute("aria-expanded") !== "true") return;
+    const isWithin = panel.contains(document.activeElement);
+    set(false);
+    if (isWithin) opener.focus();
+  };
   closers.push(close);
   opener.addEventListener("click", () => {
     const isOpen = opener.getAttribute("aria-expanded") !== "true";
@@ -26,7 +31,6 @@ export function menu(id, opening = () => {}) {
     if (event.key !== "Escape" || opener.getAttribute("aria-expanded") !== "true") return;
     event.stopPropagation();
     close();
-    opener.focus();
   });
   document.addEventListener("pointerdown", (event) => { if (!whole.contains(/** @type {Node} */ (event.target))) close(); });
   whole.addEventListener("focusout", (event) => { if (event.relatedTarget && !whole.contains(/** @type {Node} */ (event.relatedTarget))) close(); });

@@ -22,8 +22,8 @@ const FORBIDDEN = "script, style, foreignObject, a, image, use, iframe, animate,
 export async function pictureView(context) {
   const isPlain = how.isPlain ?? byId("panel").clientWidth < WIDE_ENOUGH;
   const answer = await context.look(["lanes", ...scheduleWords(context.schedule), ...(isPlain ? ["--plain"] : []), ...context.words("lanes", context.schedule.isEndless)]);
-  if (answer.status === 130) return null;
-  const drawn = answer.out ? drawingOf(answer.out) : null;
+  if (answer.status === 130 || answer.status === 124) return null;
+  const drawn = answer.out && !answer.fault ? drawingOf(answer.out) : null;
   const save = drawn && doing("Save as SVG", () => download(answer.out, "schedule.svg", "image/svg+xml"));
   const plain = checkbox("for slides", isPlain, (isChecked) => {
     how.isPlain = isChecked;

@@ -16,8 +16,9 @@ import { faultOfAnswer, processOf, spelled } from "./words.js";
 export async function traceView(context) {
   const words = ["trace", ...scheduleWords(context.schedule), ...context.words("trace", context.schedule.isEndless)];
   const [plain, data] = await Promise.all([context.look(words), context.look([...words, "--json"])]);
-  if (plain.status === 130 || data.status === 130) return null;
-  if (!plain.out || !data.out) return [scheduleBar(context, "trace"), messageCard("No trace", faultOfAnswer(plain.out ? data : plain))];
+  if ([plain, data].some((it) => it.status === 130 || it.status === 124)) return null;
+  const failed = [plain, data].find((it) => !it.out || it.fault);
+  if (failed) return [scheduleBar(context, "trace"), messageCard("No trace", faultOfAnswer(failed))];
   const trace = /** @type {Trace} */ (JSON.parse(data.out));
   const lines = plain.out.replace(/\n$/, "").split("\n");
   const round = lines.indexOf("again and again:");
@@ -43,7 +44,7 @@ const COLUMNS = ["event", "choice", "who", "line", "what", "changed"];
  * @param {number} place
  */
 function rowOf(context, trace, event, line, place) {
-  const { choice, what, changed } = partsOf(trace, event, line);
+  const { choice, what, changed } = partsOf(trace, event, line, place);
   const number = event.line;
   const row = make("tr", { className: choice ? "chosen" : "" },
     textElement("td", "event", String(place + 1)),
@@ -69,16 +70,18 @@ function lineButton(context, line) {
 }
 
 /**
- * The columns of a line of the trace, as the explorer wrote it.
+ * The columns of a line of the trace, as the explorer wrote it. Where sentences below name events, each line begins with its number.
  * @param {Trace} trace
  * @param {Event} event
  * @param {string} line
+ * @param {number} place
  */
-function partsOf(trace, event, line) {
+function partsOf(trace, event, line, place) {
   const between = event.choice && event.choice.options.some((it) => it > 9) ? "," : "";
   const choice = event.choice ? `${event.choice.number} of ${event.choice.options.join(between)}` : "";
+  const process = processOf(trace.processes, event.process), number = line.trimStart().startsWith(choice || process) ? "" : String(place + 1);
   let rest = line.trimStart();
-  for (const part of [choice, processOf(trace.processes, event.process), event.line === undefined ? "" : `line ${event.line}`]) rest = part && rest.startsWith(part) ? rest.slice(part.length).trimStart() : rest;
+  for (const part of [number, choice, process, event.line === undefined ? "" : `line ${event.line}`]) rest = part && rest.startsWith(part) ? rest.slice(part.length).trimStart() : rest;
   const [what, ...changed] = rest.split(/\s{2,}/);
   return { choice, what, changed: changed.join(", ") };
 }

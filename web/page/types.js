@@ -22,7 +22,6 @@
 /** @typedef {{ choices: string, states: string, steps: string, gates: string, signals: string }} Options What the form has; nothing is as usual. */
 /** @typedef {{ word: number[], again: number[] | null, isEndless: boolean }} Schedule A schedule that is laid out; endless where it came of schedules of any length. */
 /** @typedef {{ status: number, out: string, err: string, fault: string, milliseconds: number }} Answer How the explorer answered. */
-/** @typedef {{ key: string, name: string, source: string, original: string, options: Options | null, says: string }} Program A program that is open: its key among the drafts, its name, its text and what it was. */
 /** @typedef {{ is: "text", text: string } | { is: "table", rows: string[][] } | { is: "programs", lines: string[] }} RulePart */
 /** @typedef {Record<string, { title: string, parts: RulePart[] }>} Rules */
 /** @typedef {"source" | "outcomes" | "picture" | "trace" | "play" | "expect" | "ends"} ViewName */
