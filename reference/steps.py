@@ -170,7 +170,7 @@ class Body(Expressions):
     def function_call(self, use):
         """Values, calls first: each result has a place of its own."""
         slot = FRAME_HEAD + self.parameters + len(self.locals)
-        self.locals.append(least(use.type))
+        self.locals.append(0)           # until the call is made, even where 0 is no value of its type
         self.calls.append(self.call(use, slot))
         return slot
 

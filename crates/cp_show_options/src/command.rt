@@ -131,18 +131,11 @@ const LAYER_STATES: OptionWords = OptionWords::Valued(
     "States that a layer may have, 1 to 10000000 [default: 200000]",
 );
 
-// The same of schedules of any length too, as an expectation may be of them.
-const LAYER_OR_ENDS_STATES: OptionWords = OptionWords::Valued(
-    "states",
-    "N",
-    "States that a layer may have, or that there may be in all with --ends, 1 to 10000000 [default: 200000, with --at-once 2000000]",
-);
-
-// The same of one schedule, which may be one of any length.
+// The same where schedules may be of any length. (`command` is proved just within what one check may compute: a longer text here makes another one shorter.)
 const LAYER_OR_ALL_STATES: OptionWords = OptionWords::Valued(
     "states",
     "N",
-    "States that a layer may have, or that there may be in all with --end and --wait [default: 200000, with --at-once 2000000]",
+    "States of a layer, or of any length in all, 1 to 10000000 [default: 200000, with --at-once 2000000]",
 );
 
 // What of a picture is drawn.
@@ -274,7 +267,7 @@ static PARTS: [PartWords; 7] = [
         name: "mark",
         about: "Says whether what is expected of all schedules holds: never TOPIC, some TOPIC, only TOPIC..",
         usage: "cpx_show mark [OPTIONS] [EXPECTATION..] < PROGRAM",
-        options: &[MARKING, LIMITS, &[LAYER_OR_ENDS_STATES]],
+        options: &[MARKING, LIMITS, &[LAYER_OR_ALL_STATES]],
         notes: EXPECTATIONS,
     },
 ];
