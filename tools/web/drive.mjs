@@ -104,12 +104,13 @@ async function showsSchedules(tab) {
   await tab.value("document.body.focus()", frame);
   const before = await tab.value("document.body.innerText", frame);
   for (const number of "001111") await tab.value(`dispatchEvent(new KeyboardEvent('keydown', { key: '${number}', bubbles: true })) || document.dispatchEvent(new KeyboardEvent('keydown', { key: '${number}', bubbles: true }))`, frame);
-  await sleep(100);
-  const after = await tab.value("document.body.innerText", frame);
-  check("played to the deadlock", before !== after && /waits in forks\[1\]\.hungry/.test(after));
+  const comesTo = async (/** @type {(text: string) => boolean} */ isSo) => {
+    for (let tries = 0; tries < 200; tries++) if (isSo(await tab.value("document.body.innerText", frame))) return true; else await sleep(50);
+    return false;
+  };
+  check("played to the deadlock", await comesTo((text) => text !== before && /waits in forks\[1\]\.hungry/.test(text)));
   for (let back = 0; back < 6; back++) await tab.value("document.dispatchEvent(new KeyboardEvent('keydown', { key: 'ArrowLeft', bubbles: true }))", frame);
-  await sleep(100);
-  check("and back", (await tab.value("document.body.innerText", frame)) === before);
+  check("and back", await comesTo((text) => text === before));
   check("the frame may run its script and nothing else", (await tab.value("document.querySelector('iframe').getAttribute('sandbox')")) === "allow-scripts" && (await tab.value("origin", frame)) === "null");
 }
 
