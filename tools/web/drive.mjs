@@ -53,6 +53,7 @@ const opened = async (browser, how = {}, address = page) => {
   await shown(tab, "document.querySelector('#panel > *:not(.first)')");
   return tab;
 };
+const drop = (tab, name, text) => tab.value(`(() => { const data = new DataTransfer(); data.items.add(new File([${JSON.stringify(text)}], ${JSON.stringify(name)})); for (const kind of ['dragover', 'drop']) document.querySelector('.CodeMirror').dispatchEvent(new DragEvent(kind, { dataTransfer: data, bubbles: true, cancelable: true })); })()`);
 const forget = (tab) => tab.value("localStorage.clear()");
 const frameOf = async (tab) => {
   for (let tries = 0; tries < 200; tries++) {
@@ -195,8 +196,16 @@ async function shares(browser, tab) {
   }
 }
 
+// Each stretch takes thousands of steps and begins with other values, so that this takes a minute on any machine.
+const LONG = `"Options: --choices 40 --steps 100000"
+type cell = monitor; var n: integer; procedure entry turn(k: integer; var y: integer); begin n := (n * 3 + k) mod 10007; y := n end; begin n := 1 end;
+turner = process(c: cell; k: integer); var i, x, y: integer; begin y := k; cycle x := y; for i := 1 to 900 do x := (x + i) mod 7; c.turn(k, y) end end;
+var c: cell; a, b, d, e: turner; begin init c, a(c, 1), b(c, 2), d(c, 3), e(c, 4) end.
+`;
+
 async function stops(tab) {
-  await choose(tab, "philosophers-five-butler");
+  await drop(tab, "long.cp", LONG);
+  await shown(tab, "document.getElementById('program-name').textContent === 'long.cp'");
   check("what runs by itself has a limit, and says that it was reached", (await textOf(tab, "#panel .message")).includes("takes longer than the 5 seconds"));
   await tab.click("#panel .message button");
   await tab.until("!document.getElementById('progress').hidden && /choices done/.test(document.getElementById('progress-text').textContent)");
@@ -296,7 +305,7 @@ async function opensFiles(tab) {
   await tab.call("DOM.setFileInputFiles", { nodeId, files: [join(work, "mine & yours.cp")] });
   await shown(tab, "document.getElementById('program-name').textContent.startsWith('mine')");
   check("a file is opened", (await source(tab)) === "begin display(7) end.\n");
-  await tab.value(`(() => { const data = new DataTransfer(); data.items.add(new File(['begin display(8) end.'], 'dropped.cp')); for (const kind of ['dragover', 'drop']) document.querySelector('.CodeMirror').dispatchEvent(new DragEvent(kind, { dataTransfer: data, bubbles: true, cancelable: true })); })()`);
+  await drop(tab, "dropped.cp", "begin display(8) end.");
   await shown(tab, "document.getElementById('program-name').textContent === 'dropped.cp'");
   check("a file is dropped", (await source(tab)) === "begin display(8) end.");
   await tab.call("Page.setDownloadBehavior", { behavior: "allow", downloadPath: work });
