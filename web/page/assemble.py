@@ -11,6 +11,7 @@ PAGE = Path(__file__).resolve().parent
 WEB = PAGE.parent
 ROOT = WEB.parent
 IMPORT = re.compile(r'^import (?:[^;]*? from )?"(\./|\.\./)([^"]+)";\n', re.M)
+COMMENT = re.compile(r"^[ \t]*//.*\n", re.M)
 DECLARED = re.compile(r"^(?:export )?(?:async )?(?:const|let|function|class) (\w+)", re.M)
 
 
@@ -50,8 +51,8 @@ def inert(value):
 
 
 def licensed(name):
-    """A file of the editor library behind its licence, which asks to go with each copy."""
-    return f"/*\n{editor_file('LICENSE')}*/\n{editor_file(name)}"
+    """A file of the editor library without the lines that are comments alone, behind its licence, which asks to go with each copy."""
+    return f"/*\n{editor_file('LICENSE')}*/\n{COMMENT.sub('', editor_file(name))}"
 
 
 def editor_file(name):
