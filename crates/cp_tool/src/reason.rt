@@ -4,7 +4,7 @@ use clap::Error;
 use std::alloc::{AllocError, Global};
 
 /// What `--version` prints after the program's name.
-pub const VERSION: &str = "1.0.0";
+pub const VERSION: &str = "1.1.0";
 
 /// How a program is given its source, for whoever names a file among the words.
 #[derive(Clone, Copy)]
